@@ -1,0 +1,13 @@
+use mathlib.Core.Path.{_∙_, sym}
+use borrow.Author.Needs.{needs}
+use Rattle.cells.specs.Laws.{abs-low, abs-high}
+use Rattle.cells.proofs.abs.Statement.{statement}
+use Rattle.cells.proofs.abs.Tie as tie
+
+pub abs-spec : {M : Type 1} → statement M
+abs-spec =
+    tie.close
+    (tie.spec
+    (λ c κs. search needs)
+    (λ c. sym (abs-low (c .before .args .a) (c .if1 .taken)))
+    (λ c. c .negate .ensures ∙ sym (abs-high (c .before .before .args .a) (c .before .if1 .left))))

@@ -1,0 +1,12 @@
+use borrow.Author.Needs.{needs}
+use Rattle.cells.specs.Laws.{signed-le}
+use Rattle.cells.proofs.order.up_to.Statement.{statement}
+use Rattle.cells.proofs.order.up_to.Tie as tie
+
+pub up-to-spec : {M : Type 1} → statement M
+up-to-spec =
+    tie.close
+    (tie.spec
+    (λ c κs. search needs)
+    (λ c κs. search needs)
+    (λ c. rw (c .rank2 .ensures, c .before .rank .ensures, signed-le (c .before .before .args .a) (c .before .before .args .b) (search needs) (search needs))))

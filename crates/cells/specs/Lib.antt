@@ -1,0 +1,6 @@
+pub mod Choice
+pub mod Tests
+pub mod Signed
+pub mod Arithmetic
+pub mod Comparison
+pub mod Laws
