@@ -102,10 +102,10 @@ pub fn rshift(a: u32, n: u32) -> u32
 pub fn ashift(a: u32, n: u32) -> u32
     ensures { λ r. ⌜ r ≡ ashiftOf a n ⌝ }
 {
-    if a < 0x8000_0000 {
-        rshift(a, n)
-    } else {
+    if 0x8000_0000 <= a {
         invert(rshift(invert(a), n))
+    } else {
+        rshift(a, n)
     }
 }
 

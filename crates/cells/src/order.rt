@@ -12,11 +12,7 @@ ghost use Rattle.cells.specs.Comparison.{atLeastOf, atMostOf, betweenOf,
 fn rank(a: u32) -> u32
     ensures { λ r. ⌜ r ≡ (a + 2 ^ 31) % 2 ^ 32 ⌝ }
 {
-    if a < 0x8000_0000 {
-        a + 0x8000_0000
-    } else {
-        a - 0x8000_0000
-    }
+    std::num::wrapping_add_u32(a, 0x8000_0000)
 }
 
 // The two orders of signed cells: every comparison below that is signed goes by one of them.

@@ -9,5 +9,5 @@ abs-spec =
     tie.close
     (tie.spec
     (λ c κs. search needs)
-    (λ c. sym (abs-low (c .before .args .a) (c .if1 .taken)))
-    (λ c. c .negate .ensures ∙ sym (abs-high (c .before .before .args .a) (c .before .if1 .left))))
+    (λ c. sym (abs-low (c .before .args .a) (search needs)))
+    (λ c. c .negate .ensures ∙ sym (abs-high (c .before .before .args .a) (search needs))))

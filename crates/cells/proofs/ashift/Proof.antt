@@ -11,5 +11,5 @@ ashift-spec =
     (λ c κs. search needs)
     (λ c κs. search needs)
     (λ c κs. search needs)
-    (λ c. simp (c .rshift .ensures, ashift-low _ (c .before .before .args .n) (c .before .if1 .taken)))
-    (λ c. simp (c .invert2 .ensures, c .before .rshift2 .ensures, c .before .before .invert .ensures, ashift-high _ (c .before .before .before .before .args .n) (c .before .before .before .if1 .left))))
+    (λ c. simp (c .invert2 .ensures, c .before .rshift .ensures, c .before .before .invert .ensures, ashift-high (c .before .before .before .before .args .a) (c .before .before .before .before .args .n) (search needs)))
+    (λ c. simp (c .rshift2 .ensures, ashift-low (c .before .before .args .a) (c .before .before .args .n) (search needs))))
