@@ -25,18 +25,18 @@ halves {ℓ} : (a : ℕ) (Q : ℤ → Type ℓ) → (a < 2 ^ 31 → Q (pos a)) �
 halves a Q u v = pick-is Q (ltb a (2 ^ 31)) (pos a) (negsuc (2 ^ 32 - 1 - a)) (λ t. u (omega (arith, tests))) (λ t. v (omega (arith, tests)))
 
 -- a cell with its highest bit turned: the order of signed cells is that of their ranks
-abbrev pub rank : ℕ → ℕ
-rank a = (a + 2 ^ 31) % 2 ^ 32
+abbrev pub rankOf : ℕ → ℕ
+rankOf a = (a + 2 ^ 31) % 2 ^ 32
 
-pub signed-lt : (a b : ℕ) → a < 2 ^ 32 → b < 2 ^ 32 → ltZ (signed a) (signed b) ≡ ltb (rank a) (rank b)
+pub signed-lt : (a b : ℕ) → a < 2 ^ 32 → b < 2 ^ 32 → ltZ (signed a) (signed b) ≡ ltb (rankOf a) (rankOf b)
 signed-lt a b f g =
-    halves a (λ x. ltZ x (signed b) ≡ ltb (rank a) (rank b))
-    (λ h. halves b (λ y. ltZ (pos a) y ≡ ltb (rank a) (rank b))
-    (λ k. same-ltb a b (rank a) (rank b) (λ p. omega arith) (λ p. omega arith))
-    (λ k. sym (le-ltb (rank a) (rank b) (omega arith))))
-    (λ h. halves b (λ y. ltZ (negsuc (2 ^ 32 - 1 - a)) y ≡ ltb (rank a) (rank b))
-    (λ k. sym (lt-ltb (rank a) (rank b) (omega arith)))
-    (λ k. same-ltb (2 ^ 32 - 1 - b) (2 ^ 32 - 1 - a) (rank a) (rank b) (λ p. omega arith) (λ p. omega arith)))
+    halves a (λ x. ltZ x (signed b) ≡ ltb (rankOf a) (rankOf b))
+    (λ h. halves b (λ y. ltZ (pos a) y ≡ ltb (rankOf a) (rankOf b))
+    (λ k. same-ltb a b (rankOf a) (rankOf b) (λ p. omega arith) (λ p. omega arith))
+    (λ k. sym (le-ltb (rankOf a) (rankOf b) (omega arith))))
+    (λ h. halves b (λ y. ltZ (negsuc (2 ^ 32 - 1 - a)) y ≡ ltb (rankOf a) (rankOf b))
+    (λ k. sym (lt-ltb (rankOf a) (rankOf b) (omega arith)))
+    (λ k. same-ltb (2 ^ 32 - 1 - b) (2 ^ 32 - 1 - a) (rankOf a) (rankOf b) (λ p. omega arith) (λ p. omega arith)))
 
 leZ-ltZ : (x y : ℤ) → leZ x y ≡ not (ltZ y x)
 leZ-ltZ (pos a) (pos b) = leb-ltb a b
@@ -44,8 +44,8 @@ leZ-ltZ (pos a) (negsuc b) = refl
 leZ-ltZ (negsuc a) (pos b) = refl
 leZ-ltZ (negsuc a) (negsuc b) = leb-ltb b a
 
-pub signed-le : (a b : ℕ) → a < 2 ^ 32 → b < 2 ^ 32 → leZ (signed a) (signed b) ≡ leb (rank a) (rank b)
-signed-le a b f g = leZ-ltZ (signed a) (signed b) ∙ ap not (signed-lt b a g f) ∙ sym (leb-ltb (rank a) (rank b))
+pub signed-le : (a b : ℕ) → a < 2 ^ 32 → b < 2 ^ 32 → leZ (signed a) (signed b) ≡ leb (rankOf a) (rankOf b)
+signed-le a b f g = leZ-ltZ (signed a) (signed b) ∙ ap not (signed-lt b a g f) ∙ sym (leb-ltb (rankOf a) (rankOf b))
 
 -- negate is 0 less the cell
 negated : (a : ℕ) → a < 2 ^ 31 → cell (negℤ (pos a)) ≡ (2 ^ 32 - a) % 2 ^ 32

@@ -1,16 +1,16 @@
 // The comparisons. Each gives a flag: all ones for true, 0 for false.
 ghost use mathlib.Core.Path.{_≡_};
-ghost use Prim.Native.Nat.{_+_, _%_, _^_};
 ghost use lib.Signed.{ltZ, leZ};
 ghost use Rattle.cells.specs.Signed.{signed, flag};
 ghost use Rattle.cells.specs.Comparison.{zeroEqualOf, zeroUnequalOf, zeroLessOf, zeroAtMostOf};
 ghost use Rattle.cells.specs.Comparison.{zeroGreaterOf, zeroAtLeastOf, lessOf, greaterOf, equalOf};
 ghost use Rattle.cells.specs.Comparison.{unequalOf, uGreaterOf, uAtMostOf, uLessOf, uAtLeastOf};
 ghost use Rattle.cells.specs.Comparison.{atLeastOf, atMostOf, betweenOf, withinOf};
+ghost use Rattle.cells.specs.Laws.{rankOf};
 
 // The cell with its highest bit turned: signed cells stand in the order of their ranks.
 fn rank(a: u32) -> u32
-    ensures { λ r. ⌜ r ≡ (a + 2 ^ 31) % 2 ^ 32 ⌝ }
+    ensures { λ r. ⌜ r ≡ rankOf a ⌝ }
 {
     std::num::wrapping_add_u32(a, 0x8000_0000)
 }
