@@ -4,3 +4,4 @@ pub mod Signed
 pub mod Arithmetic
 pub mod Comparison
 pub mod Laws
+pub mod Examples
