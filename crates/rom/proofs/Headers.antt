@@ -1,0 +1,48 @@
+-- The header's verdict, by what the code has found before each answer: a law for each. Assumes nothing.
+use Prim.Native.Nat.{ℕ, _≤_, _<_}
+use mathlib.Core.Path.{_≡_}
+use mathlib.Core.Bool.{true, false, not}
+use mathlib.Core.List.{List}
+use borrow.Author.Tests.{lt-ltb, le-ltb, eq-eqb, ne-eqb}
+use lib.Dec.{eqb}
+use lib.ListN.{length}
+use Rattle.rom.specs.Bytes.{byteOf}
+use Rattle.rom.specs.Sum.{sumOf}
+use Rattle.rom.specs.Header.{startOf, lengthOf, checksumOf, headerOf}
+
+module _ (rom : List ℕ) where
+  pub too-short : length rom < 8 → 1 ≡ headerOf rom
+  unfolding headerOf
+  too-short h = simp (lt-ltb _ _ h)
+
+  pub too-long : 8 ≤ length rom → 16384 < length rom → 1 ≡ headerOf rom
+  unfolding headerOf
+  too-long h k = simp (le-ltb _ _ h, lt-ltb _ _ k)
+
+  module _ (h : 8 ≤ length rom) (k : length rom ≤ 16384) where
+    pub no-start : startOf rom ≡ false → 2 ≡ headerOf rom
+    unfolding headerOf
+    no-start s = rw (le-ltb _ _ h, le-ltb _ _ k, s)
+
+    module _ (s : startOf rom ≡ true) where
+      pub no-format : (byteOf rom 1 ≡ 8 → ⊥) → 3 ≡ headerOf rom
+      unfolding headerOf
+      no-format f = rw (le-ltb _ _ h, le-ltb _ _ k, s, ne-eqb _ _ f)
+
+      module _ (f : byteOf rom 1 ≡ 8) where
+        pub length-low : lengthOf rom < 9 → 4 ≡ headerOf rom
+        unfolding headerOf
+        length-low l = rw (le-ltb _ _ h, le-ltb _ _ k, s, eq-eqb _ _ f, lt-ltb (lengthOf rom) 9 l)
+
+        pub length-high : 9 ≤ lengthOf rom → length rom < lengthOf rom → 4 ≡ headerOf rom
+        unfolding headerOf
+        length-high l m = rw (le-ltb _ _ h, le-ltb _ _ k, s, eq-eqb _ _ f, le-ltb (lengthOf rom) 9 l, lt-ltb _ _ m)
+
+        module _ (l : 9 ≤ lengthOf rom) (m : lengthOf rom ≤ length rom) where
+          pub wrong-sum : not (eqb (sumOf rom (lengthOf rom)) (checksumOf rom)) ≡ true → 5 ≡ headerOf rom
+          unfolding headerOf
+          wrong-sum d = rw (le-ltb _ _ h, le-ltb _ _ k, s, eq-eqb _ _ f, le-ltb (lengthOf rom) 9 l, le-ltb _ _ m, d)
+
+          pub right-sum : not (eqb (sumOf rom (lengthOf rom)) (checksumOf rom)) ≡ false → 0 ≡ headerOf rom
+          unfolding headerOf
+          right-sum d = rw (le-ltb _ _ h, le-ltb _ _ k, s, eq-eqb _ _ f, le-ltb (lengthOf rom) 9 l, le-ltb _ _ m, d)

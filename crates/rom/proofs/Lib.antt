@@ -1,0 +1,3 @@
+pub mod Totals
+pub mod Landings
+pub mod Headers

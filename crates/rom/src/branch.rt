@@ -1,0 +1,67 @@
+ghost use mathlib.Core.Path.{_≡_};
+ghost use Prim.Native.Nat.{_*_, _<_};
+ghost use lib.IntN.{pos};
+ghost use Rattle.rom.specs.Branch.{offsetOf, aimOf, landing, shifted};
+use crate::bytes::byte;
+use crate::bytes::word16;
+use crate::sizes::ROM_LEAST;
+
+// Where a branch leads: a place inside 8..length-1, or outside, which is refusal 19 where the branch is taken.
+pub enum Aim {
+    Inside(u32),
+    Outside,
+}
+
+// The bits of the offset at a place, as they stand.
+pub fn offset(rom: &[u8], wide: bool, at: u32) -> u32
+    ensures { λ r. ⌜ r ≡ offsetOf (now (rom .entry)) wide at ⌝ }
+{
+    if wide {
+        word16(rom, at) as u32
+    } else {
+        let k = at as usize;
+        byte(rom, k) as u32
+    }
+}
+
+fn inside(length: u32, to: usize) -> Aim
+    ensures { λ r. ⌜ r ≡ landing length (pos to) ⌝ }
+{
+    if to < ROM_LEAST {
+        return Aim::Outside;
+    }
+    if to < (length as usize) {
+        Aim::Inside(to as u32)
+    } else {
+        Aim::Outside
+    }
+}
+
+// Where an offset leads that stands at a place and has `range` values, the upper half of them negative. What lies below 0 is outside.
+fn led(length: u32, at: u32, bits: u32, range: u32) -> Aim
+    requires { ⌜ (bits < range) × (range < 65537) ⌝ }
+    ensures { λ r. ⌜ r ≡ landing length (shifted at range bits) ⌝ }
+{
+    let far = (at as usize) + (bits as usize);
+    let back = range as usize;
+    if bits < range / 2 {
+        return inside(length, far);
+    }
+    if far < back {
+        Aim::Outside
+    } else {
+        inside(length, far - back)
+    }
+}
+
+// Where the offset at a place leads.
+pub fn aim_at(rom: &[u8], length: u32, wide: bool, at: u32) -> Aim
+    ensures { λ r. ⌜ r ≡ aimOf (now (rom .entry)) length wide at ⌝ }
+{
+    if wide {
+        led(length, at, word16(rom, at) as u32, 65536)
+    } else {
+        let k = at as usize;
+        led(length, at, byte(rom, k) as u32, 256)
+    }
+}

@@ -1,0 +1,17 @@
+// A ROM's bytes, its header and its branches. Whatever is read of a ROM is read by `byte`; places are counted in 32 bits, so that a
+// place a few bytes on never wraps.
+mod branch;
+mod bytes;
+mod header;
+pub mod sizes;
+
+pub use branch::Aim;
+pub use branch::aim_at;
+pub use branch::offset;
+pub use bytes::byte;
+pub use bytes::word16;
+pub use bytes::word32;
+pub use header::body_sum;
+pub use header::check_header;
+pub use header::program_length;
+pub use header::wide_start;

@@ -1,0 +1,58 @@
+// The house sizes of document 01. Every limit in the code is one of these; specs/Sizes.antt has the same names for the definitions, and
+// `house` shows that the two agree.
+ghost use mathlib.Core.Path.{_≡_};
+ghost use Rattle.rom.specs.Sizes.{house as Sizes·house};
+
+pub const ROM_LEAST: usize = 8;
+
+pub const ROM_MOST: usize = 16384;
+
+pub const DATA_MOST: usize = 64;
+
+pub const RETURN_MOST: usize = 32;
+
+pub const FRAMES_MOST: usize = 16;
+
+pub const NUMBERS_MOST: usize = 256;
+
+pub const NODES_MOST: usize = 32;
+
+pub const PROPERTIES_MOST: usize = 128;
+
+pub const WORK_SIZE: usize = 16384;
+
+pub const STORE_SIZE: usize = 16384;
+
+pub const MARKS_SIZE: usize = 16384;
+
+pub struct House {
+    pub rom_least: usize,
+    pub rom_most: usize,
+    pub data_most: usize,
+    pub return_most: usize,
+    pub frames_most: usize,
+    pub numbers_most: usize,
+    pub nodes_most: usize,
+    pub properties_most: usize,
+    pub work_size: usize,
+    pub store_size: usize,
+    pub marks_size: usize,
+}
+
+pub fn house_sizes() -> House
+    ensures { λ r. ⌜ r ≡ Sizes·house ⌝ }
+{
+    House {
+        rom_least: ROM_LEAST,
+        rom_most: ROM_MOST,
+        data_most: DATA_MOST,
+        return_most: RETURN_MOST,
+        frames_most: FRAMES_MOST,
+        numbers_most: NUMBERS_MOST,
+        nodes_most: NODES_MOST,
+        properties_most: PROPERTIES_MOST,
+        work_size: WORK_SIZE,
+        store_size: STORE_SIZE,
+        marks_size: MARKS_SIZE,
+    }
+}
