@@ -1,0 +1,90 @@
+-- What is no token has the code 0. Assumes nothing.
+use Prim.Native.Nat.{ℕ, _≤_, _<_}
+use mathlib.Core.Path.{_≡_, refl, sym, _∙_, ap}
+use mathlib.Core.List.{List, _++_}
+use native.Mathlib.Omega.{arith}
+use native.Mathlib.Decide.{decLe}
+use borrow.Author.Tests.{le-leb, lt-leb}
+use lib.Dec.{T}
+use Rattle.cells.specs.Choice.{find}
+use Rattle.cells.specs.Tests.{Rest, find-none}
+use Rattle.tokens.specs.Row.{Row}
+use Rattle.tokens.specs.Table.{ends, lows, highs, doubles, table, rowOf, notListed}
+use Rattle.tokens.specs.Code.{codeOf, packed}
+use Rattle.tokens.proofs.Lookup.{clear, find-clear, find-append}
+
+-- below 800 a number is looked up in the list's four parts
+parts : (n : ℕ) → n < 0x800 → rowOf n ≡ find ends (find lows (find highs (find doubles notListed n) n) n) n
+unfolding rowOf table
+parts n h =
+    rw (lt-leb _ _ h, find-append ends (lows ++ (highs ++ doubles)) notListed n, find-append lows (highs ++ doubles) notListed n, find-append highs doubles notListed n)
+
+nothing : (n : ℕ) → rowOf n ≡ notListed → 0 ≡ codeOf n
+unfolding codeOf
+nothing n e = rw e
+
+-- what the code's matches leave over
+pub no-low : (n : ℕ) → 0x10 ≤ n → n ≤ 0x59 → Rest (Unit {0}) lows n → 0 ≡ codeOf n
+unfolding ends lows highs doubles
+no-low n l h r =
+    nothing n
+    (parts n (omega arith)
+    ∙ find-clear 0x10 0x59 ends _ n tt l h
+    ∙ find-none (Unit {0}) lows _ n r
+    ∙ find-clear 0x10 0x59 highs _ n tt l h
+    ∙ find-clear 0x10 0x59 doubles _ n tt l h)
+
+pub no-high : (n : ℕ) → 0x6D ≤ n → n ≤ 0xCC → Rest (Unit {0}) highs n → 0 ≡ codeOf n
+unfolding ends lows highs doubles
+no-high n l h r =
+    nothing n
+    (parts n (omega arith)
+    ∙ find-clear 0x6D 0xCC ends _ n tt l h
+    ∙ find-clear 0x6D 0xCC lows _ n tt l h
+    ∙ find-none (Unit {0}) highs _ n r
+    ∙ find-clear 0x6D 0xCC doubles _ n tt l h)
+
+pub no-double : (n : ℕ) → 0x110 ≤ n → n ≤ 0x201 → Rest (Unit {0}) doubles n → 0 ≡ codeOf n
+unfolding ends lows highs doubles
+no-double n l h r =
+    nothing n
+    (parts n (omega arith)
+    ∙ find-clear 0x110 0x201 ends _ n tt l h
+    ∙ find-clear 0x110 0x201 lows _ n tt l h
+    ∙ find-clear 0x110 0x201 highs _ n tt l h
+    ∙ find-none (Unit {0}) doubles _ n r)
+
+-- a gap of the list
+pub gap : (low high n : ℕ) → T (clear low high table) → high < 0x800 → low ≤ n → n ≤ high → 0 ≡ codeOf n
+unfolding rowOf
+gap low high n c b l h =
+    let m : n < 0x800 = omega arith in
+    nothing n (rw (lt-leb _ _ m) (find-clear low high table notListed n c l h))
+
+-- above the program numbers
+pub beyond : (n : ℕ) → 0xFFF < n → n < 0x1_0000_0000 → 0 ≡ codeOf n
+unfolding rowOf table ends lows highs doubles
+beyond n l h =
+    let m : 0x800 ≤ n = omega arith in
+    nothing n (rw (le-leb _ _ m, lt-leb _ _ l) (find-clear 0x1000 0xFFFF_FFFF table notListed n tt l (omega arith)))
+
+pub a-program : (n : ℕ) → 0x800 ≤ n → n ≤ 0xFFF → 0x11_00_00_00 ≡ codeOf n
+unfolding codeOf rowOf
+a-program n l h = rw (le-leb _ _ l, le-leb _ _ h)
+
+-- the gaps that the code falls into behind its ranges
+pub before-lows : (n : ℕ) → (n ≡ 0 → ⊥) → n < 0x10 → 0 ≡ codeOf n
+unfolding table ends lows highs doubles
+before-lows n z h = gap 1 0xF n tt (omega arith) (omega (arith, z)) (omega arith)
+
+pub before-highs : (n : ℕ) → 0x59 < n → n < 0x6D → 0 ≡ codeOf n
+unfolding table ends lows highs doubles
+before-highs n l h = gap 0x5A 0x6C n tt (omega arith) l (omega arith)
+
+pub before-doubles : (n : ℕ) → (n ≡ 0xFF → ⊥) → 0xCC < n → n < 0x110 → 0 ≡ codeOf n
+unfolding table ends lows highs doubles
+before-doubles n z l h = elim (decLe n 0xFE) [ yes y ↦ gap 0xCD 0xFE n tt (omega arith) l y | no y ↦ gap 0x100 0x10F n tt (omega arith) (omega (arith, z)) (omega arith) ]
+
+pub before-programs : (n : ℕ) → 0x201 < n → n < 0x800 → 0 ≡ codeOf n
+unfolding table ends lows highs doubles
+before-programs n l h = gap 0x202 0x7FF n tt (omega arith) l (omega arith)

@@ -1,0 +1,4 @@
+pub mod Ranges
+pub mod Lookup
+pub mod Codes
+pub mod Wholes

@@ -1,0 +1,28 @@
+use borrow.Author.Needs.{needs}
+use Rattle.tokens.specs.Table.{ends, lows, highs, doubles, table, rowOf}
+use Rattle.tokens.specs.Code.{codeOf}
+use Rattle.tokens.proofs.Codes.{a-program, before-lows, before-highs, before-doubles, before-programs, beyond}
+use Rattle.tokens.proofs.code.code_of.Statement.{statement}
+use Rattle.tokens.proofs.code.code_of.Tie as tie
+
+pub code-of-spec : {M : Type 1} → statement M
+unfolding codeOf rowOf table ends lows highs doubles
+code-of-spec =
+    tie.close
+    (tie.spec
+    (λ c κs. search needs)
+    (λ c κs. search needs)
+    (λ c κs. search needs)
+    (λ c. rw (c .match .keys1))
+    (λ c. rw (c .match .keys2))
+    (λ c. c .low .ensures)
+    (λ c. c .high .ensures)
+    (λ c. c .double .ensures)
+    (λ c. a-program (c .before .before .before .before .before .before .before .before .before .args .number) (search needs) (search needs))
+    (λ c. before-lows (c .before .before .args .number) (c .before .match .rest .0 .1) (search needs))
+    (λ c. before-highs (c .before .before .before .before .args .number) (search needs) (search needs))
+    (λ c.
+    let k = c .before .before .before .before .before in
+    before-doubles (k .before .args .number) (k .match .rest .1) (search needs) (search needs))
+    (λ c. before-programs (c .before .before .before .before .before .before .before .before .args .number) (search needs) (search needs))
+    (λ c. beyond (c .before .before .before .before .before .before .before .before .before .args .number) (search needs) (search needs)))

@@ -1,0 +1,25 @@
+use borrow.Author.Tests.{eq-eqb, ne-eqb}
+use borrow.Author.Needs.{needs}
+use Rattle.tokens.proofs.decoding.listed.Statement.{statement}
+use Rattle.tokens.proofs.decoding.listed.Tie as tie
+
+pub listed-spec : {M : Type 1} → statement M
+listed-spec =
+    tie.close
+    (tie.spec
+    (λ c. simp (eq-eqb _ _ (c .if1 .taken)))
+    (λ c. search needs)
+    (λ c. search needs)
+    (λ c. search needs)
+    (λ c. search needs)
+    (λ c. search needs)
+    (λ c. search needs)
+    (λ c κs. search needs)
+    (λ c κs. search needs)
+    (λ c. rw (ne-eqb _ _ (c .before .before .if1 .left), c .enum-told .given .1))
+    (λ c. rw (ne-eqb _ _ (c .before .before .if1 .left), c .enum-told2 .given .1))
+    (λ c. rw (ne-eqb _ _ (c .before .before .if1 .left), c .enum-told3 .given .1))
+    (λ c. rw (ne-eqb _ _ (c .before .before .if1 .left), c .enum-told4 .given .1))
+    (λ c. rw (ne-eqb _ _ (c .before .before .if1 .left), c .enum-told5 .given .1))
+    (λ c. rw (ne-eqb _ _ (c .before .before .before .before .before .before .if1 .left), c .before .before .before .before .operand .given .1, ← c .before .before .is-program .ensures, c .before .if2 .taken) (c .is-kind .ensures))
+    (λ c. rw (ne-eqb _ _ (c .before .before .before .before .before .if1 .left), c .before .before .before .operand .given .1, ← c .before .is-program .ensures, c .if2 .left)))

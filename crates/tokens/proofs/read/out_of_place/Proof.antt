@@ -1,0 +1,17 @@
+use mathlib.Core.Path.{sym}
+use mathlib.Core.Bool.{false}
+use borrow.Author.Needs.{needs}
+use Rattle.cells.specs.Tests.{find-none}
+use Rattle.tokens.specs.Place.{places, misplacedOf}
+use Rattle.tokens.proofs.read.out_of_place.Statement.{statement}
+use Rattle.tokens.proofs.read.out_of_place.Tie as tie
+
+pub out-of-place-spec : {M : Type 1} → statement M
+unfolding misplacedOf
+out-of-place-spec =
+    tie.close
+    (tie.spec
+    (λ c. rw (c .match .keys1))
+    (λ c. rw (c .match .keys2))
+    (λ c. rw (c .match .keys3))
+    (λ c. sym (find-none (Unit {0}) (places (c .before .args .within)) false _ (c .match .rest))))

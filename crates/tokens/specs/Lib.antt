@@ -1,0 +1,10 @@
+pub mod Family
+pub mod Row
+pub mod Table
+pub mod Code
+pub mod Decode
+pub mod Place
+pub mod Body
+pub mod Laws
+pub mod Rules
+pub mod Examples

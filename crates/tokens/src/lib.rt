@@ -1,0 +1,26 @@
+// The token list of document 01, the token at a place, and reading a body to its end. Every call is total: any bytes, any place, any
+// length. Places are counted in 32 bits.
+mod body;
+mod code;
+mod decoding;
+pub mod family;
+mod read;
+
+pub use body::Body;
+pub use body::kind_of;
+pub use body::read_body;
+pub use body::unknown;
+pub use code::code_of;
+pub use code::family_of;
+pub use code::gives_of;
+pub use code::return_gives_of;
+pub use code::return_takes_of;
+pub use code::takes_of;
+pub use decoding::Decoded;
+pub use decoding::Operand;
+pub use decoding::Token;
+pub use decoding::decode;
+pub use decoding::is_program;
+pub use read::Read;
+pub use read::out_of_place;
+pub use read::read_at;
