@@ -1,0 +1,207 @@
+// Runs the header test and the token reader over ROMs in hex on standard input, a line each. Behind H a ROM's header is tested; behind T
+// the token at each place of its program is shown too, in both offset widths, and the body that would be read from there.
+use libc::STDIN_FILENO;
+use libc::STDOUT_FILENO;
+use rom::Aim;
+use tokens::Body;
+use tokens::Decoded;
+use tokens::Operand;
+use tokens::Token;
+ghost use Prim.Native.Nat.{_+_, _<_, _≤_, _^_};
+ghost use lib.ListN.{length};
+ghost use Rattle.io.specs.Counts.{Counts};
+
+fn say(text: &[u8]) {
+    io::write_all(STDOUT_FILENO, text);
+}
+
+fn hex(n: u32) {
+    say(b" ");
+    io::print_hex(STDOUT_FILENO, n as u64, 1);
+}
+
+fn yes_or_no(said: bool) {
+    if said {
+        say(b" yes");
+    } else {
+        say(b" no");
+    }
+}
+
+fn show_aim(aim: Aim) {
+    match aim {
+        Aim::Inside(to) => hex(to),
+        Aim::Outside => say(b" outside"),
+    }
+}
+
+fn show_operand(operand: Operand) {
+    match operand {
+        Operand::Nothing => say(b" nothing"),
+        Operand::Literal(n) => {
+            say(b" literal");
+            hex(n);
+        }
+        Operand::Text { start, count } => {
+            say(b" text");
+            hex(start);
+            hex(count);
+        }
+        Operand::Branch { bits, aim } => {
+            say(b" branch");
+            hex(bits);
+            show_aim(aim);
+        }
+        Operand::Number(n) => {
+            say(b" number");
+            hex(n);
+        }
+        Operand::Definition { number, kind } => {
+            say(b" definition");
+            hex(number);
+            hex(kind);
+        }
+    }
+}
+
+// What the list says of a token, and what stands behind it.
+fn show_token(token: Token) {
+    let code = token.code;
+    let operand = token.operand;
+    hex(token.number);
+    hex(token.next);
+    hex(tokens::takes_of(code));
+    hex(tokens::gives_of(code));
+    hex(tokens::return_takes_of(code));
+    hex(tokens::return_gives_of(code));
+    yes_or_no(tokens::out_of_place(code, true));
+    yes_or_no(tokens::out_of_place(code, false));
+    show_operand(operand);
+}
+
+fn show_decoded(found: Decoded) {
+    match found {
+        Decoded::Cut => say(b" cut"),
+        Decoded::Unlisted(_) => say(b" unlisted"),
+        Decoded::Whole(token) => show_token(token),
+    }
+}
+
+fn show_body(body: Body) {
+    match body {
+        Body::Ends(at) => {
+            say(b" ends");
+            hex(at);
+        }
+        Body::Stops { at, why } => {
+            say(b" stops");
+            hex(at);
+            hex(why);
+        }
+    }
+}
+
+// The numbers 800 to 803 are a colon definition, a value, a variable and a constant.
+fn some_kinds() -> [u8; 2048] {
+    let mut kinds = [0u8; 2048];
+    kinds[0] = 0xB7;
+    kinds[1] = 0xB8;
+    kinds[2] = 0xB9;
+    kinds[3] = 0xBA;
+    kinds
+}
+
+fn show_place(rom: &[u8], length: u32, wide: bool, kinds: &[u8; 2048], at: u32) {
+    hex(at);
+    yes_or_no(wide);
+    show_decoded(tokens::decode(rom, length, wide, at));
+    show_body(tokens::read_body(rom, length, wide, kinds, at));
+    say(b"\n");
+}
+
+fn show_places(rom: &[u8]) {
+    let length = rom::program_length(rom);
+    let kinds = some_kinds();
+    let mut at: u32 = 8;
+    while at < length {
+        show_place(rom, length, false, &kinds, at);
+        show_place(rom, length, true, &kinds, at);
+        at += 1;
+    }
+}
+
+fn show_rom(rom: &[u8], whole: bool) {
+    let verdict = rom::check_header(rom);
+    say(b"header");
+    hex(verdict);
+    say(b"\n");
+    if whole {
+        if verdict == 0 {
+            show_places(rom);
+        }
+    }
+}
+
+// A hexadecimal digit's value, and 16 for any other character.
+fn value(c: u8) -> u8
+    ensures { λ r. ⌜ r ≤ 16 ⌝ }
+{
+    match c {
+        0x30..=0x39 => c - 0x30,
+        0x41..=0x46 => c - 0x41 + 10,
+        _ => 16,
+    }
+}
+
+// Puts the bytes that stand in hex from a place on at the start of a ROM, up to the first that is none, and tells how many there are.
+fn bytes_from(text: &[u8], from: usize, rom: &mut [u8]) -> usize
+    requires { ⌜ (from < 2 ^ 32) × (length (now rom) < 2 ^ 32) ⌝ }
+    ensures { λ r. ⌜ Counts r (now (rom .exit)) ⌝ }
+{
+    let mut n = 0;
+    while n < rom.len() {
+        let at = from + n + n;
+        if text.len() <= at + 1 {
+            return n;
+        }
+        let high = value(text[at]);
+        let low = value(text[at + 1]);
+        if 16 <= high {
+            return n;
+        }
+        if 16 <= low {
+            return n;
+        }
+        rom[n] = high * 16 + low;
+        n += 1;
+    }
+    n
+}
+
+// One line: a letter, a space, a ROM. Gives the place behind it.
+fn run_line(text: &[u8], from: usize) -> usize
+    requires { ⌜ from < 2 ^ 31 ⌝ }
+    ensures { λ r. ⌜ (from < r) × (r ≤ from + 2 ^ 20) ⌝ }
+{
+    let mut space = [0u8; 20000];
+    let n = bytes_from(text, from + 2, &mut space);
+    let whole = rom::byte(text, from) == b'T';
+    show_rom(&space[..n], whole);
+    from + 3 + n + n
+}
+
+fn run_lines(text: &[u8]) {
+    let mut at = 0;
+    while at < text.len() {
+        if 1_000_000_000 < at {
+            return;
+        }
+        at = run_line(text, at);
+    }
+}
+
+fn main() {
+    let mut text = [0u8; 400000];
+    let n = io::read_full(STDIN_FILENO, &mut text);
+    run_lines(&text[..n]);
+}
