@@ -41,6 +41,7 @@ KINDS = range(0xB7, 0xBB)
 PROGRAM = range(0x800, 0x1000)
 NOT_INSIDE = DEFINING + (0x00, 0xFF, 0xCC, 0x11F, 0x127)
 NOT_OUTSIDE = (0x33, 0xC2)
+FILLED = {"F": 16384, "G": 16385}
 DEFINED = {0x800: 0xB7, 0x801: 0xB8, 0x802: 0xB9, 0x803: 0xBA}
 
 
@@ -159,6 +160,7 @@ def lines(text):
     for line in text.splitlines():
         letter, digits = line.split(" ")
         rom = bytes.fromhex(digits)
+        rom += rom[-1:] * (FILLED.get(letter, 0) - len(rom))
         verdict = header(rom)
         yield f"header {verdict:x}"
         if letter == "T" and verdict == 0:

@@ -1,8 +1,10 @@
-// Runs the header test and the token reader over ROMs in hex on standard input, a line each. Behind H a ROM's header is tested; behind T
-// the token at each place of its program is shown too, in both offset widths, and the body that would be read from there.
+// Runs the header test and the token reader over ROMs in hex on standard input, a line each. Behind H a ROM's header is tested; F and G
+// first fill the ROM up with its last byte, to 16,384 bytes and to one more; behind T the token at each place of its program is shown too,
+// in both offset widths, and the body that would be read from there.
 use libc::STDIN_FILENO;
 use libc::STDOUT_FILENO;
 use rom::Aim;
+use rom::sizes::ROM_MOST;
 use tokens::Body;
 use tokens::Decoded;
 use tokens::Operand;
@@ -178,15 +180,46 @@ fn bytes_from(text: &[u8], from: usize, rom: &mut [u8]) -> usize
     n
 }
 
+// How long a ROM is made, by the letter of its line.
+fn size_by(letter: u8, n: usize) -> usize {
+    match letter {
+        b'F' => ROM_MOST,
+        b'G' => ROM_MOST + 1,
+        _ => n,
+    }
+}
+
+fn last_of(rom: &[u8], n: usize) -> u8 {
+    if n == 0 { 0 } else { rom::byte(rom, n - 1) }
+}
+
+// Repeats a byte behind the first n, up to a size, and tells how many bytes there are then.
+fn fill(rom: &mut [u8], n: usize, last: u8, size: usize) -> usize
+    requires { ⌜ n ≤ length (now rom) ⌝ }
+    ensures { λ r. ⌜ Counts r (now (rom .exit)) ⌝ }
+{
+    let mut k = n;
+    while k < size {
+        if rom.len() <= k {
+            return k;
+        }
+        rom[k] = last;
+        k += 1;
+    }
+    k
+}
+
 // One line: a letter, a space, a ROM. Gives the place behind it.
 fn run_line(text: &[u8], from: usize) -> usize
     requires { ⌜ from < 2 ^ 31 ⌝ }
     ensures { λ r. ⌜ (from < r) × (r ≤ from + 2 ^ 20) ⌝ }
 {
-    let mut space = [0u8; 20000];
+    let mut space = [0u8; 16400];
+    let letter = rom::byte(text, from);
     let n = bytes_from(text, from + 2, &mut space);
-    let whole = rom::byte(text, from) == b'T';
-    show_rom(&space[..n], whole);
+    let last = last_of(&space, n);
+    let size = fill(&mut space, n, last, size_by(letter, n));
+    show_rom(&space[..size], letter == b'T');
     from + 3 + n + n
 }
 
@@ -201,7 +234,7 @@ fn run_lines(text: &[u8]) {
 }
 
 fn main() {
-    let mut text = [0u8; 400000];
+    let mut text = [0u8; 65536];
     let n = io::read_full(STDIN_FILENO, &mut text);
     run_lines(&text[..n]);
 }
