@@ -11,7 +11,8 @@ import sys
 
 BENCH = pathlib.Path(__file__).parent.parent / "crates" / "bench"
 
-# What each token does to the data stack, as the glossary's stack diagrams have it: cells before, cells after.
+# What each token does to the data stack, as the glossary's stack diagrams have it: cells before, cells after. Of pick, roll and ?dup it is
+# the sure part: the count or the flag, and the one cell that pick and ?dup always leave.
 DATA = {}
 for diagram, numbers in {
     "2-1": "1E 1F 20 23 24 25 27 28 29 2E 2F 3A 3B 3C 3D 3E 3F 40 41 42 43 4D",
@@ -203,6 +204,8 @@ def any_bytes(seed, count):
 def roms():
     for start in (0xFD, 0xF1):
         yield with_header(start, every_token())
+    for program in ("13FF00", "A4A629"):
+        yield with_header(0xFD, bytes.fromhex(program))
     for seed, count in ((1275, 120), (1994, 90), (7, 60)):
         yield with_header(0xFD, any_bytes(seed, count))
 

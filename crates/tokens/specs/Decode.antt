@@ -80,7 +80,7 @@ formed (Definition n k) = isProgram n && isKind k
 abbrev pub listed : ℕ → Operand → Bool
 listed code o = not (eqb code 0) && formed o
 
--- the token of a number, with its operand from q and the next token at `next`
+-- a token: its number, its row's code, its operand, and the place behind it
 abbrev pub tokenOf : ℕ → ℕ → Operand → ℕ → Token
 tokenOf n code o next = record { number = n; code = code; operand = o; next = next }
 

@@ -10,7 +10,7 @@ use lib.ListN.{length}
 use lib.Text.{eqt}
 use Rattle.cells.specs.Choice.{pick, find}
 use Rattle.cells.specs.Tests.{pick-is}
-use Rattle.tokens.specs.Family.{plain, divide}
+use Rattle.tokens.specs.Family.{unlisted, plain, divide}
 use Rattle.tokens.specs.Row.{Row}
 use Rattle.tokens.specs.Table.{ends, lows, highs, doubles, table, program, notListed, isProgram, rowOf}
 use Rattle.tokens.specs.Code.{packed, codeOf, familyIn, outOfPlaceIn, formIn, returnTakesIn, returnGivesIn, takesIn, givesIn}
@@ -44,8 +44,8 @@ results-given : T (everyRow (λ n r _. not (eqb (r .family) plain || eqb (r .fam
 unfolding table ends lows highs doubles
 results-given = tt
 
--- every row's family is some work
-all-listed : T (everyRow (λ n r _. not (eqb (packed r) 0)) table)
+-- every row's family is some work, so that no row's code is 0
+all-listed : T (everyRow (λ n r _. not (eqb (r .family) unlisted)) table)
 unfolding table ends lows highs doubles
 all-listed = tt
 
