@@ -1,16 +1,15 @@
 -- What is no token has the code 0. Assumes nothing.
 use Prim.Native.Nat.{ℕ, _≤_, _<_}
-use mathlib.Core.Path.{_≡_, refl, sym, _∙_, ap}
-use mathlib.Core.List.{List, _++_}
+use mathlib.Core.Path.{_≡_, _∙_}
+use mathlib.Core.List.{_++_}
 use native.Mathlib.Omega.{arith}
 use native.Mathlib.Decide.{decLe}
 use borrow.Author.Tests.{le-leb, lt-leb}
 use lib.Dec.{T}
 use Rattle.cells.specs.Choice.{find}
 use Rattle.cells.specs.Tests.{Rest, find-none}
-use Rattle.tokens.specs.Row.{Row}
 use Rattle.tokens.specs.Table.{ends, lows, highs, doubles, table, rowOf, notListed}
-use Rattle.tokens.specs.Code.{codeOf, packed}
+use Rattle.tokens.specs.Code.{codeOf}
 use Rattle.tokens.proofs.Lookup.{clear, find-clear, find-append}
 
 -- below 800 a number is looked up in the list's four parts

@@ -2,10 +2,10 @@
 -- 18, 11 or 12 (heights and branches wait for the run)". Refusal 12: "program number undefined, or not a value after b(to)", by the numbers
 -- defined so far. Assumes nothing.
 use Prim.Native.Nat.{ℕ, zero, suc, _-_}
-use mathlib.Core.Bool.{Bool, true, false, not, _&&_, _||_}
+use mathlib.Core.Bool.{Bool, true, false, not}
 use mathlib.Core.List.{List}
 use lib.ListN.{getD}
-use lib.Dec.{leb, eqb}
+use lib.Dec.{eqb}
 use Rattle.cells.specs.Choice.{pick}
 use Rattle.tokens.specs.Family.{call, assign}
 use Rattle.tokens.specs.Table.{isProgram}

@@ -1,7 +1,7 @@
 -- The token that stands at a place: whole, with its operand and the place behind it; or cut off by the program length (refusal 10); or
 -- none of the list's (refusal 11). Assumes nothing.
 use Prim.Native.Nat.{ℕ, _+_}
-use mathlib.Core.Bool.{Bool, true, false, not, _&&_, _||_}
+use mathlib.Core.Bool.{Bool, true, not, _&&_}
 use mathlib.Core.List.{List, [], _∷_}
 use lib.Dec.{ltb, leb, eqb}
 use Rattle.cells.specs.Choice.{pick, find}

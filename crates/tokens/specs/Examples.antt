@@ -2,8 +2,8 @@
 -- Assumes nothing.
 use Prim.Native.Nat.{ℕ}
 use mathlib.Core.Path.{_≡_, refl}
-use mathlib.Core.Bool.{Bool, true, false}
-use mathlib.Core.List.{List, [], _∷_, _++_}
+use mathlib.Core.Bool.{true, false}
+use mathlib.Core.List.{List, [], _∷_}
 use Rattle.rom.specs.Branch.{aimOf}
 use Rattle.rom.specs.declared.branch.Aim.the-variants.{Inside, Outside}
 use Rattle.tokens.specs.Table.{ends, lows, highs, doubles, table, rowOf}
@@ -11,11 +11,11 @@ use Rattle.tokens.specs.Code.{codeOf}
 use Rattle.tokens.specs.Decode.{tokenOf, behindOf, operandOf, wholeOf, decodeOf}
 use Rattle.tokens.specs.Place.{misplacedOf, readOf}
 use Rattle.tokens.specs.Body.{unknownOf, bodyFrom, bodyOf}
-use Rattle.tokens.specs.declared.decoding.Operand.the-variants.{Nothing, Literal, Text, Branch, Number, Definition}
+use Rattle.tokens.specs.declared.decoding.Operand.the-variants.{Nothing, Literal, Text, Branch, Definition}
 use Rattle.tokens.specs.declared.decoding.Decoded.{Decoded}
 use Rattle.tokens.specs.declared.decoding.Decoded.the-variants.{Cut, Unlisted, Whole}
 use Rattle.tokens.specs.declared.read.Read.{Read}
-use Rattle.tokens.specs.declared.read.Read.the-variants.{Refused, Good}
+use Rattle.tokens.specs.declared.read.Read.the-variants.{Refused}
 use Rattle.tokens.specs.declared.body.Body.{Body}
 use Rattle.tokens.specs.declared.body.Body.the-variants.{Ends, Stops}
 

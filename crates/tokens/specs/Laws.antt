@@ -1,17 +1,16 @@
 -- Laws that whoever reads tokens goes by: a whole token has a next place, past its own and not past the length; and reading a body goes
 -- from token to token. Assumes nothing.
 use Prim.Native.Nat.{ℕ, zero, suc, _+_, _-_, _≤_, _<_}
-use mathlib.Core.Path.{_≡_, refl, sym, _∙_, subst}
+use mathlib.Core.Path.{_≡_, refl, _∙_, subst}
 use mathlib.Core.Bool.{Bool, true, false}
 use mathlib.Core.List.{List, [], _∷_}
 use native.Mathlib.Omega.{arith}
-use native.Mathlib.Decide.{decLe}
 use borrow.Author.Tests.{lt-ltb, eq-eqb, ne-eqb}
-use lib.Dec.{T, ltb, eqb}
+use lib.Dec.{ltb, eqb}
 use Rattle.cells.specs.Choice.{pick, find}
 use Rattle.cells.specs.Tests.{tests, pick-is}
 use Rattle.tokens.specs.Code.{codeOf, formIn}
-use Rattle.tokens.specs.Decode.{isDouble, numberOf, behindNumber, behindString, behinds, behindOf, operandOf, listed, tokenOf, wholeOf, decodeOf}
+use Rattle.tokens.specs.Decode.{isDouble, numberOf, behindNumber, behindString, behinds, behindOf, listed, tokenOf, wholeOf, decodeOf}
 use Rattle.rom.specs.Bytes.{byteOf}
 use Rattle.tokens.specs.Place.{judged, misplacedOf, readOf}
 use Rattle.tokens.specs.Body.{unknownOf, onward, afterOf, bodyFrom, bodyOf}

@@ -1,7 +1,7 @@
 -- A row of the token list: everything that document 01 says of a token but what it does to memory, the tree and the state. Assumes nothing.
 use Prim.Native.Nat.{ℕ}
 use Prim.Native.String.{String}
-use mathlib.Core.List.{List, [], _∷_}
+use mathlib.Core.List.{List, []}
 use lib.ListN.{length}
 use Rattle.tokens.specs.Family.{plain}
 

@@ -1,14 +1,13 @@
 -- The rules of the token list, each one test over the whole table that antt computes: its numbers are distinct and in range, its names are
 -- distinct, and a row's code has the row's digits. Assumes nothing.
 use Prim.Native.Nat.{ℕ}
-use Prim.Native.String.{String}
 use mathlib.Core.Path.{_≡_, refl}
 use mathlib.Core.Bool.{Bool, true, false, not, _&&_, _||_}
 use mathlib.Core.List.{List, [], _∷_}
 use lib.Dec.{T, ltb, leb, eqb, eqb→eq}
 use lib.ListN.{length}
 use lib.Text.{eqt}
-use Rattle.cells.specs.Choice.{pick, find}
+use Rattle.cells.specs.Choice.{find}
 use Rattle.cells.specs.Tests.{pick-is}
 use Rattle.tokens.specs.Family.{unlisted, plain, divide}
 use Rattle.tokens.specs.Row.{Row}

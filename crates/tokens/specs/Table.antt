@@ -1,8 +1,8 @@
 -- The token list of document 01, "Tokens, by number (hex)": every token of it is a row here, and nothing else is. Assumes nothing.
 use Prim.Native.Nat.{ℕ, _%_, _/_}
-use mathlib.Core.Bool.{Bool, true, false, _&&_, _||_, not}
+use mathlib.Core.Bool.{Bool, _&&_}
 use mathlib.Core.List.{List, [], _∷_, _++_}
-use lib.Dec.{T, leb, ltb, eqb}
+use lib.Dec.{leb}
 use Rattle.cells.specs.Choice.{pick, find}
 use Rattle.cells.specs.Arithmetic.{plusOf, minusOf, timesOf, andOf, orOf, xorOf, invertOf, lshiftOf, rshiftOf, ashiftOf}
 use Rattle.cells.specs.Arithmetic.{negateOf, absOf, minOf, maxOf, halfOf, uHalfOf, doubleOf}
@@ -11,7 +11,7 @@ use Rattle.cells.specs.Comparison.{lessOf, greaterOf, equalOf, unequalOf, uGrea
 use Rattle.cells.specs.Comparison.{betweenOf, withinOf}
 use Rattle.tokens.specs.Family.{unlisted, finish, always, choice, text, widen, divide, pickUp, rollUp, maybe, leave, fetch, store}
 use Rattle.tokens.specs.Family.{define, kind, assign, call, encodeInt, encodeString, join, property, titled, newDevice, finishDevice}
-use Rattle.tokens.specs.Row.{Row, Result, none, literal, string, offset, number, head, namedHead}
+use Rattle.tokens.specs.Row.{Row, none, literal, string, offset, number, head, namedHead}
 use Rattle.tokens.specs.Row.{nowhere, inside, outside, everywhere, top, returned, says, operand, one, two, three, reckons, pure, works}
 
 -- "00 end0, FF end1: finish"

@@ -3,7 +3,6 @@ ghost use mathlib.Core.Path.{_≡_};
 ghost use Prim.Native.Nat.{_+_, _<_, _≤_, _^_};
 ghost use Rattle.cells.specs.Choice.{pick};
 ghost use Rattle.tokens.specs.Table.{isProgram};
-ghost use Rattle.tokens.specs.Code.{formIn};
 ghost use Rattle.tokens.specs.Decode.{isDouble, numberOf, behindNumber, behindString, behindOf, definitionOf};
 ghost use Rattle.tokens.specs.Decode.{operandOf, isKind, listed as Decode·listed, decodeOf};
 use crate::code::code_of;

@@ -1,6 +1,5 @@
-use mathlib.Core.Path.{_∙_, ap}
 use borrow.Author.Needs.{needs}
-use Rattle.rom.specs.Branch.{aimOf, landing, shifted}
+use Rattle.rom.specs.Branch.{aimOf}
 use Rattle.rom.proofs.branch.aim_at.Statement.{statement}
 use Rattle.rom.proofs.branch.aim_at.Tie as tie
 

@@ -1,5 +1,3 @@
-use mathlib.Core.Path.{_∙_, sym}
-use native.Mathlib.Omega.{arith}
 use borrow.Author.Needs.{needs}
 use Rattle.rom.proofs.Landings.{forward, below, backward}
 use Rattle.rom.proofs.branch.led.Statement.{statement}

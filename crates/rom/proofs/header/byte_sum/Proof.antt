@@ -2,15 +2,12 @@ use Prim.Native.Nat.{_≤_, _-_, _%_, _^_}
 use mathlib.Core.Path.{_≡_, _∙_}
 use lib.ListN.{length, take}
 use lib.Seq.{take-all}
-use native.Mathlib.Omega.{arith}
 use borrow.Author.Needs.{needs}
 use denote.Ref.{now}
 use Rattle.rom.specs.Sum.{total}
 use Rattle.rom.proofs.Totals.{wrapped-more}
 use Rattle.rom.proofs.header.byte_sum.Statement.{statement}
 use Rattle.rom.proofs.header.byte_sum.Tie as tie
-use Rattle.rom.proofs.header.byte_sum.Reads as reads
-use Rattle.rom.proofs.header.byte_sum.Lts as lts
 
 abbrev Inv-loop : tie.InvT-loop
 Inv-loop body sum₀ i₀ sum i = (i ≤ length body) × (sum ≡ total (take i body) % 2 ^ 16)

@@ -12,8 +12,6 @@ use Rattle.rom.specs.Header.{startOf, lengthOf, checksumOf}
 use Rattle.rom.proofs.Headers.{too-short, too-long, no-start, no-format, length-low, length-high, wrong-sum, right-sum}
 use Rattle.rom.proofs.header.check_header.Statement.{statement}
 use Rattle.rom.proofs.header.check_header.Tie as tie
-use Rattle.rom.proofs.header.check_header.Reads as reads
-use Rattle.rom.proofs.header.check_header.Lts as lts
 
 returns : tie.Need-returns
 returns c = too-short (now (c .before .before .args .rom)) (search needs)

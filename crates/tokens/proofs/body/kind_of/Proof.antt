@@ -5,8 +5,6 @@ use borrow.Author.Needs.{needs}
 use Rattle.tokens.proofs.Ranges.{bounds}
 use Rattle.tokens.proofs.body.kind_of.Statement.{statement}
 use Rattle.tokens.proofs.body.kind_of.Tie as tie
-use Rattle.tokens.proofs.body.kind_of.Reads as reads
-use Rattle.tokens.proofs.body.kind_of.Lts as lts
 
 -- a program's number has its place in the list
 range : (c : tie.Then1) → (0x800 ≤ c .before .before .args .number) × (c .before .before .args .number ≤ 0xFFF)

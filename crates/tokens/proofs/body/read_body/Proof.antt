@@ -1,4 +1,4 @@
-use Prim.Native.Nat.{_-_, _<_}
+use Prim.Native.Nat.{_-_}
 use mathlib.Core.Path.{_≡_, refl, sym, _∙_}
 use mathlib.Core.Bool.{true}
 use native.Mathlib.Omega.{arith}
@@ -10,8 +10,6 @@ use Rattle.tokens.specs.Laws.{next-ahead, body-stops, body-past, body-en
 use Rattle.tokens.specs.declared.read.Read.the-variants.{Good}
 use Rattle.tokens.proofs.body.read_body.Statement.{statement}
 use Rattle.tokens.proofs.body.read_body.Tie as tie
-use Rattle.tokens.proofs.body.read_body.Reads as reads
-use Rattle.tokens.proofs.body.read_body.Lts as lts
 
 -- the body from where reading stands is the whole body
 abbrev Inv-loop : tie.InvT-loop

@@ -1,11 +1,8 @@
-use mathlib.Core.Path.{sym}
 use borrow.Author.Tests.{ne-eqb}
 use borrow.Author.Needs.{needs}
 use Rattle.tokens.specs.Body.{unknownOf}
 use Rattle.tokens.proofs.body.unknown.Statement.{statement}
 use Rattle.tokens.proofs.body.unknown.Tie as tie
-use Rattle.tokens.proofs.body.unknown.Reads as reads
-use Rattle.tokens.proofs.body.unknown.Lts as lts
 
 pub unknown-spec : {M : Type 1} → statement M
 unfolding unknownOf

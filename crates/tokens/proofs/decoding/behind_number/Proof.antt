@@ -1,4 +1,3 @@
-use mathlib.Core.Path.{sym, _∙_, refl}
 use borrow.Author.Needs.{needs}
 use Rattle.tokens.proofs.decoding.behind_number.Statement.{statement}
 use Rattle.tokens.proofs.decoding.behind_number.Tie as tie

@@ -1,6 +1,5 @@
 use mathlib.Core.Path.{sym}
 use mathlib.Core.Bool.{false}
-use borrow.Author.Needs.{needs}
 use Rattle.cells.specs.Tests.{find-none}
 use Rattle.tokens.specs.Place.{places, misplacedOf}
 use Rattle.tokens.proofs.read.out_of_place.Statement.{statement}

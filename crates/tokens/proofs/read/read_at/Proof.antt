@@ -1,10 +1,7 @@
-use mathlib.Core.Path.{_≡_, sym, _∙_, ap}
 use borrow.Author.Needs.{needs}
-use Rattle.tokens.specs.Place.{judged, readOf}
+use Rattle.tokens.specs.Place.{readOf}
 use Rattle.tokens.proofs.read.read_at.Statement.{statement}
 use Rattle.tokens.proofs.read.read_at.Tie as tie
-use Rattle.tokens.proofs.read.read_at.Reads as reads
-use Rattle.tokens.proofs.read.read_at.Lts as lts
 
 pub read-at-spec : {M : Type 1} → statement M
 unfolding readOf
