@@ -46,8 +46,14 @@ unfoldable pub ashiftOf : ℕ → ℕ → ℕ
 ashiftOf a n = elim (ltb n 32) [ true ↦ cell (shrZ (signed a) (2 ^ n)) | false ↦ flag (negative a) ]
 
 -- u/mod of a by b, both unsigned: a divisor of zero has no parts
+abbrev pub remainderOf : ℕ → ℕ → ℕ
+remainderOf a b = a % b
+
+abbrev pub quotientOf : ℕ → ℕ → ℕ
+quotientOf a b = a / b
+
 abbrev pub dividedOf : ℕ → ℕ → Divided
-dividedOf a b = pick (eqb b 0) ByZero (Parts (a % b) (a / b))
+dividedOf a b = pick (eqb b 0) ByZero (Parts (remainderOf a b) (quotientOf a b))
 
 -- "Negate and abs of 80000000 give 80000000": 2 ^ 31 is the cell that holds it
 abbrev pub negateOf : ℕ → ℕ

@@ -7,7 +7,7 @@ use native.Mathlib.Numerals.{add-one}
 use native.Mathlib.Decide.{decLe}
 use lib.ListN.{length, take, drop, getD, length-drop}
 use lib.Seq.{take-suc, take-all}
-use Rattle.rom.specs.Sum.{total, bodyOf, sumOf}
+use Rattle.rom.specs.Sum.{total, programOf, sumOf}
 
 total-append : (xs ys : List ℕ) → total (xs ++ ys) ≡ total xs + total ys
 total-append [] ys = omega arith
@@ -22,13 +22,13 @@ pub wrapped-more : (a : List ℕ) (i sum : ℕ) → i < length a → sum ≡ tot
 wrapped-more a i sum h e = omega (arith, total-more a i h)
 
 -- what a ROM does not have adds nothing
-pub body-within : (rom : List ℕ) (len : ℕ) → bodyOf rom len ≡ take (min len (length rom) - 8) (drop 8 rom)
-body-within rom len = elim (decLe len (length rom)) [ yes h ↦ near h | no h ↦ far h ]
+pub program-within : (rom : List ℕ) (len : ℕ) → programOf rom len ≡ take (min len (length rom) - 8) (drop 8 rom)
+program-within rom len = elim (decLe len (length rom)) [ yes h ↦ near h | no h ↦ far h ]
   where
-    near : len ≤ length rom → bodyOf rom len ≡ take (min len (length rom) - 8) (drop 8 rom)
+    near : len ≤ length rom → programOf rom len ≡ take (min len (length rom) - 8) (drop 8 rom)
     near h = let e : min len (length rom) - 8 ≡ len - 8 = omega arith in rw e
 
-    far : ¬ (len ≤ length rom) → bodyOf rom len ≡ take (min len (length rom) - 8) (drop 8 rom)
+    far : ¬ (len ≤ length rom) → programOf rom len ≡ take (min len (length rom) - 8) (drop 8 rom)
     far h =
         let d = length-drop 8 rom in
         take-all (len - 8) (drop 8 rom) (omega (arith, d)) ∙ sym (take-all (min len (length rom) - 8) (drop 8 rom) (omega (arith, d)))
@@ -37,8 +37,8 @@ pub sum-none : (rom : List ℕ) (len end : ℕ) → end ≡ min len (length rom)
 unfolding sumOf
 sum-none rom len end e h =
     let z : min len (length rom) - 8 ≡ 0 = omega arith in
-    rw (body-within rom len, z)
+    rw (program-within rom len, z)
 
 pub sum-some : (rom : List ℕ) (len end : ℕ) → end ≡ min len (length rom) → total (take (end - 8) (drop 8 rom)) % 2 ^ 16 ≡ sumOf rom len
 unfolding sumOf
-sum-some rom len end e = rw (body-within rom len, e)
+sum-some rom len end e = rw (program-within rom len, e)

@@ -8,7 +8,7 @@ use lib.IntN.{ℤ, pos, negsuc, _+ℤ_}
 use Rattle.cells.specs.Choice.{pick}
 use Rattle.cells.specs.Signed.{signedIn}
 use Rattle.rom.specs.Bytes.{byteOf, word16Of}
-use Rattle.rom.specs.Sizes.{romLeast}
+use Rattle.rom.specs.Sizes.{firstPlace}
 use Rattle.rom.specs.declared.branch.Aim.{Aim}
 use Rattle.rom.specs.declared.branch.Aim.the-variants.{Inside, Outside}
 
@@ -22,12 +22,13 @@ destinationOf rom wide at = pos at +ℤ signedIn (pick wide 16 8) (offsetOf rom 
 
 -- whether a branch may go there
 abbrev pub landing : ℕ → ℤ → Aim
-landing length (pos to) = pick (leb romLeast to && ltb to length) (Inside to) Outside
+landing length (pos to) = pick (leb firstPlace to && ltb to length) (Inside to) Outside
 landing length (negsuc n) = Outside
-
--- the place that an offset of `range` values leads to, the upper half of them negative: `destinationOf` for either width
-abbrev pub shifted : ℕ → ℕ → ℕ → ℤ
-shifted at range bits = pos at +ℤ pick (ltb bits (range / 2)) (pos bits) (negsuc (range - 1 - bits))
 
 unfoldable pub aimOf : List ℕ → ℕ → Bool → ℕ → Aim
 aimOf rom length wide at = landing length (destinationOf rom wide at)
+
+-- for the code's own steps: the place that an offset of `range` values leads to, the upper half of them negative, which is `destinationOf` for either
+-- width
+abbrev pub shifted : ℕ → ℕ → ℕ → ℤ
+shifted at range bits = pos at +ℤ pick (ltb bits (range / 2)) (pos bits) (negsuc (range - 1 - bits))

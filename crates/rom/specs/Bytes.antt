@@ -3,7 +3,7 @@ use Prim.Native.Nat.{ℕ, _+_, _*_}
 use mathlib.Core.List.{List}
 use lib.ListN.{getD}
 
--- byte k: whatever is read of a ROM is read by this
+-- byte k
 abbrev pub byteOf : List ℕ → ℕ → ℕ
 byteOf rom k = getD rom k 0
 

@@ -10,6 +10,10 @@ romLeast = 8
 abbrev pub romMost : ℕ
 romMost = 16384
 
+-- the header has bytes 0 to 7, so that a program's first place is 8
+abbrev pub firstPlace : ℕ
+firstPlace = 8
+
 abbrev pub dataMost : ℕ
 dataMost = 64
 
@@ -43,6 +47,7 @@ house =
     record {
       «rom_least» = romLeast;
       «rom_most» = romMost;
+      «first_place» = firstPlace;
       «data_most» = dataMost;
       «return_most» = returnMost;
       «frames_most» = framesMost;

@@ -2,15 +2,15 @@
 use Prim.Native.Nat.{ℕ, _+_, _-_, _%_, _^_}
 use mathlib.Core.List.{List, [], _∷_}
 use lib.ListN.{take, drop}
-use Rattle.rom.specs.Sizes.{romLeast}
+use Rattle.rom.specs.Sizes.{firstPlace}
 
 abbrev pub total : List ℕ → ℕ
 total [] = 0
 total (b ∷ bs) = b + total bs
 
 -- bytes 8 to length-1
-abbrev pub bodyOf : List ℕ → ℕ → List ℕ
-bodyOf rom length = take (length - romLeast) (drop romLeast rom)
+abbrev pub programOf : List ℕ → ℕ → List ℕ
+programOf rom length = take (length - firstPlace) (drop firstPlace rom)
 
 unfoldable pub sumOf : List ℕ → ℕ → ℕ
-sumOf rom length = total (bodyOf rom length) % 2 ^ 16
+sumOf rom length = total (programOf rom length) % 2 ^ 16

@@ -4,7 +4,7 @@ ghost use lib.IntN.{pos};
 ghost use Rattle.rom.specs.Branch.{offsetOf, aimOf, landing, shifted};
 use crate::bytes::byte;
 use crate::bytes::word16;
-use crate::sizes::ROM_LEAST;
+use crate::sizes::FIRST_PLACE;
 
 // Where a branch leads: a place inside 8..length-1, or outside, which is refusal 19 where the branch is taken.
 pub enum Aim {
@@ -27,7 +27,7 @@ pub fn offset(rom: &[u8], wide: bool, at: u32) -> u32
 fn inside(length: u32, to: usize) -> Aim
     ensures { λ r. ⌜ r ≡ landing length (pos to) ⌝ }
 {
-    if to < ROM_LEAST {
+    if to < FIRST_PLACE {
         return Aim::Outside;
     }
     if to < (length as usize) {

@@ -1,7 +1,7 @@
 ghost use mathlib.Core.Path.{_≡_};
 ghost use Rattle.rom.specs.Bytes.{byteOf, word16Of, word32Of};
 
-// Byte k of a ROM, and 0 past its end. The one function that reads a ROM.
+// Byte k of a ROM, and 0 past its end: what every reader but the sum goes by.
 pub fn byte(rom: &[u8], k: usize) -> u8
     ensures { λ r. ⌜ r ≡ byteOf (now (rom .entry)) k ⌝ }
 {

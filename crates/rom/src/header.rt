@@ -7,6 +7,7 @@ ghost use Rattle.rom.specs.Header.{wideOf, startOf, lengthOf, headerOf};
 use crate::bytes::byte;
 use crate::bytes::word16;
 use crate::bytes::word32;
+use crate::sizes::FIRST_PLACE;
 use crate::sizes::ROM_LEAST;
 use crate::sizes::ROM_MOST;
 
@@ -34,7 +35,7 @@ fn byte_sum(body: &[u8]) -> u16
 pub fn body_sum(rom: &[u8], length: u32) -> u16
     ensures { λ r. ⌜ r ≡ sumOf (now (rom .entry)) length ⌝ }
 {
-    let start = ROM_LEAST;
+    let start = FIRST_PLACE;
     let end = least(length as usize, rom.len());
     if end <= start {
         return 0;

@@ -1,11 +1,13 @@
-// The house sizes of document 01. Every limit in the code is one of these; specs/Sizes.antt has the same names for the definitions, and
-// `house` shows that the two agree.
+// The house sizes of document 01, and the first place of a program, which stands behind the header. specs/Sizes.antt has the same names for
+// the definitions, and `house_sizes` shows that the two agree.
 ghost use mathlib.Core.Path.{_≡_};
 ghost use Rattle.rom.specs.Sizes.{house as Sizes·house};
 
 pub const ROM_LEAST: usize = 8;
 
 pub const ROM_MOST: usize = 16384;
+
+pub const FIRST_PLACE: usize = 8;
 
 pub const DATA_MOST: usize = 64;
 
@@ -28,6 +30,7 @@ pub const MARKS_SIZE: usize = 16384;
 pub struct House {
     pub rom_least: usize,
     pub rom_most: usize,
+    pub first_place: usize,
     pub data_most: usize,
     pub return_most: usize,
     pub frames_most: usize,
@@ -45,6 +48,7 @@ pub fn house_sizes() -> House
     House {
         rom_least: ROM_LEAST,
         rom_most: ROM_MOST,
+        first_place: FIRST_PLACE,
         data_most: DATA_MOST,
         return_most: RETURN_MOST,
         frames_most: FRAMES_MOST,

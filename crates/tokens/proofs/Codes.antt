@@ -1,64 +1,56 @@
 -- What is no token has the code 0. Assumes nothing.
 use Prim.Native.Nat.{ℕ, _≤_, _<_}
-use mathlib.Core.Path.{_≡_, _∙_}
-use mathlib.Core.List.{_++_}
+use mathlib.Core.Path.{_≡_, refl, _∙_, ap}
+use mathlib.Core.List.{List, [], _++_}
 use native.Mathlib.Omega.{arith}
 use native.Mathlib.Decide.{decLe}
 use borrow.Author.Tests.{le-leb, lt-leb}
 use lib.Dec.{T}
 use Rattle.cells.specs.Choice.{find}
 use Rattle.cells.specs.Tests.{Rest, find-none}
+use Rattle.tokens.specs.Row.{Row}
 use Rattle.tokens.specs.Table.{ends, lows, highs, doubles, table, rowOf, notListed}
 use Rattle.tokens.specs.Code.{codeOf}
 use Rattle.tokens.proofs.Lookup.{clear, find-clear, find-append}
-
--- below 800 a number is looked up in the list's four parts
-parts : (n : ℕ) → n < 0x800 → rowOf n ≡ find ends (find lows (find highs (find doubles notListed n) n) n) n
-unfolding rowOf table
-parts n h =
-    rw (lt-leb _ _ h, find-append ends (lows ++ (highs ++ doubles)) notListed n, find-append lows (highs ++ doubles) notListed n, find-append highs doubles notListed n)
 
 nothing : (n : ℕ) → rowOf n ≡ notListed → 0 ≡ codeOf n
 unfolding codeOf
 nothing n e = rw e
 
+-- below 800 a number is looked up in the list
+listed : (n : ℕ) → n < 0x800 → rowOf n ≡ find table notListed n
+unfolding rowOf
+listed n h = rw (lt-leb _ _ h)
+
+-- a number in a stretch of the list where only the part m has keys, and none of those
+pub left-over : (s m t : List (ℕ × Row)) (low high n : ℕ) → table ≡ s ++ (m ++ t) → T (clear low high s) → T (clear low high t) → high < 0x800
+    → low ≤ n → n ≤ high → Rest (Unit {0}) m n → 0 ≡ codeOf n
+left-over s m t low high n e c d b l h r =
+    nothing n
+    (listed n (omega arith)
+    ∙ ap (λ (rows : List (ℕ × Row)). find rows notListed n) e
+    ∙ find-append s (m ++ t) notListed n
+    ∙ find-clear low high s _ n c l h
+    ∙ find-append m t notListed n
+    ∙ find-none (Unit {0}) m _ n r
+    ∙ find-clear low high t notListed n d l h)
+
 -- what the code's matches leave over
 pub no-low : (n : ℕ) → 0x10 ≤ n → n ≤ 0x59 → Rest (Unit {0}) lows n → 0 ≡ codeOf n
-unfolding ends lows highs doubles
-no-low n l h r =
-    nothing n
-    (parts n (omega arith)
-    ∙ find-clear 0x10 0x59 ends _ n tt l h
-    ∙ find-none (Unit {0}) lows _ n r
-    ∙ find-clear 0x10 0x59 highs _ n tt l h
-    ∙ find-clear 0x10 0x59 doubles _ n tt l h)
+unfolding table ends lows highs doubles
+no-low n l h r = left-over ends lows (highs ++ doubles) 0x10 0x59 n refl tt tt (omega arith) l h r
 
 pub no-high : (n : ℕ) → 0x6D ≤ n → n ≤ 0xCC → Rest (Unit {0}) highs n → 0 ≡ codeOf n
-unfolding ends lows highs doubles
-no-high n l h r =
-    nothing n
-    (parts n (omega arith)
-    ∙ find-clear 0x6D 0xCC ends _ n tt l h
-    ∙ find-clear 0x6D 0xCC lows _ n tt l h
-    ∙ find-none (Unit {0}) highs _ n r
-    ∙ find-clear 0x6D 0xCC doubles _ n tt l h)
+unfolding table ends lows highs doubles
+no-high n l h r = left-over (ends ++ lows) highs doubles 0x6D 0xCC n refl tt tt (omega arith) l h r
 
 pub no-double : (n : ℕ) → 0x110 ≤ n → n ≤ 0x201 → Rest (Unit {0}) doubles n → 0 ≡ codeOf n
-unfolding ends lows highs doubles
-no-double n l h r =
-    nothing n
-    (parts n (omega arith)
-    ∙ find-clear 0x110 0x201 ends _ n tt l h
-    ∙ find-clear 0x110 0x201 lows _ n tt l h
-    ∙ find-clear 0x110 0x201 highs _ n tt l h
-    ∙ find-none (Unit {0}) doubles _ n r)
+unfolding table ends lows highs doubles
+no-double n l h r = left-over (ends ++ (lows ++ highs)) doubles [] 0x110 0x201 n refl tt tt (omega arith) l h r
 
 -- a gap of the list
-pub gap : (low high n : ℕ) → T (clear low high table) → high < 0x800 → low ≤ n → n ≤ high → 0 ≡ codeOf n
-unfolding rowOf
-gap low high n c b l h =
-    let m : n < 0x800 = omega arith in
-    nothing n (rw (lt-leb _ _ m) (find-clear low high table notListed n c l h))
+gap : (low high n : ℕ) → T (clear low high table) → high < 0x800 → low ≤ n → n ≤ high → 0 ≡ codeOf n
+gap low high n c b l h = left-over [] [] table low high n refl tt c b l h tt
 
 -- above the program numbers
 pub beyond : (n : ℕ) → 0xFFF < n → n < 0x1_0000_0000 → 0 ≡ codeOf n

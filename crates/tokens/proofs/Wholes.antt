@@ -10,27 +10,35 @@ use Rattle.tokens.specs.Decode.{numberOf, behindNumber, behindOf, operan
 use Rattle.tokens.specs.declared.decoding.Operand.{Operand}
 use Rattle.tokens.specs.declared.decoding.Decoded.the-variants.{Cut, Unlisted, Whole}
 
-module _ (rom : List ℕ) (length : ℕ) (wide : Bool) (p number code start next : ℕ)
-    (n : number ≡ numberOf rom p) (c : code ≡ codeOf number) (s : start ≡ behindNumber rom p) (x : next ≡ behindOf rom wide start (formIn code)) where
-  found : decodeOf rom length wide p ≡ wholeOf length number code (operandOf rom length wide start (formIn code)) next
+-- a token's number, its code, where its operand starts and where it ends
+pub record Found (rom : List ℕ) (wide : Bool) (p number code start next : ℕ) : Type 0 where
+  pub numbered : number ≡ numberOf rom p
+  pub coded : code ≡ codeOf number
+  pub starts : start ≡ behindNumber rom p
+  pub ends : next ≡ behindOf rom wide start (formIn code)
+
+module _ {rom : List ℕ} {wide : Bool} {p number code start next : ℕ} (f : Found rom wide p number code start next) (length : ℕ) where
+  decoded : decodeOf rom length wide p ≡ wholeOf length number code (operandOf rom length wide start (formIn code)) next
   unfolding decodeOf
-  found = rw (← n, ← c, ← s, ← x)
+  decoded = rw (← f .numbered, ← f .coded, ← f .starts, ← f .ends)
 
   pub cut-off : length < next → Cut ≡ decodeOf rom length wide p
   unfolding wholeOf
-  cut-off h = rw (found, lt-ltb _ _ h)
-
-  pub is-whole : (o : Operand) → o ≡ operandOf rom length wide start (formIn code) → next ≤ length → listed code o ≡ true
-      → Whole (tokenOf number code o next) ≡ decodeOf rom length wide p
-  unfolding wholeOf
-  is-whole o e h l = rw (found, le-ltb _ _ h, ← e, l)
-
-  pub is-unlisted : (o : Operand) → o ≡ operandOf rom length wide start (formIn code) → next ≤ length → listed code o ≡ false
-      → Unlisted code ≡ decodeOf rom length wide p
-  unfolding wholeOf
-  is-unlisted o e h l = rw (found, le-ltb _ _ h, ← e, l)
+  cut-off h = rw (decoded, lt-ltb _ _ h)
 
   -- a string that lies whole before the length starts where a place can be counted
   pub string-fits : next ≤ length → length < 2 ^ 32 → formIn code ≡ 2 → start + 1 < 2 ^ 32
   unfolding behindOf
-  string-fits h l f = let y = rw f at x in omega arith
+  string-fits h l e =
+      let x = f .ends in
+      let y = rw e at x in
+      omega arith
+
+  module _ (o : Operand) (e : o ≡ operandOf rom length wide start (formIn code)) (h : next ≤ length) where
+    pub is-whole : listed code o ≡ true → Whole (tokenOf number code o next) ≡ decodeOf rom length wide p
+    unfolding wholeOf
+    is-whole l = rw (decoded, le-ltb _ _ h, ← e, l)
+
+    pub is-unlisted : listed code o ≡ false → Unlisted code ≡ decodeOf rom length wide p
+    unfolding wholeOf
+    is-unlisted l = rw (decoded, le-ltb _ _ h, ← e, l)

@@ -54,11 +54,15 @@ behind-ahead rom wide p form =
     )
     (omega arith)
 
+-- the next place is past the token's own and not past the length
+abbrev pub Follows : ℕ → ℕ → Token → Type 0
+Follows length p t = (p < t .next) × (t .next ≤ length)
+
 -- of what was decoded at a place
 abbrev pub Ahead : ℕ → ℕ → Decoded → Type 0
 Ahead length p Cut = Unit {0}
 Ahead length p (Unlisted code) = Unit {0}
-Ahead length p (Whole t) = (p < t .next) × (t .next ≤ length)
+Ahead length p (Whole t) = Follows length p t
 
 whole-ahead : (length p n code : ℕ) (o : Operand) (next : ℕ) → p < next → Ahead length p (wholeOf length n code o next)
 unfolding wholeOf
@@ -76,7 +80,7 @@ decode-ahead rom length wide p =
 -- of what was read there
 abbrev pub AheadRead : ℕ → ℕ → Read → Type 0
 AheadRead length p (Refused why) = Unit {0}
-AheadRead length p (Good t) = (p < t .next) × (t .next ≤ length)
+AheadRead length p (Good t) = Follows length p t
 
 judged-ahead : (length p : ℕ) (within : Bool) (d : Decoded) → Ahead length p d → AheadRead length p (judged within d)
 judged-ahead length p within Cut a = tt
@@ -88,8 +92,7 @@ pub read-ahead : (rom : List ℕ) (length : ℕ) (wide within : Bool) (p : ℕ) 
 unfolding readOf
 read-ahead rom length wide within p = judged-ahead length p within (decodeOf rom length wide p) (decode-ahead rom length wide p)
 
-pub next-ahead : (rom : List ℕ) (length : ℕ) (wide within : Bool) (p : ℕ) (t : Token) → readOf rom length wide within p ≡ Good t
-    → (p < t .next) × (t .next ≤ length)
+pub next-ahead : (rom : List ℕ) (length : ℕ) (wide within : Bool) (p : ℕ) (t : Token) → readOf rom length wide within p ≡ Good t → Follows length p t
 next-ahead rom length wide within p t e = subst (AheadRead length p) e (read-ahead rom length wide within p)
 
 -- no token starts at the length or past it

@@ -13,11 +13,11 @@ use Rattle.tokens.specs.declared.read.Read.{Read}
 use Rattle.tokens.specs.declared.read.Read.the-variants.{Refused, Good}
 
 -- `within` says whether a body is read or a call is open
-abbrev pub places : Bool → List (ℕ × Bool)
-places within = (inside, within) ∷ (outside, not within) ∷ (everywhere, true) ∷ []
+abbrev pub misplacements : Bool → List (ℕ × Bool)
+misplacements within = (inside, within) ∷ (outside, not within) ∷ (everywhere, true) ∷ []
 
 unfoldable pub misplacedOf : ℕ → Bool → Bool
-misplacedOf code within = find (places within) false (outOfPlaceIn code)
+misplacedOf code within = find (misplacements within) false (outOfPlaceIn code)
 
 -- the refusals of a token by its bytes and its place, in the order 10, 18, 11
 abbrev pub judged : Bool → Decoded → Read

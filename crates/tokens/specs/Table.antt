@@ -1,11 +1,11 @@
 -- The token list of document 01, "Tokens, by number (hex)": every token of it is a row here, and nothing else is. Assumes nothing.
-use Prim.Native.Nat.{ℕ, _%_, _/_}
+use Prim.Native.Nat.{ℕ}
 use mathlib.Core.Bool.{Bool, _&&_}
 use mathlib.Core.List.{List, [], _∷_, _++_}
 use lib.Dec.{leb}
 use Rattle.cells.specs.Choice.{pick, find}
 use Rattle.cells.specs.Arithmetic.{plusOf, minusOf, timesOf, andOf, orOf, xorOf, invertOf, lshiftOf, rshiftOf, ashiftOf}
-use Rattle.cells.specs.Arithmetic.{negateOf, absOf, minOf, maxOf, halfOf, uHalfOf, doubleOf}
+use Rattle.cells.specs.Arithmetic.{remainderOf, quotientOf, negateOf, absOf, minOf, maxOf, halfOf, uHalfOf, doubleOf}
 use Rattle.cells.specs.Comparison.{zeroEqualOf, zeroUnequalOf, zeroLessOf, zeroAtMostOf, zeroGreaterOf, zeroAtLeastOf}
 use Rattle.cells.specs.Comparison.{lessOf, greaterOf, equalOf, unequalOf, uGreaterOf, uAtMostOf, uLessOf, uAtLeastOf, atLeastOf, atMostOf}
 use Rattle.cells.specs.Comparison.{betweenOf, withinOf}
@@ -38,7 +38,7 @@ lows =
     (0x27, pure "lshift" 2 (two lshiftOf ∷ [])) ∷
     (0x28, pure "rshift" 2 (two rshiftOf ∷ [])) ∷
     (0x29, pure ">>a" 2 (two ashiftOf ∷ [])) ∷
-    (0x2B, works "u/mod" divide nowhere none 2 2 (two _%_ ∷ two _/_ ∷ [])) ∷
+    (0x2B, works "u/mod" divide nowhere none 2 2 (two remainderOf ∷ two quotientOf ∷ [])) ∷
     (0x2C, pure "negate" 1 (one negateOf ∷ [])) ∷
     (0x2D, pure "abs" 1 (one absOf ∷ [])) ∷
     (0x2E, pure "min" 2 (two minOf ∷ [])) ∷

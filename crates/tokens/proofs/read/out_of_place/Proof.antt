@@ -1,7 +1,7 @@
 use mathlib.Core.Path.{sym}
 use mathlib.Core.Bool.{false}
 use Rattle.cells.specs.Tests.{find-none}
-use Rattle.tokens.specs.Place.{places, misplacedOf}
+use Rattle.tokens.specs.Place.{misplacements, misplacedOf}
 use Rattle.tokens.proofs.read.out_of_place.Statement.{statement}
 use Rattle.tokens.proofs.read.out_of_place.Tie as tie
 
@@ -13,4 +13,4 @@ out-of-place-spec =
     (λ c. rw (c .match .keys1))
     (λ c. rw (c .match .keys2))
     (λ c. rw (c .match .keys3))
-    (λ c. sym (find-none (Unit {0}) (places (c .before .args .within)) false _ (c .match .rest))))
+    (λ c. sym (find-none (Unit {0}) (misplacements (c .before .args .within)) false _ (c .match .rest))))
