@@ -52,6 +52,7 @@ expect empty.rom 2 '' 'empty.rom: empty, no ROM'
 expect long.rom 2 '' 'long.rom: over 16,384 bytes, no ROM'
 expect folder.rom 2 '' 'folder.rom: Is a directory'
 expect missing.rom 2 '' 'missing.rom: No such file or directory'
+expect '' 2 '' 'usage: ./lamp [FILE]'
 
 out=$("$here/lamp")
 if [ "$out" = 'header good' ]; then passed=$((passed + 1)); else failed=$((failed + 1)); fi
