@@ -1,0 +1,4 @@
+pub mod Window
+pub mod Writing
+pub mod Cells
+pub mod Laws
