@@ -1,0 +1,14 @@
+use Prim.Native.Nat.{_-_}
+use borrow.Author.Tests.{eq-eqb, ne-eqb}
+use borrow.Author.Needs.{needs}
+use Rattle.tree.proofs.node.finish_device.Statement.{statement}
+use Rattle.tree.proofs.node.finish_device.Tie as tie
+
+pub finish-device-spec : {M : Type 1} → statement M
+finish-device-spec =
+    tie.close
+    (tie.spec
+    (λ c. rw (eq-eqb _ _ (c .if1 .taken)))
+    (λ c. search needs)
+    (λ c κs. search needs)
+    (λ c. rw (ne-eqb _ _ (c .before .before .if1 .left), c .parent .ensures)))

@@ -1,0 +1,20 @@
+use Prim.Native.Nat.{_-_}
+use mathlib.Core.Path.{_≡_}
+use lib.ListN.{length}
+use lib.ListN.{List·getD-eq-default}
+use borrow.Author.Needs.{needs}
+use Rattle.tree.proofs.property.name_size.Statement.{statement}
+use Rattle.tree.proofs.property.name_size.Tie as tie
+
+pub name-size-spec : {M : Type 1} → statement M
+name-size-spec =
+    tie.close
+    (tie.spec
+    (λ c. search needs)
+    (λ c. search needs)
+    (λ c κs. search needs)
+    (λ c. search needs)
+    (λ c.
+    let a = c .before .args in
+    let n : length (a .t1 .names) ≡ 128 = search needs in
+    rw (List·getD-eq-default (a .t1 .names) 0 {n = a .index} (search needs))))

@@ -1,0 +1,12 @@
+pub mod Held
+pub mod Whole
+pub mod Node
+pub mod Property
+pub mod Steps
+pub mod Laws
+pub mod Layout
+pub mod Puts
+pub mod Kept
+pub mod Lives
+pub mod PutKept
+pub mod ReadBack

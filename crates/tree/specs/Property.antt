@@ -1,0 +1,81 @@
+-- Writing a property: "Properties go to the active node, values copied. A name has 1 to 31 bytes of 21-7E. The same name on the same node is
+-- replaced in place. .. room freed by a shorter value is used. A number or name held twice: the oldest counts." Refusal 26, "bad property
+-- name", before 27, "a 129th property, or live bytes above 16,384", judged on the properties as they would be. A store of the wrong size is 6, and a
+-- damaged tree 7, before either. Assumes nothing.
+use Prim.Native.Nat.{ℕ, _+_, _-_}
+use mathlib.Core.Bool.{Bool, true, false, not, _&&_, _||_}
+use mathlib.Core.List.{List, [], _∷_, _++_}
+use lib.ListN.{length, replicate, set}
+use lib.Dec.{ltb, leb, eqb}
+use Rattle.cells.specs.Choice.{pick}
+use Rattle.rom.specs.Sizes.{propertiesMost, storeSize}
+use Rattle.tree.specs.Held.{Property, heldOf, laidOut, matches, indexOf}
+use Rattle.tree.specs.Whole.{nameMost, wholeTree}
+use Rattle.tree.specs.Node.{doneOf, refusedOf}
+use Rattle.tree.specs.declared.tree.Tree.{Tree}
+use Rattle.tree.specs.declared.tree.Written.{Written}
+
+-- a value, with the null that device-name and its like add
+abbrev pub valueOf : List ℕ → Bool → List ℕ
+valueOf bytes null = bytes ++ pick null (0 ∷ []) []
+
+-- "1 to 31 bytes of 21-7E"
+unfoldable pub allPrinted : List ℕ → Bool
+allPrinted [] = true
+allPrinted (b ∷ bs) = leb 0x21 b && leb b 0x7E && allPrinted bs
+
+unfoldable pub badName : List ℕ → Bool
+badName name = ltb (length name) 1 || ltb nameMost (length name) || not (allPrinted name)
+
+-- the properties with this one: in the place of the oldest of its node and name, or behind them all
+unfoldable pub putIn : List Property → ℕ → List ℕ → List ℕ → List Property
+putIn [] node name value = record { node = node; name = name; value = value } ∷ []
+putIn (p ∷ ps) node name value =
+    elim (matches p node name)
+    [ true ↦ record { node = p .node; name = p .name; value = value } ∷ ps | false ↦ p ∷ putIn ps node name value ]
+
+unfoldable pub overfull : List Property → Bool
+overfull ps = ltb propertiesMost (length ps) || ltb storeSize (length (laidOut ps))
+
+-- the properties as they would be
+abbrev pub wouldHold : Tree → List ℕ → List ℕ → List ℕ → List Property
+wouldHold t store name value = putIn (heldOf t store) (t .active) name value
+
+-- 0, or the refusal
+unfoldable pub putRefusal : Tree → List ℕ → List ℕ → List ℕ → ℕ
+putRefusal t store name value =
+    pick (not (eqb (length store) storeSize)) 6
+    (pick (not (wholeTree t)) 7
+    (pick (badName name) 26
+    (pick (overfull (wouldHold t store name value)) 27 0)))
+
+-- the store that holds these properties: "no gaps, zeros behind"
+unfoldable pub storeWith : List Property → List ℕ
+storeWith ps = laidOut ps ++ replicate (storeSize - length (laidOut ps)) 0
+
+-- the tree whose record i is of the active node, with these lengths; one record more where there was none
+unfoldable pub recordedOf : Tree → ℕ → ℕ → ℕ → Tree
+recordedOf t i name value =
+    record {
+      parents = t .parents;
+      nodes = t .nodes;
+      active = t .active;
+      owners = set (t .owners) i (t .active);
+      names = set (t .names) i name;
+      values = set (t .values) i value;
+      held = pick (eqb i (t .held)) (t .held + 1) (t .held);
+    }
+
+abbrev pub treePut : Tree → List ℕ → List ℕ → List ℕ → Tree
+treePut t store name value = recordedOf t (indexOf (heldOf t store) (t .active) name) (length name) (length value)
+
+abbrev pub storePut : Tree → List ℕ → List ℕ → List ℕ → List ℕ
+storePut t store name value = storeWith (wouldHold t store name value)
+
+-- what the call gives, and the store then: both as they were where it is refused
+unfoldable pub putOf : Tree → List ℕ → List ℕ → List ℕ → Written
+putOf t store name value =
+    pick (eqb (putRefusal t store name value) 0) (doneOf (treePut t store name value)) (refusedOf (putRefusal t store name value) t)
+
+unfoldable pub storeOf : Tree → List ℕ → List ℕ → List ℕ → List ℕ
+storeOf t store name value = pick (eqb (putRefusal t store name value) 0) (storePut t store name value) store

@@ -1,0 +1,14 @@
+// The nodes and their properties. The tree is a value; the bytes of names and values lie in a store that is lent. Every call is total.
+mod node;
+mod property;
+mod tree;
+
+pub use node::finish_device;
+pub use node::fresh_tree;
+pub use node::new_device;
+pub use node::no_tree;
+pub use property::put_property;
+pub use tree::Outcome;
+pub use tree::Tree;
+pub use tree::Written;
+pub use tree::is_whole;

@@ -1,0 +1,154 @@
+// The tree, and whether it is whole.
+ghost use mathlib.Core.Path.{_≡_};
+ghost use Prim.Native.Nat.{_≤_, _<_};
+ghost use Rattle.tree.specs.Held.{liveAmong};
+ghost use Rattle.tree.specs.Whole.{olderAmong, soundWith, soundAmong, everyBelow, counted as Whole·counted, wholeTree};
+use rom::sizes::NODES_MOST;
+use rom::sizes::PROPERTIES_MOST;
+use rom::sizes::STORE_SIZE;
+
+pub const NAME_MOST: usize = 31;
+
+// Node k has the parent parents[k]. Record i says that a property of the node owners[i] has a name and a value of these lengths; their bytes lie in
+// the store, one record's behind the other's.
+pub struct Tree {
+    pub parents: [u32; NODES_MOST],
+    pub nodes: usize,
+    pub active: u32,
+    pub owners: [u32; PROPERTIES_MOST],
+    pub names: [u32; PROPERTIES_MOST],
+    pub values: [u32; PROPERTIES_MOST],
+    pub held: usize,
+}
+
+// Done, or why not.
+pub enum Outcome {
+    Done,
+    Refused(u32),
+}
+
+// What a call gives, with the tree then; a refused call gives the tree as it was.
+pub struct Written {
+    pub outcome: Outcome,
+    pub tree: Tree,
+}
+
+pub fn wide(x: u32) -> usize
+    ensures { λ r. ⌜ (r ≡ x) × (r < 4294967296) ⌝ }
+{
+    x as usize
+}
+
+fn is_older(parents: &[u32; NODES_MOST], k: usize) -> bool
+    requires { ⌜ k < 32 ⌝ }
+    ensures { λ r. ⌜ r ≡ olderAmong (now (parents .entry)) k ⌝ }
+{
+    let parent = wide(parents[k]);
+    if k == 0 { parent == 0 } else { parent < k }
+}
+
+fn all_older(parents: &[u32; NODES_MOST], nodes: usize) -> bool
+    requires { ⌜ nodes ≤ 32 ⌝ }
+    ensures { λ r. ⌜ r ≡ everyBelow nodes (olderAmong (now (parents .entry))) ⌝ }
+{
+    let mut k = 0;
+    while k < nodes {
+        if !is_older(parents, k) {
+            return false;
+        }
+        k += 1;
+    }
+    true
+}
+
+fn is_sound(nodes: usize, owner: usize, name: usize, value: usize) -> bool
+    ensures { λ r. ⌜ r ≡ soundWith nodes owner name value ⌝ }
+{
+    if nodes <= owner {
+        return false;
+    }
+    if name < 1 {
+        return false;
+    }
+    if NAME_MOST < name {
+        return false;
+    }
+    value <= STORE_SIZE
+}
+
+fn all_sound(
+    nodes: usize,
+    owners: &[u32; PROPERTIES_MOST],
+    names: &[u32; PROPERTIES_MOST],
+    values: &[u32; PROPERTIES_MOST],
+    held: usize,
+) -> bool
+    requires { ⌜ held ≤ 128 ⌝ }
+    ensures { λ r. ⌜ r ≡ everyBelow held (soundAmong nodes (now (owners .entry)) (now (names .entry)) (now (values .entry))) ⌝ }
+{
+    let mut i = 0;
+    while i < held {
+        if !is_sound(nodes, wide(owners[i]), wide(names[i]), wide(values[i])) {
+            return false;
+        }
+        i += 1;
+    }
+    true
+}
+
+// The live bytes. 128 lengths of 32 bits do not overflow, so the sum needs no lengths in their limits.
+pub fn live_bytes(
+    names: &[u32; PROPERTIES_MOST],
+    values: &[u32; PROPERTIES_MOST],
+    held: usize,
+) -> usize
+    requires { ⌜ held ≤ 128 ⌝ }
+    ensures { λ r. ⌜ r ≡ liveAmong (now (names .entry)) (now (values .entry)) held 0 ⌝ }
+{
+    let mut sum = 0;
+    let mut i = 0;
+    while i < held {
+        sum += wide(names[i]) + wide(values[i]);
+        i += 1;
+    }
+    sum
+}
+
+// Whether the counts are in their limits and the active node is there.
+fn counted(nodes: usize, active: usize, held: usize) -> bool
+    ensures { λ r. ⌜ r ≡ Whole·counted nodes active held ⌝ }
+{
+    if nodes < 2 {
+        return false;
+    }
+    if NODES_MOST < nodes {
+        return false;
+    }
+    if active < 1 {
+        return false;
+    }
+    if nodes <= active {
+        return false;
+    }
+    held <= PROPERTIES_MOST
+}
+
+// Whether every count, length and node of the tree is in its limits, live bytes included.
+pub fn is_whole(tree: Tree) -> bool
+    ensures { λ r. ⌜ r ≡ wholeTree tree ⌝ }
+{
+    if !counted(tree.nodes, wide(tree.active), tree.held) {
+        return false;
+    }
+    let parents = tree.parents;
+    if !all_older(&parents, tree.nodes) {
+        return false;
+    }
+    let owners = tree.owners;
+    let names = tree.names;
+    let values = tree.values;
+    if !all_sound(tree.nodes, &owners, &names, &values, tree.held) {
+        return false;
+    }
+    live_bytes(&names, &values, tree.held) <= STORE_SIZE
+}
