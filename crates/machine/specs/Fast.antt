@@ -1,0 +1,105 @@
+-- A token in place, on the cells, the heights and the place alone, and how it agrees with the step of the whole state, whatever the rest of it is. Assumes
+-- nothing.
+use Prim.Native.Nat.{ℕ, _+_, _≤_}
+use mathlib.Core.Path.{_≡_}
+use mathlib.Core.Bool.{Bool, false}
+use mathlib.Core.List.{List, [], _∷_}
+use lib.Dec.{eqb}
+use Rattle.cells.specs.Choice.{pick}
+use Rattle.rom.specs.Bytes.{word32Of}
+use Rattle.rom.specs.declared.branch.Aim.{Aim}
+use Rattle.rom.specs.declared.branch.Aim.the-variants.{Inside, Outside}
+use Rattle.tokens.specs.Family.{plain, always, choice, divide, pickUp, rollUp, maybe}
+use Rattle.tokens.specs.Code.{codeOf, familyIn}
+use Rattle.tokens.specs.Decode.{numberOf}
+use Rattle.machine.specs.Stacks.{stacks}
+use Rattle.machine.specs.State.{moved, baseOf}
+use Rattle.machine.specs.Scene.{turn, scene}
+use Rattle.machine.specs.Step.{tokenOf}
+use Rattle.machine.specs.Rows.{among}
+use Rattle.machine.specs.declared.state.State.{State}
+use Rattle.machine.specs.declared.answer.Answer.{Answer}
+use Rattle.machine.specs.declared.answer.Answer.the-variants.{Going, Refused}
+use Rattle.machine.specs.declared.reckon.Moved.{Moved}
+use Rattle.machine.specs.declared.fast.Turned.{Turned}
+
+-- the families whose tokens are done in place
+abbrev pub hotFamilies : List ℕ
+hotFamilies = plain ∷ always ∷ choice ∷ divide ∷ pickUp ∷ rollUp ∷ maybe ∷ []
+
+abbrev pub hotFamily : ℕ → Bool
+hotFamily f = among f hotFamilies
+
+-- a token that is not done in place
+abbrev pub Cold : List ℕ → ℕ → Type 0
+Cold rom place = hotFamily (familyIn (codeOf (numberOf rom place))) ≡ false
+
+-- a state with the cells, the heights and the place that are held apart from it
+abbrev pub packed : State → List ℕ → ℕ → List ℕ → ℕ → ℕ → State
+packed st c h k b place = moved st (stacks c h k b) place
+
+-- what a code says: 0 goes on, any other but 1 is a refusal
+abbrev pub said : ℕ → Answer
+said code = pick (eqb code 0) Going (Refused code)
+
+-- the part of a state that a token in place goes by
+pub record Goes (st : State) (size : ℕ) (wide : Bool) (base : ℕ) : Type 0 where
+  pub ofSize : st .length ≡ size
+  pub ofWidth : st .wide ≡ wide
+  pub ofBase : baseOf (st .calls) ≡ base
+
+-- THE LAW: a token done in place is the token of every state that is packed
+abbrev pub Agrees : List ℕ → ℕ → Bool → ℕ → List ℕ → ℕ → List ℕ → ℕ → ℕ → Turned → List ℕ → List ℕ → Type 0
+Agrees rom size wide base c h k b place r d l =
+    (st : State) (work store : List ℕ) → Goes st size wide base
+    → tokenOf (scene rom work store (packed st c h k b place)) ≡ turn (said (r .0)) (packed st d (r .1) l (r .2) (r .3)) work store
+
+-- heights and place stay in their limits
+abbrev pub Fits : ℕ → ℕ → Turned → Type 0
+Fits size base r = (r .1 ≤ 64) × (r .2 ≤ 32) × (base ≤ r .2) × (8 ≤ r .3) × (r .3 ≤ size)
+
+-- a token that is left to be done by value: nothing is changed, and it is a cold one
+abbrev pub Left : List ℕ → List ℕ → ℕ → List ℕ → ℕ → ℕ → Turned → List ℕ → List ℕ → Type 0
+Left rom c h k b place r d l = Cold rom place × (d ≡ c) × (l ≡ k) × (r .1 ≡ h) × (r .2 ≡ b) × (r .3 ≡ place)
+
+-- a token that was done in place
+abbrev pub Hot : List ℕ → ℕ → Bool → ℕ → List ℕ → ℕ → List ℕ → ℕ → ℕ → Turned → List ℕ → List ℕ → Type 0
+Hot rom size wide base c h k b place r d l = Fits size base r × (r .0 ≡ 1 → ⊥) × Agrees rom size wide base c h k b place r d l
+
+-- one that changes no cell, whatever they are
+abbrev pub HotAny : List ℕ → ℕ → Bool → ℕ → ℕ → ℕ → Turned → Type 0
+HotAny rom size wide h b place r = (base : ℕ) (c k : List ℕ) → base ≤ b → Hot rom size wide base c h k b place r c k
+
+-- one that looks at the data stack
+abbrev pub HotBy : List ℕ → ℕ → Bool → List ℕ → ℕ → ℕ → ℕ → Turned → Type 0
+HotBy rom size wide c h b place r = (base : ℕ) (k : List ℕ) → base ≤ b → Hot rom size wide base c h k b place r c k
+
+-- what `fast` promises
+abbrev pub Fast : List ℕ → ℕ → Bool → ℕ → List ℕ → ℕ → List ℕ → ℕ → ℕ → Turned → List ℕ → List ℕ → Type 0
+Fast rom size wide base c h k b place r d l =
+    Fits size base r × (r .0 ≡ 1 → Left rom c h k b place r d l) × ((r .0 ≡ 1 → ⊥) → Agrees rom size wide base c h k b place r d l)
+
+-- ---- for the code's own steps
+abbrev pub turned : ℕ → ℕ → ℕ → ℕ → Turned
+turned code h b place = record { 0 = code; 1 = h; 2 = b; 3 = place }
+
+-- a plain token's operand is a literal or none
+abbrev pub literalCode : ℕ
+literalCode = 0x0101_0001
+
+abbrev pub behindPlain : ℕ → ℕ → ℕ
+behindPlain code place = pick (eqb code literalCode) (place + 1 + 4) (place + 1)
+
+abbrev pub operandPlain : List ℕ → ℕ → ℕ → ℕ
+operandPlain rom code place = pick (eqb code literalCode) (word32Of rom (place + 1)) 0
+
+abbrev pub behindBranch : Bool → ℕ → ℕ
+behindBranch wide place = place + 1 + pick wide 2 1
+
+abbrev pub onwardOf : Moved → ℕ → ℕ → Turned
+onwardOf m place next = pick (eqb (m .0) 0) (turned 0 (m .1) (m .2) next) (turned (m .0) (m .1) (m .2) place)
+
+-- a taken branch from the height h, to the height g
+abbrev pub takenOf : Aim → ℕ → ℕ → ℕ → ℕ → Turned
+takenOf (Inside to) h g b place = turned 0 g b to
+takenOf Outside h g b place = turned 19 h b place
