@@ -1,0 +1,217 @@
+-- A step and a run, turn by turn, from what is carried out in place and by value. Assumes nothing.
+use Prim.Native.Nat.{ℕ, zero, suc, _+_, _-_, _<_, _≤_}
+use mathlib.Core.Path.{_≡_, refl, sym, _∙_, ap, subst}
+use mathlib.Core.List.{List}
+use native.Mathlib.Omega.{arith}
+use borrow.Author.Tests.{eq-eqb, ne-eqb}
+use native.Mathlib.Nat.{sub-zero}
+use lib.ListN.{length}
+use Rattle.machine.specs.Scene.{Scene, Turn, scene, turn, refuse}
+use Rattle.machine.specs.Step.{readyOf, tokenOf}
+use Rattle.machine.specs.Run.{ended, then, after, runFrom}
+use Rattle.machine.specs.Sized.{Sized}
+use Rattle.machine.specs.Laws.{watchedOf, keeps-watched}
+use Rattle.machine.specs.KeepsWhole.{Lent, ready-facts, whole-facts}
+use Rattle.machine.specs.Fast.{Cold}
+use Rattle.machine.specs.Carried.{Carried, Drives, Drivable}
+use Rattle.machine.specs.declared.running.Driven.{Driven}
+use Rattle.machine.specs.declared.state.State.{State}
+use Rattle.machine.specs.declared.answer.Answer.{Answer}
+use Rattle.machine.specs.declared.answer.Answer.the-variants.{Going, Finished, Refused, Spent}
+use Rattle.tree.specs.declared.tree.Tree.{Tree}
+use Rattle.machine.specs.KeepsParts.{base-below}
+
+-- ---- a ready state may be driven
+pub drivable : (s : Scene) → readyOf s ≡ Going → Drivable (s .state)
+drivable s e =
+    let f = ready-facts s e in
+    let p = whole-facts (s .state) (f .1) .0 in
+    (p .height, base-below (s .state .length) (s .state .calls) (s .state .back .height) (p .calls), p .returns, p .place .from, p .place .to, under (f .0))
+  where
+    under : Lent s → s .state .length ≤ 16384
+    under l = let a = l .most in let b = l .romTo in omega arith
+
+-- ---- a run goes on behind tokens that were carried out
+-- after a token that leaves the tree alone the state is ready again
+still-ready : (s : Scene) → Sized (s .state) → readyOf s ≡ Going → tokenOf s .answer ≡ Going → tokenOf s .state .tree ≡ s .state .tree
+    → (readyOf (then s (tokenOf s)) ≡ Going) × Sized (tokenOf s .state)
+still-ready s z e g t =
+    let k = keeps-watched s z e g in
+    let a = whole-facts (s .state) (ready-facts s e .1) .1 in
+    let n : tokenOf s .state .tree .active ≡ s .state .tree .active = ap (λ (x : Tree). x .active) t in
+    (k .0 ∙ rw (n, ne-eqb (s .state .tree .active) 0 (λ q. omega arith)), k .1)
+
+-- the first token of a run from a ready state
+run-first : (b n : ℕ) (s : Scene) → readyOf s ≡ Going → n < b
+    → runFrom (b - n) n s ≡ after (tokenOf s .answer) n (then s (tokenOf s)) (λ to. runFrom (b - (n + 1)) (n + 1) to)
+unfolding runFrom
+run-first b n s e l =
+    let k : b - n ≡ suc (b - (n + 1)) = omega arith in
+    rw (k, e, runFrom)
+
+abbrev pub Behind : ℕ → ℕ → ℕ → Scene → Scene → Type 0
+Behind b n k s t = (runFrom (b - n) n s ≡ runFrom (b - (n + k)) (n + k) t) × (readyOf t ≡ Going) × Sized (t .state)
+
+carried-run : (k b n : ℕ) (s t : Scene) → Carried k s t → Sized (s .state) → readyOf s ≡ Going → n + k ≤ b → Behind b n k s t
+carried-run zero b n s t c z e l =
+    let q : n + 0 ≡ n = omega arith in
+    (rw q (ap (λ (x : Scene). runFrom (b - n) n x) c), subst (λ (x : Scene). readyOf x ≡ Going) c e, subst (λ (x : Scene). Sized (x .state)) c z)
+carried-run (suc k) b n s t c z e l =
+    let r = still-ready s z e (c .0) (c .1) in
+    let i = carried-run k b (n + 1) (then s (tokenOf s)) t (c .2) (r .1) (r .0) (omega arith) in
+    let q : n + suc k ≡ n + 1 + k = omega arith in
+    (run-first b n s e (omega arith) ∙ rw (c .0, q) (i .0), i .1, i .2)
+
+-- the same by counts
+pub driven-run : (b n m : ℕ) (s t : Scene) → n ≤ m → m ≤ b → Carried (m - n) s t → Sized (s .state) → readyOf s ≡ Going
+    → (runFrom (b - n) n s ≡ runFrom (b - m) m t) × (readyOf t ≡ Going) × Sized (t .state)
+driven-run b n m s t l h c z e =
+    let q : n + (m - n) ≡ m = omega arith in
+    let r = carried-run (m - n) b n s t c z e (omega arith) in
+    (rw q at (r .0), r .1, r .2)
+
+-- ---- how a run ends
+-- the budget is spent
+pub run-spent : (b n : ℕ) (s : Scene) → readyOf s ≡ Going → b ≤ n → runFrom (b - n) n s ≡ ended (Spent n) n s
+unfolding runFrom
+run-spent b n s e l = let k : b - n ≡ 0 = omega arith in rw (k, e)
+
+-- a token is refused
+pub run-refused : (b n why : ℕ) (s : Scene) → readyOf s ≡ Going → n < b → tokenOf s ≡ refuse why s → runFrom (b - n) n s ≡ ended (Refused why) n s
+run-refused b n why s e l t =
+    run-first b n s e l ∙ ap (λ (r : Turn). after (r .answer) n (then s r) (λ to. runFrom (b - (n + 1)) (n + 1) to)) t
+
+-- a token was done by value: what follows by its answer
+pub run-turn : (b n : ℕ) (s : Scene) (r : Turn) (a : Answer) → readyOf s ≡ Going → n < b → r ≡ tokenOf s → r .answer ≡ a
+    → runFrom (b - n) n s ≡ after a n (then s r) (λ to. runFrom (b - (n + 1)) (n + 1) to)
+run-turn b n s r a e l t g =
+    run-first b n s e l ∙ ap (λ (x : Turn). after (x .answer) n (then s x) (λ to. runFrom (b - (n + 1)) (n + 1) to)) (sym t)
+    ∙ ap (λ (x : Answer). after x n (then s r) (λ to. runFrom (b - (n + 1)) (n + 1) to)) g
+
+-- and whether the state behind it is ready
+pub turn-ready : (s : Scene) (r : Turn) → Sized (s .state) → readyOf s ≡ Going → r ≡ tokenOf s → r .answer ≡ Going
+    → (readyOf (then s r) ≡ watchedOf (r .state)) × Sized (r .state)
+turn-ready s r z e t g =
+    subst (λ (x : Turn). (readyOf (then s x) ≡ watchedOf (x .state)) × Sized (x .state)) (sym t)
+    (keeps-watched s z e (ap (λ (x : Turn). x .answer) (sym t) ∙ g))
+
+-- the root became active: the run's next test is 7
+pub run-rooted : (k n : ℕ) (s : Scene) → readyOf s ≡ watchedOf (s .state) → s .state .tree .active ≡ 0 → runFrom k n s ≡ ended (Refused 7) n s
+unfolding runFrom
+run-rooted zero n s e a = let r : readyOf s ≡ Refused 7 = e ∙ rw (eq-eqb _ _ a) in rw r
+run-rooted (suc k) n s e a = let r : readyOf s ≡ Refused 7 = e ∙ rw (eq-eqb _ _ a) in rw (r, runFrom)
+
+pub ready-again : (s : Scene) → readyOf s ≡ watchedOf (s .state) → (s .state .tree .active ≡ 0 → ⊥) → readyOf s ≡ Going
+ready-again s e a = e ∙ rw (ne-eqb _ _ a)
+
+-- what is known before the first token
+pub run-known : (k n : ℕ) (s : Scene) (a : Answer) → readyOf s ≡ a → (a ≡ Going → ⊥) → runFrom k n s ≡ ended a n s
+unfolding runFrom
+run-known zero n s Going e h = absurd (h refl)
+run-known zero n s Finished e h = rw e
+run-known zero n s (Refused why) e h = rw e
+run-known zero n s (Spent m) e h = rw e
+run-known (suc k) n s Going e h = absurd (h refl)
+run-known (suc k) n s Finished e h = rw (e, runFrom)
+run-known (suc k) n s (Refused why) e h = rw (e, runFrom)
+run-known (suc k) n s (Spent m) e h = rw (e, runFrom)
+
+-- ---- a step
+-- a token that was carried out in place
+pub one-carried : (n : ℕ) (s t : Scene) → n ≡ 1 → Carried (n - 0) s t → (tokenOf s .answer ≡ Going) × (then s (tokenOf s) ≡ t)
+one-carried n s t e c =
+    let k : n - 0 ≡ 1 = omega arith in
+    let d = subst (λ (j : ℕ). Carried j s t) k c in
+    (d .0, d .2)
+
+pub none-carried : (n : ℕ) (s t : Scene) → n ≡ 0 → Carried (n - 0) s t → s ≡ t
+none-carried n s t e c = let k : n - 0 ≡ 0 = omega arith in subst (λ (j : ℕ). Carried j s t) k c
+
+module _ (rom work store : List ℕ) (st : State) (d : Driven) (v : Drives rom st 0 1 d) where
+  pub step-carried : d .count ≡ 1 → turn Going (d .state) work store ≡ tokenOf (scene rom work store st)
+  step-carried e =
+      let o = one-carried (d .count) (scene rom work store st) (scene rom work store (d .state)) e (v .1 work store .0) in
+      sym (ap (λ (a : Answer). turn a (tokenOf (scene rom work store st) .state) (tokenOf (scene rom work store st) .work) (tokenOf (scene rom work store st) .store)) (o .0)
+      ∙ ap (λ (x : Scene). turn Going (x .state) (x .work) (x .store)) (o .1))
+
+  module _ (n : d .count ≡ 1 → ⊥) where
+    none : d .count ≡ 0
+    none = zero-of (d .count) (v .0 .1) n
+      where
+        zero-of : (k : ℕ) → k ≤ 1 → (k ≡ 1 → ⊥) → k ≡ 0
+        zero-of zero l f = refl
+        zero-of (suc k) l f = absurd (f (omega arith))
+
+    same : scene rom work store st ≡ scene rom work store (d .state)
+    same = none-carried (d .count) (scene rom work store st) (scene rom work store (d .state)) none (v .1 work store .0)
+
+    pub ready-here : readyOf (scene rom work store st) ≡ Going → readyOf (scene rom work store (d .state)) ≡ Going
+    ready-here e = subst (λ (x : Scene). readyOf x ≡ Going) same e
+
+    pub cold-here : d .code ≡ 1 → Cold rom (d .state .place)
+    cold-here c = v .1 work store .1 .cold c
+
+    pub step-cold : (r : Turn) → r ≡ tokenOf (scene rom work store (d .state)) → r ≡ tokenOf (scene rom work store st)
+    step-cold r e = e ∙ ap (λ (x : Scene). tokenOf x) (sym same)
+
+    pub step-refused-here : (d .code ≡ 1 → ⊥) → turn (Refused (d .code)) (d .state) work store ≡ tokenOf (scene rom work store st)
+    step-refused-here c =
+        step-cold (turn (Refused (d .code)) (d .state) work store)
+        (sym (v .1 work store .1 .refused (λ z. n (v .1 work store .1 .spent z)) c))
+
+-- ---- the loop of a run
+-- a ready scene, whose run is the whole run
+abbrev pub Going-on : ℕ → Scene → ℕ → Scene → Type 0
+Going-on b s₀ n s = (readyOf s ≡ Going) × Sized (s .state) × (runFrom (b - n) n s ≡ runFrom b 0 s₀)
+
+pub begun : (b : ℕ) (s : Scene) → readyOf s ≡ Going → Sized (s .state) → Going-on b s 0 s
+begun b s e z = (e, z, ap (λ (k : ℕ). runFrom k 0 s) (sub-zero b))
+
+module _ (b n : ℕ) (s₀ : Scene) (rom work store : List ℕ) (st : State) (i : Going-on b s₀ n (scene rom work store st)) (d : Driven) (v : Drives rom st n b d) where
+  abbrev there : Scene
+  there = scene rom work store (d .state)
+
+  -- behind the tokens that were carried out in place
+  pub driven : Going-on b s₀ (d .count) there
+  driven =
+      let r = driven-run b n (d .count) (scene rom work store st) there (v .0 .0) (v .0 .1) (v .1 work store .0) (i .1) (i .0) in
+      (r .1, r .2, sym (r .0) ∙ i .2)
+
+  pub all-spent : b ≤ d .count → ended (Spent (d .count)) (d .count) there ≡ runFrom b 0 s₀
+  all-spent l = sym (run-spent b (d .count) there (driven .0) l) ∙ driven .2
+
+  module _ (l : d .count < b) where
+    not-done : d .code ≡ 0 → ⊥
+    not-done z = let e = v .1 work store .1 .spent z in omega arith
+
+    pub ends-refused : (d .code ≡ 1 → ⊥) → ended (Refused (d .code)) (d .count) there ≡ runFrom b 0 s₀
+    ends-refused c =
+        sym (run-refused b (d .count) (d .code) there (driven .0) l (v .1 work store .1 .refused not-done c)) ∙ driven .2
+
+    pub cold-there : d .code ≡ 1 → Cold rom (d .state .place)
+    cold-there c = v .1 work store .1 .cold c
+
+    -- and behind the token that was done by value, by its answer
+    module _ (r : Turn) (t : r ≡ tokenOf there) where
+      pub turn-ends : (a : Answer) → r .answer ≡ a → after a (d .count) (then there r) (λ to. runFrom (b - (d .count + 1)) (d .count + 1) to) ≡ runFrom b 0 s₀
+      turn-ends a g = sym (run-turn b (d .count) there r a (driven .0) l t g) ∙ driven .2
+
+      pub turn-rooted : r .answer ≡ Going → r .state .tree .active ≡ 0 → ended (Refused 7) (d .count + 1) (then there r) ≡ runFrom b 0 s₀
+      turn-rooted g a =
+          let k = turn-ready there r (driven .1) (driven .0) t g in
+          sym (run-rooted (b - (d .count + 1)) (d .count + 1) (then there r) (k .0) a) ∙ turn-ends Going g
+
+      pub turn-goes : r .answer ≡ Going → (r .state .tree .active ≡ 0 → ⊥) → Going-on b s₀ (d .count + 1) (then there r)
+      turn-goes g a =
+          let k = turn-ready there r (driven .1) (driven .0) t g in
+          (ready-again (then there r) (k .0) a, k .1, turn-ends Going g)
+
+      -- memory keeps its size
+      pub turn-lent : r .answer ≡ Going → (r .state .tree .active ≡ 0 → ⊥) → (length (r .work) ≡ 16384) × (length (r .store) ≡ 16384)
+      turn-lent g a = let f = ready-facts (then there r) (turn-goes g a .0) .0 in (f .work, f .store)
+
+pub ends-spent : (b n : ℕ) (s₀ s : Scene) → Going-on b s₀ n s → b ≤ n → ended (Spent n) n s ≡ runFrom b 0 s₀
+ends-spent b n s₀ s i l = sym (run-spent b n s (i .0) l) ∙ i .2
+
+pub not-spent : (n : ℕ) → Spent n ≡ Going → ⊥
+not-spent n e = let z : _≡_ {A = ℕ} 0 1 = cc in omega arith

@@ -1,0 +1,23 @@
+use borrow.Author.Tests.{lt-ltb, le-ltb, eq-eqb, ne-eqb}
+use Rattle.machine.specs.Step.{readyOf}
+use Rattle.machine.proofs.Wholes.{not-on, not-off}
+use borrow.Author.Needs.{needs}
+use Rattle.machine.proofs.running.ready.Statement.{statement}
+use Rattle.machine.proofs.running.ready.Tie as tie
+
+pub ready-spec : {M : Type 1} → statement M
+unfolding readyOf
+ready-spec =
+    tie.close
+    (tie.spec
+    (λ c. simp (ne-eqb _ _ (c .if1 .taken)))
+    (λ c. simp (eq-eqb _ _ (c .before .if1 .left), ne-eqb _ _ (c .if2 .taken)))
+    (λ c. simp (eq-eqb _ _ (c .before .before .if1 .left), eq-eqb _ _ (c .before .if2 .left), lt-ltb _ _ (c .if3 .taken)))
+    (λ c. simp (eq-eqb _ _ (c .before .before .before .if1 .left), eq-eqb _ _ (c .before .before .if2 .left), le-ltb _ _ (c .before .if3 .left), lt-ltb _ _ (c .if4 .taken)))
+    (λ c κs. search needs)
+    (λ c. simp (eq-eqb _ _ (c .before .before .before .before .before .if1 .left), eq-eqb _ _ (c .before .before .before .before .if2 .left), le-ltb _ _ (c .before .before .before .if3 .left), le-ltb _ _ (c .before .before .if4 .left), ← c .before .is-whole .ensures, not-off (c .before .is-whole .result) (c .if5 .taken)))
+    (λ c. simp (eq-eqb _ _ (c .before .before .before .before .before .before .before .if1 .left), eq-eqb _ _ (c .before .before .before .before .before .before .if2 .left), le-ltb _ _ (c .before .before .before .before .before .if3 .left), le-ltb _ _ (c .before .before .before .before .if4 .left), ← c .before .before .before .is-whole .ensures, not-on (c .before .before .before .is-whole .result) (c .before .before .if5 .left), lt-ltb _ _ (c .if6 .taken)))
+    (λ c. search needs)
+    (λ c. simp (eq-eqb _ _ (c .before .before .before .before .before .before .before .before .before .if1 .left), eq-eqb _ _ (c .before .before .before .before .before .before .before .before .if2 .left), le-ltb _ _ (c .before .before .before .before .before .before .before .if3 .left), le-ltb _ _ (c .before .before .before .before .before .before .if4 .left), ← c .before .before .before .before .before .is-whole .ensures, not-on (c .before .before .before .before .before .is-whole .result) (c .before .before .before .before .if5 .left), le-ltb _ _ (c .before .before .if6 .left), lt-ltb _ _ (c .if7 .taken)))
+    (λ c. simp (eq-eqb _ _ (c .before .before .before .before .before .before .before .before .before .before .if1 .left), eq-eqb _ _ (c .before .before .before .before .before .before .before .before .before .if2 .left), le-ltb _ _ (c .before .before .before .before .before .before .before .before .if3 .left), le-ltb _ _ (c .before .before .before .before .before .before .before .if4 .left), ← c .before .before .before .before .before .before .is-whole .ensures, not-on (c .before .before .before .before .before .before .is-whole .result) (c .before .before .before .before .before .if5 .left), le-ltb _ _ (c .before .before .before .if6 .left), le-ltb _ _ (c .before .if7 .left), c .if8 .taken))
+    (λ c. simp (eq-eqb _ _ (c .before .before .before .before .before .before .before .before .before .before .if1 .left), eq-eqb _ _ (c .before .before .before .before .before .before .before .before .before .if2 .left), le-ltb _ _ (c .before .before .before .before .before .before .before .before .if3 .left), le-ltb _ _ (c .before .before .before .before .before .before .before .if4 .left), ← c .before .before .before .before .before .before .is-whole .ensures, not-on (c .before .before .before .before .before .before .is-whole .result) (c .before .before .before .before .before .if5 .left), le-ltb _ _ (c .before .before .before .if6 .left), le-ltb _ _ (c .before .if7 .left), c .if8 .left)))

@@ -1,0 +1,35 @@
+use denote.Ref.{now}
+use mathlib.Core.Path.{sym, _∙_}
+use Rattle.machine.specs.Scene.{scene}
+use Rattle.machine.specs.KeepsWhole.{not-going, not-finished}
+use Rattle.machine.specs.declared.answer.Answer.the-variants.{Finished, Refused, Spent}
+use Rattle.machine.proofs.Turns.{run-known, not-spent}
+use borrow.Author.Needs.{needs}
+use Rattle.machine.proofs.running.run.Statement.{statement}
+use Rattle.machine.proofs.running.run.Tie as tie
+
+pub run-spec : {M : Type 1} → statement M
+run-spec =
+    tie.close
+    (tie.spec
+    (λ c κs. search needs)
+    (λ c. search needs)
+    (λ c κs. (sym (c .before .before .before .before .ready .ensures) ∙ c .before .before .enum-told .given .1, record { stack = search needs; back = search needs; calls = let a = c .before .before .before .before .before .before .before .before .before .before .good .1 .1 .1 .0 .1 .1 .1 .1 .1 .1 .1 .1 .0 in record { places = search needs; wides = search needs; bases = search needs }; numbers = let a = c .before .before .before .before .before .before .before .before .before .before .good .1 .1 .1 .0 .1 .1 .1 .1 .1 .1 .1 .1 .1 .0 in record { names = search needs; kinds = search needs; values = search needs; wides = search needs }; tree = let a = c .before .before .before .before .before .before .before .before .before .before .good .1 .1 .1 .0 .1 .1 .1 .1 .1 .1 .1 .1 .1 .1 .1 .0 in record { parents = search needs; owners = search needs; names = search needs; values = search needs } }))
+    (λ c. search needs)
+    (λ c κs. search needs)
+    (λ c. search needs)
+    (λ c κs. search needs)
+    (λ c. search needs)
+    (λ c κs. search needs)
+    (λ c. search needs)
+    (λ c. search needs)
+    (λ c. search needs)
+    (λ c. search needs)
+    (λ c. search needs)
+    (λ c. let a = c .before .before .before .before .before .before .before .before .before .args in rw (c .ended .ensures) (sym (run-known (a .budget) 0 (scene (now (a .rom)) (now (a .work)) (now (a .store)) (a .st)) Finished (sym (c .before .before .before .ready .ensures) ∙ c .before .enum-told2 .given .1) not-finished)))
+    (λ c. search needs)
+    (λ c. search needs)
+    (λ c. let a = c .before .before .before .before .before .before .before .before .before .before .args in rw (c .ended2 .ensures) (sym (run-known (a .budget) 0 (scene (now (a .rom)) (now (a .work)) (now (a .store)) (a .st)) (Refused _) (sym (c .before .before .before .before .ready .ensures) ∙ c .before .before .why .given .1) (not-going _))))
+    (λ c. search needs)
+    (λ c. search needs)
+    (λ c. let a = c .before .before .before .before .before .before .before .before .before .before .args in rw (c .ended3 .ensures) (sym (run-known (a .budget) 0 (scene (now (a .rom)) (now (a .work)) (now (a .store)) (a .st)) (Spent _) (sym (c .before .before .before .before .ready .ensures) ∙ c .before .before .n .given .1) (not-spent _)))))
