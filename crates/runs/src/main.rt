@@ -1,0 +1,77 @@
+// Opens ROMs, runs them, and shows all that is left: a line of standard input each, by its first letter. Behind R stand a ROM in hex and a budget,
+// behind Z how many zero bytes a ROM has, behind D a number of two digits, a ROM and a budget: the state then is damaged in the way that has this
+// number, and offered again. Behind O stand a ROM and a budget, for the order in which the tests of a step and a run come.
+mod damage;
+mod line;
+mod orders;
+mod same;
+mod say;
+mod show;
+mod sum;
+mod trial;
+
+ghost use Prim.Native.Nat.{_≤_, _<_};
+ghost use lib.ListN.{length};
+use crate::line::bytes_from;
+use crate::line::digits_at;
+use crate::line::end_of;
+use crate::orders::show_orders;
+use crate::say::say;
+use crate::trial::show_damaged;
+use crate::trial::show_run;
+use libc::STDIN_FILENO;
+
+// R: a ROM and a budget.
+fn one_run(line: &[u8]) {
+    let mut space = [0u8; 2048];
+    let n = bytes_from(line, 2, &mut space);
+    show_run(&space[..n], digits_at(line, n + n + 3));
+}
+
+// Z: a ROM of zeros.
+fn one_long(line: &[u8]) {
+    let space = [0u8; 16400];
+    let n = io::count(digits_at(line, 2) as isize, &space);
+    show_run(&space[..n], 0);
+}
+
+// D: a damaged state.
+fn one_damage(line: &[u8]) {
+    let mut space = [0u8; 2048];
+    let n = bytes_from(line, 5, &mut space);
+    show_damaged(digits_at(line, 2), &space[..n], digits_at(line, n + n + 6));
+}
+
+// O: orders.
+fn one_order(line: &[u8]) {
+    let mut space = [0u8; 2048];
+    let n = bytes_from(line, 2, &mut space);
+    show_orders(&space[..n], digits_at(line, n + n + 3));
+}
+
+fn one_line(line: &[u8]) {
+    match rom::byte(line, 0) {
+        b'R' => one_run(line),
+        b'Z' => one_long(line),
+        b'D' => one_damage(line),
+        b'O' => one_order(line),
+        _ => say(b"no such line\n"),
+    }
+}
+
+fn all_lines(text: &[u8])
+    requires { ⌜ length (now text) ≤ 65536 ⌝ }
+{
+    let mut at = 0;
+    while at < text.len() {
+        let end = end_of(text, at);
+        one_line(&text[at..end]);
+        at = end + 1;
+    }
+}
+
+fn main() {
+    let mut text = [0u8; 65536];
+    let n = io::read_full(STDIN_FILENO, &mut text);
+    all_lines(&text[..n]);
+}

@@ -1,0 +1,216 @@
+#!/usr/bin/env python3
+"""What crates/runs is run on and must print: the worked cases of tests/cases.txt, the bench ROMs of document 01 that only run, every condition of
+refusal 7, and the order of the tests.
+
+    python3 tests/runs.py           writes crates/runs/stdin and crates/runs/stdout
+    python3 tests/runs.py --check   compares them with what it would write, and exits 1 where they differ
+
+A case starts with 'case HEXROM BUDGET' ('-': no bytes; paths may stand behind) and ends with '.'. Of the lines between, these are compared:
+
+    open N                 0 opened, else the refusal, and then nothing more
+    run finished | run budget | run refused N
+    steps N
+    place P width W
+    data X X ...           the lowest first
+    return X X ...
+    frames R:B ...         the oldest first: return place, base
+    numbers N:K:V ...      the oldest first: number, kind, value (of a colon the body's place, of a variable its address)
+    nodes A P P ...        the active node, then each node's parent, node 0 first
+    prop NODE NAME VALUE   a line each, in store order; hex, '-' where empty
+    work N SUM             the work place, CRC-32 of the 16,384 work bytes
+    store SUM              CRC-32 of the 16,384 store bytes
+
+The lines screen, marks and find belong to calls that crates/runs does not make.
+"""
+import pathlib
+import sys
+import zlib
+
+TESTS = pathlib.Path(__file__).parent
+RUNS = TESTS.parent / "crates" / "runs"
+NOT_RUN = ("screen", "marks", "find")
+INPUT_MOST = 65536
+
+
+def with_header(program):
+    length = len(program) + 8
+    return bytes([0xFD, 8]) + (sum(program) % 65536).to_bytes(2, "big") + length.to_bytes(4, "big") + program
+
+
+def crc(content):
+    return f"{zlib.crc32(content + bytes(16384 - len(content))):08X}"
+
+
+def worked_cases():
+    """Each worked case: its line of input, and the lines that it must give."""
+    asked, told = None, []
+    for line in (TESTS / "cases.txt").read_text().splitlines():
+        word = line.split(" ")[0]
+        if word == "case":
+            rom, budget = line.split(" ")[1:3]
+            asked, told = f"R {rom.replace('-', '')} {budget}", []
+        elif word == ".":
+            yield asked, told
+        elif word not in NOT_RUN:
+            told.append(line)
+
+
+def left(answer, steps, place, data=(), back=(), frames="", numbers="", nodes="1 0 0", props=(), work_place=0, work=b"", store=b""):
+    """The lines of a run with offsets of 8 bits."""
+    lines = ["open 0", f"run {answer}", f"steps {steps}", f"place {place} width 8"]
+    lines.append(" ".join(["data", *(f"{cell:08X}" for cell in data)]))
+    lines.append(" ".join(["return", *(f"{cell:08X}" for cell in back)]))
+    lines.append(f"frames {frames}".rstrip())
+    lines.append(f"numbers {numbers}".rstrip())
+    lines.append(f"nodes {nodes}")
+    lines += [f"prop {prop}" for prop in props]
+    return lines + [f"work {work_place} {crc(work)}", f"store {crc(store)}"]
+
+
+SCALE = bytes.fromhex("FD0805170000001E12057363616C650201A8011112056C616E6573011000")
+SCALE_STORE = b"name" + b"scale\0" + b"lanes" + bytes([0, 0, 0, 3])
+SCALE_PROPS = ("1 6E616D65 7363616C6500", "1 6C616E6573 00000003")
+
+
+def bench_roms():
+    """The bench ROMs of document 01 without a star."""
+    pushes = with_header(b"\xA6" * 64 + b"\x00")
+    yield f"R {pushes.hex().upper()} 1000", left("finished", 65, 73, data=[1] * 64)
+    pushes = with_header(b"\xA6" * 65 + b"\x00")
+    yield f"R {pushes.hex().upper()} 1000", left("refused 15", 64, 72, data=[1] * 64)
+    yield "R FD0800000000000800 1000", ["open 4"]
+    yield "Z 16385", ["open 1"]
+    yield "Z 16384", ["open 2"]
+    yield f"R {SCALE.hex().upper()} 100000", left("finished", 7, 30, props=SCALE_PROPS, work_place=4, work=bytes([0, 0, 0, 3]), store=SCALE_STORE)
+    unsummed = SCALE[:2] + bytes(2) + SCALE[4:]
+    yield f"R {unsummed.hex().upper()} 100000", ["open 5"]
+
+
+# Two calls open after 14 tokens, with bases 0 and 1 and a return cell each: 8 new-device, 10 b(") "scale", 17 device-name, 19 number 800 (its body from
+# 23: 1 >r 2 drop r> drop), 30 number 801 (its body from 34: 0 >r 800 r> drop), 41 the variable 802, 45 3, 46 801, 48 drop, 49 finish-device, 51 end0.
+CALLS = with_header(
+    bytes.fromhex("011F" "12057363616C65" "0201" "B50800B7A630A7463146C2" "B50801B7A53008003146C2" "B50802B9" "A8" "0801" "46" "0127" "00")
+)
+CALLS_NUMBERS = "800:colon:00000017 801:colon:00000022 802:variable:20000000"
+CALLS_LEFT = {
+    "numbers": CALLS_NUMBERS,
+    "props": ("2 6E616D65 7363616C6500",),
+    "work_place": 4,
+    "store": b"name" + b"scale\0",
+}
+
+
+def calls_open():
+    """The state that is damaged below, and how it goes on whole."""
+    rom = CALLS.hex().upper()
+    yield f"R {rom} 14", left("budget", 14, 26, data=(3, 2), back=(0, 1), frames="48:0 38:1", nodes="2 0 0 1", **CALLS_LEFT)
+    yield f"R {rom} 1000", left("finished", 24, 52, nodes="1 0 0 1", **CALLS_LEFT)
+
+
+# The conditions of refusal 7 as document 01 has them, by the number under which crates/runs knows each.
+DAMAGES = (
+    "data height 65",
+    "return height 33",
+    "17 calls",
+    "work place 16,385",
+    "257 program numbers",
+    "1 node",
+    "33 nodes",
+    "129 properties",
+    "a name of 0 bytes",
+    "a name of 32 bytes",
+    "a value of 16,385 bytes",
+    "program number 7FF",
+    "program number 1000",
+    "place 7",
+    "place above the length",
+    "return place 7",
+    "return place above the length",
+    "body place 7",
+    "body place above the length",
+    "a base above the next one's",
+    "the last base above the return height",
+    "the active node absent",
+    "a record's node absent",
+    "node 0 active",
+    "a parent not older than its node",
+    "node 1 its own parent",
+    "the root's parent not 0",
+    "live bytes above 16,384, each length in its limit",
+)
+WHOLE = 99
+# The damages that the finished scale ROM, which has no calls and no numbers, can have too: a finished state is tested like any other.
+OF_A_FINISHED = (0, 1, 2, 3, 4, 5, 6, 7, 8, 9, 10, 13, 14, 21, 22, 23, 25, 26, 27)
+
+
+def refused_state(k):
+    return [f"damaged {k} step refused 7 run refused 7 steps 0 unchanged"]
+
+
+def damages():
+    calls, scale = CALLS.hex().upper(), SCALE.hex().upper()
+    for k in range(len(DAMAGES)):
+        yield f"D {k:02} {calls} 14", refused_state(k)
+    for k in OF_A_FINISHED:
+        yield f"D {k:02} {scale} 100000", refused_state(k)
+    yield f"D {WHOLE} {calls} 14", [f"damaged {WHOLE} step going run finished steps 10 changed"]
+    yield f"D {WHOLE} {scale} 100000", [f"damaged {WHOLE} step finished run finished steps 0 unchanged"]
+
+
+# States and buffers with more than one thing wrong, in the order in which crates/runs offers them, and what the step and the run say: each of 6, 1, 7, 4,
+# finish and budget comes before all behind it.
+NOT_DONE = "step refused {0} run refused {0} steps 0 unchanged"
+FINISHED = "step finished run finished steps 0 unchanged"
+ORDERS = (
+    ("damaged state, no ROM, work memory one byte short", NOT_DONE.format(6)),
+    ("damaged state, no ROM, store one byte long", NOT_DONE.format(6)),
+    ("damaged state, no ROM", NOT_DONE.format(1)),
+    ("damaged state, ROM of 16,385 bytes", NOT_DONE.format(1)),
+    ("damaged state with a length above the ROM", NOT_DONE.format(7)),
+    ("length above the ROM, budget 0", NOT_DONE.format(4)),
+    ("unfinished, budget 0", "step going run budget steps 0 changed"),
+    ("finished, budget 0", FINISHED),
+    ("finished", FINISHED),
+    ("finished and damaged", NOT_DONE.format(7)),
+    ("finished, length above the ROM", NOT_DONE.format(4)),
+)
+OPENINGS = (
+    ("no ROM: the all-zero state, the buffers as they were", "refused 1 unchanged"),
+    ("a good ROM", "going changed"),
+)
+
+
+def orders():
+    lines = [f"order {k} {told}" for k, (_, told) in enumerate(ORDERS)]
+    lines += [f"opening {told}" for _, told in OPENINGS]
+    yield f"O {CALLS.hex().upper()} 14", lines
+
+
+def files():
+    asked, told = [], []
+    for cases in (worked_cases(), bench_roms(), calls_open(), damages(), orders()):
+        for line, lines in cases:
+            asked.append(line)
+            told += lines
+    return {"stdin": "\n".join(asked) + "\n", "stdout": "\n".join(told) + "\n"}
+
+
+def main():
+    good = True
+    for name, text in files().items():
+        path = RUNS / name
+        if name == "stdin" and len(text) > INPUT_MOST:
+            print(f"{len(text)} bytes of input, and {INPUT_MOST} are read")
+            return 1
+        if "--check" not in sys.argv:
+            path.write_text(text)
+        elif path.read_text() != text:
+            print(f"crates/runs/{name} is not what tests/runs.py makes of tests/cases.txt")
+            good = False
+        else:
+            print(f"crates/runs/{name}: {len(text.splitlines())} lines as expected")
+    return 0 if good else 1
+
+
+if __name__ == "__main__":
+    sys.exit(main())
