@@ -1,6 +1,6 @@
 #!/usr/bin/env python3
 """What crates/runs is run on and must print: the worked cases of tests/cases.txt, the bench ROMs of document 01 that only run, every condition of
-refusal 7, and the order of the tests.
+refusal 7, and the order of the tests. The worked cases were worked out from document 01 apart from the Rattle code, the rest by hand here.
 
     python3 tests/runs.py           writes crates/runs/stdin and crates/runs/stdout
     python3 tests/runs.py --check   compares them with what it would write, and exits 1 where they differ
@@ -86,8 +86,9 @@ def bench_roms():
     yield f"R {unsummed.hex().upper()} 100000", ["open 5"]
 
 
-# Two calls open after 14 tokens, with bases 0 and 1 and a return cell each: 8 new-device, 10 b(") "scale", 17 device-name, 19 number 800 (its body from
-# 23: 1 >r 2 drop r> drop), 30 number 801 (its body from 34: 0 >r 800 r> drop), 41 the variable 802, 45 3, 46 801, 48 drop, 49 finish-device, 51 end0.
+# Two calls open after 14 tokens, with bases 0 and 1 and a return cell each: 8 new-device, 10 b(") "scale", 17 device-name, 19 number 800 (its body
+# from 23: 1 >r 2 drop r> drop), 30 number 801 (its body from 34: 0 >r 800 r> drop), 41 the variable 802, 45 3, 46 801, 48 drop, 49 finish-device,
+# 51 end0.
 CALLS = with_header(
     bytes.fromhex("011F" "12057363616C65" "0201" "B50800B7A630A7463146C2" "B50801B7A53008003146C2" "B50802B9" "A8" "0801" "46" "0127" "00")
 )
@@ -157,8 +158,8 @@ def damages():
     yield f"D {WHOLE} {scale} 100000", [f"damaged {WHOLE} step finished run finished steps 0 unchanged"]
 
 
-# States and buffers with more than one thing wrong, in the order in which crates/runs offers them, and what the step and the run say: each of 6, 1, 7, 4,
-# finish and budget comes before all behind it.
+# States and buffers with more than one thing wrong, in the order in which crates/runs offers them, and what the step and the run say: each of 6, 1,
+# 7, 4, finish and budget comes before all behind it.
 NOT_DONE = "step refused {0} run refused {0} steps 0 unchanged"
 FINISHED = "step finished run finished steps 0 unchanged"
 ORDERS = (

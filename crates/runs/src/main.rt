@@ -2,6 +2,7 @@
 // behind Z how many zero bytes a ROM has, behind D a number of two digits, a ROM and a budget: the state then is damaged in the way that has this
 // number, and offered again. Behind O stand a ROM and a budget, for the order in which the tests of a step and a run come.
 mod damage;
+mod evaluator;
 mod line;
 mod orders;
 mod same;

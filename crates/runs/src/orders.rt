@@ -1,5 +1,7 @@
-// The order of a step's and a run's tests: 6, 1, 7, 4, then finish, then budget, then the token. Each state is offered with all that comes later wrong too.
+// The order of a step's and a run's tests: 6, 1, 7, 4, then finish, then budget, then the token. A state is offered with things wrong that come later.
 use crate::damage::damaged;
+use crate::evaluator::open;
+use crate::evaluator::run;
 use crate::same::same_states;
 use crate::say::say;
 use crate::say::say_number;
@@ -102,20 +104,18 @@ fn show_opening(rom: &[u8]) {
     let mut work = [0xA5u8; 16384];
     let mut store = [0x5Au8; 16384];
     let sums = both_sums(&work, &store);
-    let opened = machine::open(rom, &mut work, &mut store);
+    let opened = open(rom, &mut work, &mut store);
     let answer = opened.answer;
     say(b"opening");
     show_answer(answer);
-    show_kept(
-        same_states(opened.state, zero_state()) & same_sums(sums, both_sums(&work, &store)),
-    );
+    show_kept(same_states(opened.state, zero_state()) & same_sums(sums, both_sums(&work, &store)));
 }
 
 pub fn show_orders(rom: &[u8], budget: u32) {
     let mut work = [0u8; 16384];
     let mut store = [0u8; 16384];
     let state = state_after(rom, &mut work, &mut store, budget);
-    let ran = machine::run(rom, &mut work, &mut store, state, 1000);
+    let ran = run(rom, &mut work, &mut store, state, 1000);
     let bad = damaged(0, state);
     show_sizes(&rom[..0], bad);
     show_roms(rom, state, bad);

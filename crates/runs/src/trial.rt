@@ -1,5 +1,8 @@
 // A ROM opened and run, and a damaged state offered again.
 use crate::damage::damaged;
+use crate::evaluator::open;
+use crate::evaluator::run;
+use crate::evaluator::step;
 use crate::same::same_states;
 use crate::say::say;
 use crate::say::say_number;
@@ -34,7 +37,7 @@ fn show_counted(answer: Answer, count: u32) {
 }
 
 fn show_opened(rom: &[u8], work: &mut [u8], store: &mut [u8], state: State, budget: u32) {
-    let ran = machine::run(rom, &mut *work, &mut *store, state, budget);
+    let ran = run(rom, &mut *work, &mut *store, state, budget);
     let answer = ran.answer;
     show_counted(answer, ran.count);
     show_state(ran.state, &*work, &*store);
@@ -55,7 +58,7 @@ fn show_unopened(answer: Answer) {
 pub fn show_run(rom: &[u8], budget: u32) {
     let mut work = [0xA5u8; 16384];
     let mut store = [0x5Au8; 16384];
-    let opened = machine::open(rom, &mut work, &mut store);
+    let opened = open(rom, &mut work, &mut store);
     let answer = opened.answer;
     let state = opened.state;
     match answer {
@@ -67,16 +70,15 @@ pub fn show_run(rom: &[u8], budget: u32) {
 // Steps a state and runs it, and tells the answers, and whether state, work memory and store are as before.
 pub fn show_tried(rom: &[u8], work: &mut [u8], store: &mut [u8], state: State, budget: u32) {
     let sums = both_sums(&*work, &*store);
-    let stepped = machine::step(rom, &mut *work, &mut *store, state);
-    let ran = machine::run(rom, &mut *work, &mut *store, state, budget);
+    let stepped = step(rom, &mut *work, &mut *store, state);
+    let ran = run(rom, &mut *work, &mut *store, state, budget);
     let first = stepped.answer;
     let second = ran.answer;
     show_answers(first, second, ran.count);
     show_kept(
-        same_states(state, stepped.state) & same_states(state, ran.state) & same_sums(
-            sums,
-            both_sums(&*work, &*store),
-        ),
+        same_states(state, stepped.state)
+            & same_states(state, ran.state)
+            & same_sums(sums, both_sums(&*work, &*store)),
     );
 }
 
@@ -109,8 +111,8 @@ pub fn show_kept(kept: bool) {
 
 // The state that a ROM's run leaves.
 pub fn state_after(rom: &[u8], work: &mut [u8], store: &mut [u8], budget: u32) -> State {
-    let opened = machine::open(rom, &mut *work, &mut *store);
-    let ran = machine::run(rom, &mut *work, &mut *store, opened.state, budget);
+    let opened = open(rom, &mut *work, &mut *store);
+    let ran = run(rom, &mut *work, &mut *store, opened.state, budget);
     ran.state
 }
 
