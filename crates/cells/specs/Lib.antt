@@ -1,5 +1,6 @@
 pub mod Choice
 pub mod Tests
+pub mod Facts
 pub mod Signed
 pub mod Arithmetic
 pub mod Comparison
