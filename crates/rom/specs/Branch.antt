@@ -28,6 +28,11 @@ landing length (negsuc n) = Outside
 unfoldable pub aimOf : List ℕ → ℕ → Bool → ℕ → Aim
 aimOf rom length wide at = landing length (destinationOf rom wide at)
 
+-- an aim as a number: 0, which is no place of a branch, for outside
+abbrev pub placeIn : Aim → ℕ
+placeIn (Inside to) = to
+placeIn Outside = 0
+
 -- for the code's own steps: the place that an offset of `range` values leads to, the upper half of them negative, which is `destinationOf` for either
 -- width
 abbrev pub shifted : ℕ → ℕ → ℕ → ℤ

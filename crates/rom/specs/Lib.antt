@@ -1,6 +1,7 @@
 pub mod Sizes
 pub mod Bytes
 pub mod Branch
+pub mod BranchLaws
 pub mod Sum
 pub mod Header
 pub mod Examples

@@ -1,7 +1,7 @@
 ghost use mathlib.Core.Path.{_≡_};
 ghost use Prim.Native.Nat.{_<_};
 ghost use lib.IntN.{pos};
-ghost use Rattle.rom.specs.Branch.{offsetOf, aimOf, landing, shifted};
+ghost use Rattle.rom.specs.Branch.{offsetOf, aimOf, landing, placeIn, shifted};
 use crate::bytes::byte;
 use crate::bytes::word16;
 use crate::sizes::FIRST_PLACE;
@@ -24,23 +24,19 @@ pub fn offset(rom: &[u8], wide: bool, at: u32) -> u32
     }
 }
 
-fn inside(length: u32, to: usize) -> Aim
-    ensures { λ r. ⌜ r ≡ landing length (pos to) ⌝ }
+fn inside(length: u32, to: usize) -> u32
+    ensures { λ r. ⌜ r ≡ placeIn (landing length (pos to)) ⌝ }
 {
     if to < FIRST_PLACE {
-        return Aim::Outside;
+        return 0;
     }
-    if to < (length as usize) {
-        Aim::Inside(to as u32)
-    } else {
-        Aim::Outside
-    }
+    if to < (length as usize) { to as u32 } else { 0 }
 }
 
 // Where an offset leads that stands at a place and has `range` values, the upper half of them negative. What lies below 0 is outside.
-fn led(length: u32, at: u32, bits: u32, range: u32) -> Aim
+fn led(length: u32, at: u32, bits: u32, range: u32) -> u32
     requires { ⌜ (bits < range) × (range < 65537) ⌝ }
-    ensures { λ r. ⌜ r ≡ landing length (shifted at range bits) ⌝ }
+    ensures { λ r. ⌜ r ≡ placeIn (landing length (shifted at range bits)) ⌝ }
 {
     let far = (at as usize) + (bits as usize);
     let back = range as usize;
@@ -48,9 +44,21 @@ fn led(length: u32, at: u32, bits: u32, range: u32) -> Aim
         return inside(length, far);
     }
     if far < back {
-        Aim::Outside
+        0
     } else {
         inside(length, far - back)
+    }
+}
+
+// Where the offset at a place leads, as a number: 0, which is no place of a branch, for outside. For a loop that goes by numbers.
+pub fn destination(rom: &[u8], length: u32, wide: bool, at: u32) -> u32
+    ensures { λ r. ⌜ r ≡ placeIn (aimOf (now (rom .entry)) length wide at) ⌝ }
+{
+    if wide {
+        led(length, at, word16(rom, at) as u32, 65536)
+    } else {
+        let k = at as usize;
+        led(length, at, byte(rom, k) as u32, 256)
     }
 }
 
@@ -58,10 +66,10 @@ fn led(length: u32, at: u32, bits: u32, range: u32) -> Aim
 pub fn aim_at(rom: &[u8], length: u32, wide: bool, at: u32) -> Aim
     ensures { λ r. ⌜ r ≡ aimOf (now (rom .entry)) length wide at ⌝ }
 {
-    if wide {
-        led(length, at, word16(rom, at) as u32, 65536)
+    let to = destination(rom, length, wide, at);
+    if to == 0 {
+        Aim::Outside
     } else {
-        let k = at as usize;
-        led(length, at, byte(rom, k) as u32, 256)
+        Aim::Inside(to)
     }
 }

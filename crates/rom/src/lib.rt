@@ -7,6 +7,7 @@ pub mod sizes;
 
 pub use branch::Aim;
 pub use branch::aim_at;
+pub use branch::destination;
 pub use branch::offset;
 pub use bytes::byte;
 pub use bytes::word16;
