@@ -6,5 +6,6 @@ pub mod Decode
 pub mod Place
 pub mod Body
 pub mod Laws
+pub mod Rows
 pub mod Rules
 pub mod Examples

@@ -2,72 +2,58 @@
 -- distinct, and a row's code has the row's digits. Assumes nothing.
 use Prim.Native.Nat.{ℕ}
 use mathlib.Core.Path.{_≡_, refl}
-use mathlib.Core.Bool.{Bool, true, false, not, _&&_, _||_}
+use mathlib.Core.Bool.{Bool, true, not, _&&_, _||_}
 use mathlib.Core.List.{List, [], _∷_}
 use lib.Dec.{T, ltb, leb, eqb, eqb→eq}
 use lib.ListN.{length}
 use lib.Text.{eqt}
-use Rattle.cells.specs.Choice.{find}
-use Rattle.cells.specs.Tests.{pick-is}
 use Rattle.tokens.specs.Family.{unlisted, plain, divide}
 use Rattle.tokens.specs.Row.{Row}
-use Rattle.tokens.specs.Table.{ends, lows, highs, doubles, table, program, notListed, isProgram, rowOf}
+use Rattle.tokens.specs.Table.{ends, lows, highs, doubles, table, program, notListed, rowOf}
 use Rattle.tokens.specs.Code.{packed, codeOf, familyIn, outOfPlaceIn, formIn, returnTakesIn, returnGivesIn, takesIn, givesIn}
-use Rattle.tokens.specs.Laws.{Every, find-is}
+use Rattle.tokens.specs.Rows.{everyRow, rows-pass}
 
 -- a test of every row, with its number and the rows behind it
-abbrev everyRow : (ℕ → Row → List (ℕ × Row) → Bool) → List (ℕ × Row) → Bool
-everyRow f [] = true
-everyRow f (x ∷ xs) = f (x .0) (x .1) xs && everyRow f xs
+abbrev everyTail : (ℕ → Row → List (ℕ × Row) → Bool) → List (ℕ × Row) → Bool
+everyTail f [] = true
+everyTail f (x ∷ xs) = f (x .0) (x .1) xs && everyTail f xs
 
 -- ---- document 01 lists 94 numbers beside those of a program
 how-many : length table ≡ 94
 unfolding table ends lows highs doubles
 how-many = refl
 
-numbers-distinct : T (everyRow (λ n r rest. everyRow (λ m s _. not (eqb n m)) rest) table)
+numbers-distinct : T (everyTail (λ n r rest. everyTail (λ m s _. not (eqb n m)) rest) table)
 unfolding table ends lows highs doubles
 numbers-distinct = tt
 
-names-distinct : T (everyRow (λ n r rest. everyRow (λ m s _. not (eqt (r .name) (s .name))) rest) table)
+names-distinct : T (everyTail (λ n r rest. everyTail (λ m s _. not (eqt (r .name) (s .name))) rest) table)
 unfolding table ends lows highs doubles
 names-distinct = tt
 
 -- "A number is one byte, or two when the first is 01-0F": no number is 01 to 0F, and none of the list is a program's
-numbers-in-range : T (everyRow (λ n r _. eqb n 0 || (leb 0x10 n && ltb n 0x800)) table)
+numbers-in-range : T (everyTail (λ n r _. eqb n 0 || (leb 0x10 n && ltb n 0x800)) table)
 unfolding table ends lows highs doubles
 numbers-in-range = tt
 
 -- what is reckoned is what is given
-results-given : T (everyRow (λ n r _. not (eqb (r .family) plain || eqb (r .family) divide) || (eqb (r .gives) (length (r .results)) && eqb (r .returnGives) (length (r .returnResults)))) table)
+results-given : T (everyTail (λ n r _. not (eqb (r .family) plain || eqb (r .family) divide) || (eqb (r .gives) (length (r .results)) && eqb (r .returnGives) (length (r .returnResults)))) table)
 unfolding table ends lows highs doubles
 results-given = tt
 
 -- every row's family is some work, so that no row's code is 0
-all-listed : T (everyRow (λ n r _. not (eqb (r .family) unlisted)) table)
+all-listed : T (everyTail (λ n r _. not (eqb (r .family) unlisted)) table)
 unfolding table ends lows highs doubles
 all-listed = tt
 
 -- ---- a digit of a code is the row's own
-abbrev Tells : (ℕ → ℕ) → (Row → ℕ) → Row → Type 0
-Tells digit field r = T (eqb (digit (packed r)) (field r))
-
-passed : (f : Row → Bool) (t : List (ℕ × Row)) → T (everyRow (λ n r _. f r) t) → Every (λ r. T (f r)) t
-passed f [] h = tt
-passed f (x ∷ xs) h = both (f (x .1)) h (λ t. passed f xs t)
-  where
-    both : (b : Bool) → T (b && everyRow (λ n r _. f r) xs) → (T (everyRow (λ n r _. f r) xs) → Every (λ r. T (f r)) xs) → T b × Every (λ r. T (f r)) xs
-    both true h g = (tt, g h)
-    both false h g = absurd h
-
 module _ (digit : ℕ → ℕ) (field : Row → ℕ) where
-  told : T (everyRow (λ n r _. eqb (digit (packed r)) (field r)) table) → Tells digit field program → Tells digit field notListed
-      → (n : ℕ) → digit (codeOf n) ≡ field (rowOf n)
-  unfolding rowOf codeOf
-  told h p u n =
-      eqb→eq (digit (codeOf n)) (field (rowOf n))
-      (pick-is (Tells digit field) (isProgram n) program (find table notListed n) (λ t. p)
-      (λ t. find-is (Tells digit field) table notListed n (passed (λ r. eqb (digit (packed r)) (field r)) table h) u))
+  abbrev tells : Row → Bool
+  tells r = eqb (digit (packed r)) (field r)
+
+  told : T (everyRow (λ n r. tells r) table) → T (tells program) → T (tells notListed) → (n : ℕ) → digit (codeOf n) ≡ field (rowOf n)
+  unfolding codeOf
+  told h p u n = eqb→eq (digit (codeOf n)) (field (rowOf n)) (rows-pass (λ m r. tells r) h (λ m. p) (λ m. u) n)
 
 pub family-told : (n : ℕ) → familyIn (codeOf n) ≡ rowOf n .family
 unfolding table ends lows highs doubles
