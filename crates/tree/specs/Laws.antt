@@ -10,6 +10,7 @@ use lib.ListN.{length, getD, drop, set, drop-of-length-le, length-append}
 use lib.Seq.{drop-cons}
 use lib.Dec.{T, eqb, leb, ltb, leb→le, ltb→lt}
 use borrow.Author.Tests.{le-leb, lt-leb, eq-eqb, ne-eqb}
+use Rattle.cells.specs.Facts.{holds, is-true, both-hold, join-hold, four-hold}
 use Rattle.tree.specs.Held.{liveAmong, liveOf, sameBytes, matches, propertyAt, nameSize, valueSize}
 use Rattle.tree.specs.Whole.{everyBelow, olderAmong, older, sound, counted, wholeTree}
 use Rattle.memory.specs.Writing.{writtenOf}
@@ -33,31 +34,17 @@ every-fails (suc n) k f h g =
     ]
 
 -- so it is a fact about every one of them, both ways
-pub and-left : (a b : Bool) → T (a && b) → T a
-and-left true b t = tt
-and-left false b t = absurd t
-
-pub and-right : (a b : Bool) → T (a && b) → T b
-and-right true b t = t
-and-right false b t = absurd t
-
-pub and-both : (a b : Bool) → T a → T b → T (a && b)
-and-both true b t u = u
-and-both false b t u = absurd t
-
 pub every-one : (n : ℕ) (f : ℕ → Bool) → T (everyBelow n f) → (i : ℕ) → i < n → T (f i)
 unfolding everyBelow
 every-one zero f t i h = absurd (omega arith)
 every-one (suc n) f t i h =
-    elim (decLe n i) [
-      | yes l ↦ let e : i ≡ n = omega arith in rw e (and-right (everyBelow n f) (f n) t)
-      | no l ↦ every-one n f (and-left (everyBelow n f) (f n) t) i (omega arith)
-    ]
+    let b = both-hold (everyBelow n f) (f n) t in
+    elim (decLe n i) [ yes l ↦ let e : i ≡ n = omega arith in rw e (b .1) | no l ↦ every-one n f (b .0) i (omega arith) ]
 
 pub every-all : (n : ℕ) (f : ℕ → Bool) → ((i : ℕ) → i < n → T (f i)) → T (everyBelow n f)
 unfolding everyBelow
 every-all zero f p = tt
-every-all (suc n) f p = and-both (everyBelow n f) (f n) (every-all n f (λ i h. p i (omega arith))) (p n (omega arith))
+every-all (suc n) f p = join-hold (everyBelow n f) (f n) (every-all n f (λ i h. p i (omega arith))) (p n (omega arith))
 
 -- parents, of the root and of another node
 pub older-root : (parents : List ℕ) (k : ℕ) → k ≡ 0 → olderAmong parents k ≡ eqb (getD parents k 0) 0
@@ -133,15 +120,9 @@ pub counted-facts : (nodes active held : ℕ) → counted nodes active held ≡ 
     → (2 ≤ nodes) × (nodes ≤ 32) × (1 ≤ active) × (active < nodes) × (held ≤ 128)
 counted-facts nodes active held e =
     let t : T (counted nodes active held) = rw e tt in
-    let p4 = and-left (leb 2 nodes && leb nodes 32 && leb 1 active && ltb active nodes) (leb held 128) t in
-    let p3 = and-left (leb 2 nodes && leb nodes 32 && leb 1 active) (ltb active nodes) p4 in
-    let p2 = and-left (leb 2 nodes && leb nodes 32) (leb 1 active) p3 in (
-      leb→le 2 nodes (and-left (leb 2 nodes) (leb nodes 32) p2),
-      leb→le nodes 32 (and-right (leb 2 nodes) (leb nodes 32) p2),
-      leb→le 1 active (and-right (leb 2 nodes && leb nodes 32) (leb 1 active) p3),
-      ltb→lt active nodes (and-right (leb 2 nodes && leb nodes 32 && leb 1 active) (ltb active nodes) p4),
-      leb→le held 128 (and-right (leb 2 nodes && leb nodes 32 && leb 1 active && ltb active nodes) (leb held 128) t),
-    )
+    let p = both-hold (leb 2 nodes && leb nodes 32 && leb 1 active && ltb active nodes) (leb held 128) t in
+    let q = four-hold (leb 2 nodes) (leb nodes 32) (leb 1 active) (ltb active nodes) (p .0) in
+    (leb→le 2 nodes (q .0), leb→le nodes 32 (q .1), leb→le 1 active (q .2), ltb→lt active nodes (q .3), leb→le held 128 (p .1))
 
 -- whether a tree is whole, by the tests that the code makes
 module _ (t : Tree) where
@@ -179,23 +160,19 @@ module _ (t : Tree) (store : List ℕ) (node : ℕ) (name : List ℕ) (k i at n 
   unfolding foundFrom
   found-none e = rw e
 
-true-T : (b : Bool) → b ≡ true → T b
-true-T b e = rw e tt
-
-pub T-true : (b : Bool) → T b → b ≡ true
-T-true true t = refl
-T-true false t = absurd t
-
--- what a whole tree says
-pub record Whole (t : Tree) : Type 0 where
+-- what a whole tree says; that the root is not active is told apart, since finish-device may come to it
+pub record Nodes (t : Tree) : Type 0 where
   pub nodes-least : 2 ≤ t .nodes
   pub nodes-most : t .nodes ≤ 32
-  pub active-least : 1 ≤ t .active
   pub active-there : t .active < t .nodes
   pub held-most : t .held ≤ 128
   pub parents-older : (k : ℕ) → k < t .nodes → T (older t k)
   pub records-sound : (i : ℕ) → i < t .held → T (sound t i)
   pub live-most : liveOf t ≤ 16384
+
+pub record Whole (t : Tree) : Type 0 where
+  pub nodes : Nodes t
+  pub active-least : 1 ≤ t .active
 
 pub whole-facts : (t : Tree) → wholeTree t ≡ true → Whole t
 unfolding wholeTree
@@ -204,17 +181,19 @@ whole-facts t e =
     let o = everyBelow (t .nodes) (older t) in
     let s = everyBelow (t .held) (sound t) in
     let l = leb (liveOf t) 16384 in
-    let p : T (c && (o && (s && l))) = true-T (c && (o && (s && l))) e in
-    let q = and-right c (o && (s && l)) p in
-    let r = and-right o (s && l) q in
-    let f = counted-facts (t .nodes) (t .active) (t .held) (T-true c (and-left c (o && (s && l)) p)) in
+    let p = both-hold c (o && (s && l)) (holds (c && (o && (s && l))) e) in
+    let q = both-hold o (s && l) (p .1) in
+    let r = both-hold s l (q .1) in
+    let f = counted-facts (t .nodes) (t .active) (t .held) (is-true c (p .0)) in
     record {
-      nodes-least = f .0;
-      nodes-most = f .1;
+      nodes = record {
+        nodes-least = f .0;
+        nodes-most = f .1;
+        active-there = f .3;
+        held-most = f .4;
+        parents-older = every-one (t .nodes) (older t) (q .0);
+        records-sound = every-one (t .held) (sound t) (r .0);
+        live-most = leb→le (liveOf t) 16384 (r .1);
+      };
       active-least = f .2;
-      active-there = f .3;
-      held-most = f .4;
-      parents-older = every-one (t .nodes) (older t) (and-left o (s && l) q);
-      records-sound = every-one (t .held) (sound t) (and-left s l r);
-      live-most = leb→le (liveOf t) 16384 (and-right s l r);
     }

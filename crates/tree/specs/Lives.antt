@@ -2,12 +2,13 @@
 use Prim.Native.Nat.{ℕ, zero, suc, _+_, _-_, _≤_, _<_}
 use native.Mathlib.Omega.{arith}
 use native.Mathlib.Decide.{decLe}
-use mathlib.Core.Bool.{Bool, true, false, _&&_, true≢false}
+use mathlib.Core.Bool.{true, false, true≢false}
 use mathlib.Core.List.{List, [], _∷_}
 use mathlib.Core.Path.{_≡_, refl, sym, ap, _∙_}
 use lib.ListN.{length, getD, set}
 use lib.Seq.{getD-set-same, getD-set-other}
 use lib.Dec.{eqb}
+use Rattle.cells.specs.Facts.{and-second}
 use Rattle.memory.specs.Window.{partOf}
 use Rattle.memory.specs.Laws.{length-part}
 use Rattle.tree.specs.Held.{ownerOf, nameSize, valueSize, liveAmong, liveFrom, sameBytes, matches, propertyAt}
@@ -50,15 +51,7 @@ module _ (names values : List ℕ) (i n v : ℕ) where
         let r = live-behind k (j + 1) (omega arith) in
         rw (getD-set-other names i j n 0 (λ d. omega arith), getD-set-other values i j v 0 (λ d. omega arith)) (omega arith)
 
--- both of two tests
-pub and-first : (a b : Bool) → a && b ≡ true → a ≡ true
-and-first true b d = refl
-and-first false b d = absurd (true≢false (sym d))
-
-pub and-second : (a b : Bool) → a && b ≡ true → b ≡ true
-and-second true b d = d
-and-second false b d = absurd (true≢false (sym d))
-
+-- names that are the same have one length
 pub same-length : (a b : List ℕ) → sameBytes a b ≡ true → length a ≡ length b
 unfolding sameBytes
 same-length [] [] e = refl

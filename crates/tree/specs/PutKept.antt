@@ -3,36 +3,39 @@ use Prim.Native.Nat.{ℕ, suc, _+_, _-_, _≤_, _<_}
 use native.Mathlib.Nat.{zero-add}
 use native.Mathlib.Omega.{arith}
 use native.Mathlib.Decide.{decLe}
-use mathlib.Core.Bool.{true, false, not, _&&_}
+use mathlib.Core.Bool.{true, false, not}
 use mathlib.Core.List.{List, _++_}
 use mathlib.Core.Path.{_≡_, sym, _∙_}
 use lib.ListN.{length, replicate, length-append, length-replicate}
 use lib.Seq.{getD-set-same, getD-set-other}
 use lib.Dec.{T, leb, ltb, eqb, le→leb, lt→ltb}
 use borrow.Author.Tests.{eqb-true, eqb-false, eq-eqb, ne-eqb, ltb-false}
+use Rattle.cells.specs.Facts.{join-four}
 use Rattle.cells.specs.Choice.{pick}
 use Rattle.tree.specs.Held.{Property, liveOf, laidOut, nameSize, valueSize}
 use Rattle.tree.specs.Whole.{soundWith, wholeTree}
 use Rattle.tree.specs.Property.{badName, overfull, wouldHold, putRefusal, storeWith, recordedOf, treePut, storePut, putOf, storeOf}
 use Rattle.tree.specs.Steps.{foundOf}
-use Rattle.tree.specs.Laws.{whole-facts, and-both}
+use Rattle.tree.specs.Laws.{Whole, whole-facts}
 use Rattle.tree.specs.Layout.{either}
 use Rattle.tree.specs.Puts.{or-parts, wrong-size, damaged, misnamed, no-room, index-is, index-most, present, length-new, length-old, fits, index-fits, name-facts}
 use Rattle.tree.specs.Kept.{whole-is}
 use Rattle.tree.specs.Lives.{live-inside, live-behind, found-name}
 use Rattle.tree.specs.declared.tree.Tree.{Tree}
 
--- the records have room for 128, as the code has them
+-- the arrays are as long as the code has them
 pub record Sized (t : Tree) : Type 0 where
-  pub owners-size : length (t .owners) ≡ 128
-  pub names-size : length (t .names) ≡ 128
-  pub values-size : length (t .values) ≡ 128
+  pub parents : length (t .parents) ≡ 32
+  pub owners : length (t .owners) ≡ 128
+  pub names : length (t .names) ≡ 128
+  pub values : length (t .values) ≡ 128
 
--- a call that is not refused has passed every test
+-- what is known of a call that is not refused, as far as the tree and the store go by it
 pub record Accepted (t : Tree) (s name value : List ℕ) : Type 0 where
   pub size : length s ≡ 16384
-  pub whole : wholeTree t ≡ true
-  pub good : badName name ≡ false
+  pub whole : Whole t
+  pub least : 1 ≤ length name
+  pub most : length name ≤ 31
   pub roomy : overfull (wouldHold t s name value) ≡ false
 
 pub accepted : (t : Tree) (s name value : List ℕ) → putRefusal t s name value ≡ 0 → Accepted t s name value
@@ -44,7 +47,7 @@ accepted t s name value e =
     either (badName name) (λ b. let x = sym (misnamed t s name value z w b) ∙ e in absurd (omega arith))
     (λ b.
     either (overfull (wouldHold t s name value)) (λ o. let x = sym (no-room t s name value z w b o) ∙ e in absurd (omega arith))
-    (λ o. record { size = z; whole = w; good = b; roomy = o })))
+    (λ o. let d = name-facts name b in record { size = z; whole = whole-facts t w; least = d .0; most = d .1; roomy = o })))
     (λ w. let x = sym (damaged t s name value z w) ∙ e in absurd (omega arith)))
     (λ a. let x = sym (wrong-size t s name value (eqb-false (length s) 16384 a)) ∙ e in absurd (omega arith))
 
@@ -58,51 +61,50 @@ held-below i h j l n =
     (λ e. rw e at l)
 
 sound-is : (n o a v : ℕ) → o < n → 1 ≤ a → a ≤ 31 → v ≤ 16384 → T (soundWith n o a v)
-sound-is n o a v f g h k =
-    and-both (ltb o n && leb 1 a && leb a 31) (leb v 16384)
-    (and-both (ltb o n && leb 1 a) (leb a 31) (and-both (ltb o n) (leb 1 a) (lt→ltb o n f) (le→leb 1 a g)) (le→leb a 31 h)) (le→leb v 16384 k)
+sound-is n o a v f g h k = join-four (ltb o n) (leb 1 a) (leb a 31) (leb v 16384) (lt→ltb o n f) (le→leb 1 a g) (le→leb a 31 h) (le→leb v 16384 k)
 
 module _ (t : Tree) (z : Sized t) (i n v : ℕ) where
   pub live-new : i ≡ t .held → i < 128 → liveOf (recordedOf t i n v) ≡ liveOf t + (n + v)
   unfolding recordedOf
   live-new e h =
-      let f = z .names-size in
-      let g = z .values-size in
+      let f = z .names in
+      let g = z .values in
       let d : t .held + 1 ≡ suc (t .held) = omega arith in
       rw (eq-eqb i (t .held) e, d) (live-behind (t .names) (t .values) i n v (omega arith) (omega arith) (t .held) 0 (omega arith))
 
   pub live-old : i < t .held → i < 128 → liveOf (recordedOf t i n v) + (nameSize t i + valueSize t i) ≡ liveOf t + (n + v)
   unfolding recordedOf
   live-old e h =
-      let f = z .names-size in
-      let g = z .values-size in
+      let f = z .names in
+      let g = z .values in
       rw (ne-eqb i (t .held) (λ d. omega arith)) (live-inside (t .names) (t .values) i n v (omega arith) (omega arith) (t .held) 0 (omega arith) (omega arith))
 
-  pub recorded-whole : wholeTree t ≡ true → i < 128 → 1 ≤ n → n ≤ 31 → v ≤ 16384 → liveOf (recordedOf t i n v) ≤ 16384 → wholeTree (recordedOf t i n v) ≡ true
+  pub recorded-whole : Whole t → i < 128 → 1 ≤ n → n ≤ 31 → v ≤ 16384 → liveOf (recordedOf t i n v) ≤ 16384 → Whole (recordedOf t i n v)
   unfolding recordedOf
-  recorded-whole e h f g k l =
-      let w = whole-facts t e in
-      let zo = z .owners-size in
-      let zn = z .names-size in
-      let zv = z .values-size in
-      whole-is (recordedOf t i n v)
-      (record {
-        nodes-least = w .nodes-least;
-        nodes-most = w .nodes-most;
+  recorded-whole w h f g k l =
+      let m = w .nodes in
+      let zo = z .owners in
+      let zn = z .names in
+      let zv = z .values in
+      record {
+        nodes = record {
+          nodes-least = m .nodes-least;
+          nodes-most = m .nodes-most;
+          active-there = m .active-there;
+          held-most = held-most i (t .held) h (m .held-most);
+          parents-older = m .parents-older;
+          records-sound = λ j b.
+              either (eqb j i)
+              (λ q. let d = eqb-true j i q in
+              rw (d, getD-set-same (t .owners) i (t .active) 0 (omega arith), getD-set-same (t .names) i n 0 (omega arith), getD-set-same (t .values) i v 0 (omega arith))
+              (sound-is (t .nodes) (t .active) n v (m .active-there) f g k))
+              (λ q. let d = eqb-false j i q in
+              rw (getD-set-other (t .owners) i j (t .active) 0 d, getD-set-other (t .names) i j n 0 d, getD-set-other (t .values) i j v 0 d)
+              (m .records-sound j (held-below i (t .held) j b d)));
+          live-most = l;
+        };
         active-least = w .active-least;
-        active-there = w .active-there;
-        held-most = held-most i (t .held) h (w .held-most);
-        parents-older = w .parents-older;
-        records-sound = λ j b.
-            either (eqb j i)
-            (λ q. let d = eqb-true j i q in
-            rw (d, getD-set-same (t .owners) i (t .active) 0 (omega arith), getD-set-same (t .names) i n 0 (omega arith), getD-set-same (t .values) i v 0 (omega arith))
-            (sound-is (t .nodes) (t .active) n v (w .active-there) f g k))
-            (λ q. let d = eqb-false j i q in
-            rw (getD-set-other (t .owners) i j (t .active) 0 d, getD-set-other (t .names) i j n 0 d, getD-set-other (t .values) i j v 0 d)
-            (w .records-sound j (held-below i (t .held) j b d)));
-        live-most = l;
-      })
+      }
 
 -- a store that holds properties which have room has the store's size
 pub length-store : (ps : List Property) → overfull ps ≡ false → length (storeWith ps) ≡ 16384
@@ -114,16 +116,13 @@ length-store ps o =
     let y : length (laidOut ps ++ r) ≡ length (laidOut ps) + length r = length-append (laidOut ps) r in
     omega arith
 
-module _ (t : Tree) (s name value : List ℕ) (e : putRefusal t s name value ≡ 0) where
+module _ (t : Tree) (s name value : List ℕ) (a : Accepted t s name value) where
   pub put-size : length (storePut t s name value) ≡ length s
-  put-size =
-      let a = accepted t s name value e in
-      length-store (wouldHold t s name value) (a .roomy) ∙ sym (a .size)
+  put-size = length-store (wouldHold t s name value) (a .roomy) ∙ sym (a .size)
 
-  pub put-whole : Sized t → wholeTree (treePut t s name value) ≡ true
+  pub put-whole : Sized t → Whole (treePut t s name value)
   put-whole z =
-      let a = accepted t s name value e in
-      let w = whole-facts t (a .whole) in
+      let w = a .whole .nodes in
       let q = a .size in
       let l = w .live-most in
       let b : liveOf t ≤ length s = omega arith in
@@ -132,9 +131,8 @@ module _ (t : Tree) (s name value : List ℕ) (e : putRefusal t s name value ≡
       let i = foundOf t s name .index in
       let c = index-fits t s name value h b (a .size) (a .roomy) in
       let m = index-most t s name value in
-      let d = name-facts name (a .good) in
-      let go : length value ≤ 16384 → liveOf (recordedOf t i (length name) (length value)) ≤ 16384 → wholeTree (treePut t s name value) ≡ true =
-      λ v x. rw (← index-is t s name value) (recorded-whole t z i (length name) (length value) (a .whole) c (d .0) (d .1) v x) in
+      let go : length value ≤ 16384 → liveOf (recordedOf t i (length name) (length value)) ≤ 16384 → Whole (treePut t s name value) =
+      λ v x. rw (← index-is t s name value) (recorded-whole t z i (length name) (length value) (a .whole) c (a .least) (a .most) v x) in
       elim (decLe (t .held) i) [
         | yes p ↦ let n = length-new t s name value h b (omega arith) in
             let y = live-new t z i (length name) (length value) (omega arith) c in
@@ -149,12 +147,16 @@ module _ (t : Tree) (s name value : List ℕ) (e : putRefusal t s name value ≡
 
 -- whatever the call gives, the store has its size and a whole tree is whole
 module _ (t : Tree) (s name value : List ℕ) where
+  taken : putRefusal t s name value ≡ 0 → Accepted t s name value
+  taken e = accepted t s name value e
+
   pub store-kept : length (storeOf t s name value) ≡ length s
   unfolding storeOf
   store-kept =
-      either (eqb (putRefusal t s name value) 0) (λ q. rw q (put-size t s name value (eqb-true (putRefusal t s name value) 0 q))) (λ q. rw q)
+      either (eqb (putRefusal t s name value) 0) (λ q. rw q (put-size t s name value (taken (eqb-true (putRefusal t s name value) 0 q)))) (λ q. rw q)
 
   pub tree-kept : Sized t → wholeTree t ≡ true → wholeTree (putOf t s name value .tree) ≡ true
   unfolding putOf
   tree-kept z w =
-      either (eqb (putRefusal t s name value) 0) (λ q. rw q (put-whole t s name value (eqb-true (putRefusal t s name value) 0 q) z)) (λ q. rw q w)
+      either (eqb (putRefusal t s name value) 0)
+      (λ q. rw q (whole-is (treePut t s name value) (put-whole t s name value (taken (eqb-true (putRefusal t s name value) 0 q)) z))) (λ q. rw q w)

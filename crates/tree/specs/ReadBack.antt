@@ -9,14 +9,14 @@ use lib.ListN.{length, replicate, length-append}
 use lib.Seq.{getD-set-same, getD-set-other, drop-at, take-at}
 use lib.Dec.{eqb}
 use borrow.Author.Tests.{eqb-true, eq-eqb, ne-eqb}
+use Rattle.cells.specs.Facts.{and-first, and-second}
 use Rattle.memory.specs.Window.{partOf}
 use Rattle.memory.specs.Laws.{length-part}
 use Rattle.tree.specs.Held.{Property, ownerOf, nameSize, valueSize, propertyAt, heldFrom, heldOf, liveAmong, liveFrom, liveOf, laidOut, sameBytes, matches}
 use Rattle.tree.specs.Property.{putIn, wouldHold, putRefusal, storeWith, recordedOf, treePut, storePut}
 use Rattle.tree.specs.Steps.{foundFrom, foundOf}
-use Rattle.tree.specs.Laws.{whole-facts}
 use Rattle.tree.specs.Layout.{either, put-here, put-next, walked}
-use Rattle.tree.specs.Lives.{same-length, and-first, and-second}
+use Rattle.tree.specs.Lives.{same-length}
 use Rattle.tree.specs.Puts.{absent, present, index-is, index-most, index-fits}
 use Rattle.tree.specs.PutKept.{Sized, accepted}
 use Rattle.tree.specs.declared.tree.Tree.{Tree}
@@ -61,9 +61,9 @@ module _ (t : Tree) (store : List ℕ) (name value : List ℕ) (j : ℕ) (z : Si
   here : (ownerOf then j ≡ t .active) × (nameSize then j ≡ length name) × (valueSize then j ≡ length value)
   unfolding recordedOf
   here =
-      let zo = z .owners-size in
-      let zn = z .names-size in
-      let zv = z .values-size in
+      let zo = z .owners in
+      let zn = z .names in
+      let zv = z .values in
       (getD-set-same (t .owners) j (t .active) 0 (omega arith), getD-set-same (t .names) j (length name) 0 (omega arith), getD-set-same (t .values) j (length value) 0 (omega arith))
 
   other : (i : ℕ) → (i ≡ j → ⊥) → (ownerOf then i ≡ ownerOf t i) × (nameSize then i ≡ nameSize t i) × (valueSize then i ≡ valueSize t i)
@@ -118,7 +118,7 @@ module _ (t : Tree) (s name value : List ℕ) (e : putRefusal t s name value ≡
   unfolding storeWith
   put-holds =
       let a = accepted t s name value e in
-      let w = whole-facts t (a .whole) in
+      let w = a .whole .nodes in
       let q = a .size in
       let l = w .live-most in
       let b : liveOf t ≤ length s = omega arith in

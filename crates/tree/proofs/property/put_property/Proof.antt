@@ -34,7 +34,7 @@ full c =
     let s = now (a .store) in
     let n = now (a .name) in
     let v = valueOf (now (a .value)) (a .null) in
-    let w = whole-facts (a .tree) (whole (k .before .before .before)) in
+    let w = whole-facts (a .tree) (whole (k .before .before .before)) .nodes in
     full-is (a .tree) s n v (w .held-most) (omega arith)
     ∙ rw (length-value (now (a .value)) (a .null), ← c .before .before .before .before .size-of .ensures .0, ← c .before .live-of .ensures)
     (sym
@@ -81,7 +81,7 @@ put-property-spec =
     let k = c .before .before in
     let h = k .before .before in
     let z = h .before .before .if1 .left in
-    let w = whole-facts (a .tree) (whole h) in
+    let w = whole-facts (a .tree) (whole h) .nodes in
     let q = length-append (now (a .value)) (pick (a .null) (0 ∷ []) []) in
     let p = put-refused (a .tree) s n v 27 (λ e. omega arith) (no-room (a .tree) s n v z (whole h) (named k) (full-value (a .tree) s n v (w .held-most) (omega arith) (omega arith))) in
     (c .refused4 .ensures ∙ p .0, p .1))
@@ -92,20 +92,20 @@ put-property-spec =
     let n = now (a .name) in
     let v = valueOf (now (a .value)) (a .null) in
     let h = c .before .before .before .before .before in
-    let w = whole-facts (a .tree) (whole h) in
+    let w = whole-facts (a .tree) (whole h) .nodes in
     (w .held-most, omega arith))
     (λ c κs.
     let a = c .before .before .before .before .before .before .before .before .before .before .before .before .args in
     let s = now (a .store) in
     let n = now (a .name) in
     let v = valueOf (now (a .value)) (a .null) in
-    whole-facts (a .tree) (whole (c .before .before .before .before .before .before)) .held-most)
+    whole-facts (a .tree) (whole (c .before .before .before .before .before .before)) .nodes .held-most)
     (λ c κs.
     let a = c .before .before .before .before .before .before .before .before .before .before .before .before .before .args in
     let s = now (a .store) in
     let n = now (a .name) in
     let v = valueOf (now (a .value)) (a .null) in
-    let w = whole-facts (a .tree) (whole (c .before .before .before .before .before .before .before)) in
+    let w = whole-facts (a .tree) (whole (c .before .before .before .before .before .before .before)) .nodes in
     let m = name-facts n (named (c .before .before .before .before .before)) in
     let i = index-most (a .tree) s n v in
     let j = ap (λ (f : Found). f .index) (c .before .find .ensures) in
@@ -130,7 +130,7 @@ put-property-spec =
     let n = now (a .name) in
     let v = valueOf (now (a .value)) (a .null) in
     let k = c .before .before in
-    let w = whole-facts (a .tree) (whole (k .before .before .before .before .before .before .before .before)) in
+    let w = whole-facts (a .tree) (whole (k .before .before .before .before .before .before .before .before)) .nodes in
     let m = name-facts n (named (k .before .before .before .before .before .before)) in
     let l = k .before .live-of .ensures in
     (omega arith, omega arith, search needs, rw (k .before .live-of .ensures, k .before .before .find .ensures) (placed (a .tree) s n v)))
@@ -142,7 +142,7 @@ put-property-spec =
     let f = c .before .before .before .before in
     let k = f .before in
     let h = k .before .before .before .before .before .before in
-    let w = whole-facts (a .tree) (whole (h .before .before)) in
+    let w = whole-facts (a .tree) (whole (h .before .before)) .nodes in
     let m = name-facts n (named h) in
     let x = index-fits (a .tree) s n v (w .held-most) (omega arith) (h .before .before .before .before .if1 .left) (full k ∙ f .if5 .left) in
     let j = ap (λ (f : Found). f .index) (k .before .before .find .ensures) in
@@ -157,7 +157,7 @@ put-property-spec =
     let f = c .before .before .before .before .before in
     let k = f .before in
     let h = k .before .before .before .before .before .before in
-    let w = whole-facts (a .tree) (whole (h .before .before)) in
+    let w = whole-facts (a .tree) (whole (h .before .before)) .nodes in
     let z = h .before .before .before .before .if1 .left in
     let o = full k ∙ f .if5 .left in
     let p = put-done (a .tree) s n v (room (a .tree) s n v z (whole (h .before .before)) (named h) o) in (
