@@ -13,7 +13,8 @@ use Rattle.cells.specs.Choice.{pick}
 use Rattle.cells.specs.Tests.{tests, pick-is}
 use Rattle.rom.specs.Sizes.{firstPlace, dataMost}
 use Rattle.rom.specs.Bytes.{byteOf}
-use Rattle.rom.specs.Branch.{landing, destinationOf, aimOf}
+use Rattle.rom.specs.Branch.{aimOf, placeIn}
+use Rattle.rom.specs.BranchLaws.{AimFits, aim-fits, aim-outside, aim-inside}
 use Rattle.rom.specs.declared.branch.Aim.{Aim}
 use Rattle.rom.specs.declared.branch.Aim.the-variants.{Inside, Outside}
 use Rattle.tokens.specs.Family.{plain, always, choice, divide, pickUp, rollUp, maybe}
@@ -22,12 +23,12 @@ use Rattle.tokens.specs.Table.{ends, lows, highs, doubles, table, program, notL
 use Rattle.tokens.specs.Code.{packed as packedRow, codeOf, familyIn, formIn}
 use Rattle.tokens.specs.Decode.{isDouble}
 use Rattle.machine.specs.KeepsTests.{both-hold}
-use Rattle.machine.specs.Rows.{everyRow, rows-pass, Beside, none-left}
+use Rattle.machine.specs.Rows.{follows, everyRow, rows-pass}
 use Rattle.machine.specs.Stacks.{Stacks, stacks, topOf, tooLow, tooHigh, tooDeep, backTrouble, Outcome, outcome, reckonOf, divideOf, pickUpOf, rollUpOf, maybeOf}
 use Rattle.machine.specs.Reckoned.{told, Stands, Works}
 use Rattle.machine.specs.Scene.{scene, refuse}
 use Rattle.machine.specs.Step.{tokenOf}
-use Rattle.machine.specs.Fast.{hotFamilies, hotFamily, Cold, packed, Goes, Fits, Hot, Fast, turned, behindPlain, operandPlain, behindBranch, onwardOf, takenOf}
+use Rattle.machine.specs.Fast.{hotFamilies, hotFamily, Cold, packed, Goes, Fits, Hot, Fast, turned, behindPlain, operandPlain, behindBranch, onwardOf}
 use Rattle.machine.specs.declared.state.State.{State}
 use Rattle.machine.specs.declared.reckon.Moved.{Moved}
 use Rattle.machine.specs.declared.fast.Turned.{Turned}
@@ -35,10 +36,6 @@ use Rattle.machine.proofs.Hot.{double-cold}
 use Rattle.machine.proofs.HotAgrees.{turnOf, plain-cut, plain-turn, divide-turn, pick-turn, roll-turn, maybe-turn, deep-cut, always-cut, always-turn, choice-cut, choice-empty, choice-taken, choice-fallen}
 
 -- ---- a family that one code has
-implied : (a b : Bool) → T (not a || b) → T a → T b
-implied true b h t = h
-implied false b h t = absurd t
-
 abbrev oneCode : ℕ → ℕ → Row → Bool
 oneCode f k r = not (eqb (familyIn (packedRow r)) f) || eqb (packedRow r) k
 
@@ -46,7 +43,7 @@ family-code : (f k : ℕ) → T (everyRow (λ m r. oneCode f k r) table) → T (
 unfolding codeOf
 family-code f k t p u n e =
     eqb→eq (packedRow (rowOf n)) k
-    (implied (eqb (familyIn (packedRow (rowOf n))) f) (eqb (packedRow (rowOf n)) k) (rows-pass (λ m r. oneCode f k r) t (λ m. p) (λ m. u) n) (rw e (eqb-refl f)))
+    (follows (eqb (familyIn (packedRow (rowOf n))) f) (eqb (packedRow (rowOf n)) k) (rows-pass (λ m r. oneCode f k r) t (λ m. p) (λ m. u) n) (rw e (eqb-refl f)))
 
 pub always-code : (n : ℕ) → familyIn (codeOf n) ≡ always → codeOf n ≡ 0x0303_0000
 unfolding table ends lows highs doubles
@@ -101,21 +98,6 @@ module _ (x : Stacks) where
       (λ t. pick-is NotOne (eqb (topOf (x .cells) (x .height) 0) 0) _ _ (λ t. eqb-false 0 1 refl)
       (λ t. pick-is NotOne (ltb dataMost (x .height + 1)) _ _ (λ t. eqb-false 15 1 refl) (λ t. eqb-false 0 1 refl)))
 
--- ---- where a branch leads
-abbrev AimFits : ℕ → Aim → Type 0
-AimFits size (Inside to) = (8 ≤ to) × (to < size)
-AimFits size Outside = Unit {0}
-
-landed : (size : ℕ) (z : ℤ) → AimFits size (landing size z)
-landed size (pos to) =
-    pick-is (AimFits size) (leb firstPlace to && ltb to size) (Inside to) Outside
-    (λ t. let b = both-hold (leb firstPlace to) (ltb to size) t in let x = b .0 in let y = b .1 in (omega (arith, tests), omega (arith, tests))) (λ t. tt)
-landed size (negsuc n) = tt
-
-aim-fits : (rom : List ℕ) (size : ℕ) (wide : Bool) (at : ℕ) → AimFits size (aimOf rom size wide at)
-unfolding aimOf
-aim-fits rom size wide at = landed size (destinationOf rom wide at)
-
 -- ---- the ways through a token
 module _ (rom : List ℕ) (size : ℕ) (wide : Bool) (base : ℕ) (c : List ℕ) (h : ℕ) (k : List ℕ) (b place : ℕ) where
   abbrev Sound : Type 0
@@ -137,24 +119,25 @@ module _ (rom : List ℕ) (size : ℕ) (wide : Bool) (base : ℕ) (c : List ℕ)
       λ st work store g. always-cut (scene rom work store (packed st c h k b place)) (byteOf rom place) refl e (s .0) (rw (g .ofSize, g .ofWidth, ← n) l),
     )
 
-    pub always-made : (next : ℕ) (a : Aim) (r : Turned) → next ≡ behindBranch wide place → next ≤ size → a ≡ aimOf rom size wide (place + 1) → r ≡ takenOf a h h b place
-        → Hot rom size wide base c h k b place r c k
-    always-made next a r n l p q = subst (λ (t : Turned). Hot rom size wide base c h k b place t c k) (sym q) (by a p)
-      where
-        by : (a : Aim) → a ≡ aimOf rom size wide (place + 1) → Hot rom size wide base c h k b place (takenOf a h h b place) c k
-        by (Inside to) p =
-            let f : AimFits size (Inside to) = subst (AimFits size) (sym p) (aim-fits rom size wide (place + 1)) in (
-              (s .0, s .2, s .1, f .0, omega (arith, f .1)),
-              eqb-false 0 1 refl,
-              λ st work store g. always-turn (scene rom work store (packed st c h k b place)) (byteOf rom place) refl e (s .0) (rw (g .ofSize, g .ofWidth, ← n) l)
-                  ∙ rw (g .ofSize, g .ofWidth, ← p),
-            )
-        by Outside p = (
-          stays s,
-          eqb-false 19 1 refl,
-          λ st work store g. always-turn (scene rom work store (packed st c h k b place)) (byteOf rom place) refl e (s .0) (rw (g .ofSize, g .ofWidth, ← n) l)
-              ∙ rw (g .ofSize, g .ofWidth, ← p),
-        )
+    module _ (next to : ℕ) (n : next ≡ behindBranch wide place) (l : next ≤ size) (t : to ≡ placeIn (aimOf rom size wide (place + 1))) where
+      pub always-out-made : to ≡ 0 → Hot rom size wide base c h k b place (turned 19 h b place) c k
+      always-out-made z =
+          let p = aim-outside rom size wide (place + 1) (sym t ∙ z) in (
+            stays s,
+            eqb-false 19 1 refl,
+            λ st work store g. always-turn (scene rom work store (packed st c h k b place)) (byteOf rom place) refl e (s .0) (rw (g .ofSize, g .ofWidth, ← n) l)
+                ∙ rw (g .ofSize, g .ofWidth, p),
+          )
+
+      pub always-made : (to ≡ 0 → ⊥) → Hot rom size wide base c h k b place (turned 0 h b to) c k
+      always-made z =
+          let p = aim-inside rom size wide (place + 1) to t z in
+          let f : AimFits size (Inside to) = subst (AimFits size) p (aim-fits rom size wide (place + 1)) in (
+            (s .0, s .2, s .1, f .0, omega (arith, f .1)),
+            eqb-false 0 1 refl,
+            λ st work store g. always-turn (scene rom work store (packed st c h k b place)) (byteOf rom place) refl e (s .0) (rw (g .ofSize, g .ofWidth, ← n) l)
+                ∙ rw (g .ofSize, g .ofWidth, p),
+          )
 
   -- ---- b?branch
   module _ (e : codeOf (byteOf rom place) ≡ 0x0403_0010) (s : Sound) where
@@ -173,28 +156,29 @@ module _ (rom : List ℕ) (size : ℕ) (wide : Bool) (base : ℕ) (c : List ℕ)
         λ st work store g. choice-empty (scene rom work store (packed st c h k b place)) (byteOf rom place) refl e (s .0) (rw (g .ofSize, g .ofWidth, ← n) l) z,
       )
 
-      pub choice-taken-made : (a : Aim) (r : Turned) → 1 ≤ h → getD c (h - 1) 0 ≡ 0 → a ≡ aimOf rom size wide (place + 1) → r ≡ takenOf a h (h - 1) b place
-          → Hot rom size wide base c h k b place r c k
-      choice-taken-made a r o z p q = subst (λ (t : Turned). Hot rom size wide base c h k b place t c k) (sym q) (by a p)
-        where
-          top : getD c (h - 1 - 0) 0 ≡ 0
-          top = simp sub-zero z
+      module _ (to : ℕ) (o : 1 ≤ h) (y : getD c (h - 1) 0 ≡ 0) (t : to ≡ placeIn (aimOf rom size wide (place + 1))) where
+        top : getD c (h - 1 - 0) 0 ≡ 0
+        top = simp sub-zero y
 
-          by : (a : Aim) → a ≡ aimOf rom size wide (place + 1) → Hot rom size wide base c h k b place (takenOf a h (h - 1) b place) c k
-          by (Inside to) p =
-              let f : AimFits size (Inside to) = subst (AimFits size) (sym p) (aim-fits rom size wide (place + 1)) in
-              let w = s .0 in (
-                (omega arith, s .2, s .1, f .0, omega (arith, f .1)),
-                eqb-false 0 1 refl,
-                λ st work store g. choice-taken (scene rom work store (packed st c h k b place)) (byteOf rom place) refl e (s .0) (rw (g .ofSize, g .ofWidth, ← n) l) o top
-                    ∙ rw (g .ofSize, g .ofWidth, ← p),
-              )
-          by Outside p = (
-            stays s,
-            eqb-false 19 1 refl,
-            λ st work store g. choice-taken (scene rom work store (packed st c h k b place)) (byteOf rom place) refl e (s .0) (rw (g .ofSize, g .ofWidth, ← n) l) o top
-                ∙ rw (g .ofSize, g .ofWidth, ← p),
-          )
+        pub choice-out-made : to ≡ 0 → Hot rom size wide base c h k b place (turned 19 h b place) c k
+        choice-out-made z =
+            let p = aim-outside rom size wide (place + 1) (sym t ∙ z) in (
+              stays s,
+              eqb-false 19 1 refl,
+              λ st work store g. choice-taken (scene rom work store (packed st c h k b place)) (byteOf rom place) refl e (s .0) (rw (g .ofSize, g .ofWidth, ← n) l) o top
+                  ∙ rw (g .ofSize, g .ofWidth, p),
+            )
+
+        pub choice-taken-made : (to ≡ 0 → ⊥) → Hot rom size wide base c h k b place (turned 0 (h - 1) b to) c k
+        choice-taken-made z =
+            let p = aim-inside rom size wide (place + 1) to t z in
+            let f : AimFits size (Inside to) = subst (AimFits size) p (aim-fits rom size wide (place + 1)) in
+            let w = s .0 in (
+              (omega arith, s .2, s .1, f .0, omega (arith, f .1)),
+              eqb-false 0 1 refl,
+              λ st work store g. choice-taken (scene rom work store (packed st c h k b place)) (byteOf rom place) refl e (s .0) (rw (g .ofSize, g .ofWidth, ← n) l) o top
+                  ∙ rw (g .ofSize, g .ofWidth, p),
+            )
 
       pub choice-fallen-made : 1 ≤ h → (getD c (h - 1) 0 ≡ 0 → ⊥) → Hot rom size wide base c h k b place (turned 0 (h - 1) b next) c k
       choice-fallen-made o z =
@@ -303,20 +287,13 @@ module _ (rom : List ℕ) (size : ℕ) (wide : Bool) (base : ℕ) (c : List ℕ)
           deep-made maybeOf m r c′ s l (maybe-not-one (stacks c h k b)) w q
           (λ st work store z t. maybe-turn (scene rom work store (packed st c h k b place)) number e (maybe-code number (rw d at f)) m c′ k (rw z l) (s .0) t)
 
-    -- ---- any other
-    pub left-made : Beside (Unit {0}) hotFamilies (familyIn code) → Fast rom size wide base c h k b place (turned 1 h b place) c k
-    left-made r = (stays s, λ z. (cold (isDouble (byteOf rom place)) refl, refl, refl, refl, refl, refl), λ z. absurd (z refl))
-      where
-        not-hot : hotFamily (familyIn (codeOf (byteOf rom place))) ≡ false
-        not-hot = rw (← e, ← d) (never (hotFamily (familyIn code)) (λ t. none-left (Unit {0}) hotFamilies (familyIn code) r t))
-          where
-            never : (x : Bool) → (T x → ⊥) → x ≡ false
-            never true f = absurd (f tt)
-            never false f = refl
-
-        cold : (x : Bool) → isDouble (byteOf rom place) ≡ x → Cold rom place
-        cold true q = double-cold rom place q
-        cold false q = rw q not-hot
+  -- ---- any other
+  pub left-made : (number : ℕ) → number ≡ byteOf rom place → Sound → hotFamily (familyIn (codeOf number)) ≡ false → Fast rom size wide base c h k b place (turned 1 h b place) c k
+  left-made number e s f = (stays s, λ z. (cold (isDouble (byteOf rom place)) refl, refl, refl, refl, refl, refl), λ z. absurd (z refl))
+    where
+      cold : (x : Bool) → isDouble (byteOf rom place) ≡ x → Cold rom place
+      cold true q = double-cold rom place q
+      cold false q = rw (q, ← e) f
 
   pub hot-fast : (r : Turned) (c′ k′ : List ℕ) → Hot rom size wide base c h k b place r c′ k′ → Fast rom size wide base c h k b place r c′ k′
   hot-fast r c′ k′ t = (t .0, λ z. absurd (t .1 z), λ z. t .2)

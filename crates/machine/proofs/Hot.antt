@@ -20,15 +20,11 @@ use Rattle.tokens.specs.declared.decoding.Decoded.the-variants.{Cut, Whole}
 use Rattle.tokens.specs.declared.read.Read.{Read}
 use Rattle.tokens.specs.declared.read.Read.the-variants.{Refused as Unread, Good}
 use Rattle.machine.specs.KeepsTests.{is-false, holds, both-hold}
-use Rattle.machine.specs.Rows.{rows-pass}
+use Rattle.machine.specs.Rows.{follows, rows-pass}
 use Rattle.machine.specs.State.{isOpen}
 use Rattle.machine.specs.Scene.{Scene, refuse}
 use Rattle.machine.specs.Step.{readTurn, doneOf, tokenOf}
 use Rattle.machine.specs.Fast.{hotFamily}
-
-implied : (a b : Bool) → T (not a || b) → T a → T b
-implied true b h t = h
-implied false b h t = absurd t
 
 -- ---- what the list says of every hot number
 abbrev fits : ℕ → ℕ → Bool
@@ -37,7 +33,7 @@ fits m c = not (isDouble m) && (ltb m 256 && (not (eqb c 0) && (eqb (outOfPlaceI
 hot-fits : (n : ℕ) → T (hotFamily (familyIn (codeOf n))) → T (fits n (codeOf n))
 unfolding codeOf table ends lows highs doubles
 hot-fits n h =
-    implied (hotFamily (familyIn (packed (rowOf n)))) (fits n (packed (rowOf n)))
+    follows (hotFamily (familyIn (packed (rowOf n)))) (fits n (packed (rowOf n)))
     (rows-pass (λ m r. not (hotFamily (familyIn (packed r))) || fits m (packed r)) tt (λ m. tt) (λ m. tt) n) h
 
 record HotToken (n : ℕ) : Type 0 where

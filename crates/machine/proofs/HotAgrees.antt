@@ -27,7 +27,7 @@ use Rattle.machine.specs.State.{stacksOf, moved, baseOf}
 use Rattle.machine.specs.Scene.{Scene, Turn, turn, refuse, goes, cellOf}
 use Rattle.machine.specs.Effects.{operandIn}
 use Rattle.machine.specs.Step.{doneOf, tokenOf}
-use Rattle.machine.specs.Fast.{hotFamily, packed, said, turned, behindPlain, operandPlain, behindBranch, onwardOf, takenOf}
+use Rattle.machine.specs.Fast.{hotFamily, packed, said, turned, behindPlain, operandPlain, behindBranch, onwardOf}
 use Rattle.machine.specs.declared.answer.Answer.the-variants.{Going, Refused}
 use Rattle.machine.specs.declared.reckon.Moved.{Moved}
 use Rattle.machine.specs.declared.fast.Turned.{Turned}
@@ -66,6 +66,11 @@ module _ (x : Stacks) where
 -- the turn that is known by what became of the stacks and the place
 abbrev pub turnOf : Scene → Turned → List ℕ → List ℕ → Turn
 turnOf s r d l = turn (said (r .0)) (packed (s .state) d (r .1) l (r .2) (r .3)) (s .work) (s .store)
+
+-- a taken branch from the height h, to the height g
+abbrev takenOf : Aim → ℕ → ℕ → ℕ → ℕ → Turned
+takenOf (Inside to) h g b place = turned 0 g b to
+takenOf Outside h g b place = turned 19 h b place
 
 -- what the work on the stacks left is the turn of its outcome
 outcome-turn : (s : Scene) (next : ℕ) (m : Moved) (d l : List ℕ) (o : Outcome) → told m d l ≡ o → Unmoved (stacksOf (s .state)) o

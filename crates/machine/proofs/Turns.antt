@@ -8,12 +8,12 @@ use native.Mathlib.Nat.{sub-zero}
 use lib.ListN.{length}
 use Rattle.machine.specs.Scene.{Scene, Turn, scene, turn, refuse}
 use Rattle.machine.specs.Step.{readyOf, tokenOf}
-use Rattle.machine.specs.Run.{ended, then, after, runFrom}
+use Rattle.machine.specs.Run.{Outcome, ended, then, after, runFrom}
 use Rattle.machine.specs.Sized.{Sized}
 use Rattle.machine.specs.Laws.{watchedOf, keeps-watched}
 use Rattle.machine.specs.KeepsWhole.{Lent, ready-facts, whole-facts}
 use Rattle.machine.specs.Fast.{Cold}
-use Rattle.machine.specs.Carried.{Carried, Drives, Drivable}
+use Rattle.machine.specs.Carried.{Carried, Stopped, Drives, Drivable}
 use Rattle.machine.specs.declared.running.Driven.{Driven}
 use Rattle.machine.specs.declared.state.State.{State}
 use Rattle.machine.specs.declared.answer.Answer.{Answer}
@@ -160,58 +160,44 @@ module _ (rom work store : List ℕ) (st : State) (d : Driven) (v : Drives rom s
         (sym (v .1 work store .1 .refused (λ z. n (v .1 work store .1 .spent z)) c))
 
 -- ---- the loop of a run
--- a ready scene, whose run is the whole run
-abbrev pub Going-on : ℕ → Scene → ℕ → Scene → Type 0
-Going-on b s₀ n s = (readyOf s ≡ Going) × Sized (s .state) × (runFrom (b - n) n s ≡ runFrom b 0 s₀)
+-- a ready scene, whose run ends as the whole run does
+abbrev pub Going-on : ℕ → Outcome → ℕ → Scene → Type 0
+Going-on b w n s = (readyOf s ≡ Going) × Sized (s .state) × (runFrom (b - n) n s ≡ w)
 
-pub begun : (b : ℕ) (s : Scene) → readyOf s ≡ Going → Sized (s .state) → Going-on b s 0 s
-begun b s e z = (e, z, ap (λ (k : ℕ). runFrom k 0 s) (sub-zero b))
+-- behind the tokens that were carried out in place
+pub driven : (b n : ℕ) (w : Outcome) (rom work store : List ℕ) (st : State) → Going-on b w n (scene rom work store st) → (d : Driven) → Drives rom st n b d
+    → Going-on b w (d .count) (scene rom work store (d .state))
+driven b n w rom work store st i d v =
+    let r = driven-run b n (d .count) (scene rom work store st) (scene rom work store (d .state)) (v .0 .0) (v .0 .1) (v .1 work store .0) (i .1) (i .0) in
+    (r .1, r .2, sym (r .0) ∙ i .2)
 
-module _ (b n : ℕ) (s₀ : Scene) (rom work store : List ℕ) (st : State) (i : Going-on b s₀ n (scene rom work store st)) (d : Driven) (v : Drives rom st n b d) where
-  abbrev there : Scene
-  there = scene rom work store (d .state)
+-- the first of them
+pub begun : (b : ℕ) (rom work store : List ℕ) (st : State) → readyOf (scene rom work store st) ≡ Going → Sized st → (d : Driven) → Drives rom st 0 b d
+    → Going-on b (runFrom b 0 (scene rom work store st)) (d .count) (scene rom work store (d .state))
+begun b rom work store st e z d v =
+    driven b 0 (runFrom b 0 (scene rom work store st)) rom work store st (e, z, ap (λ (k : ℕ). runFrom k 0 (scene rom work store st)) (sub-zero b)) d v
 
-  -- behind the tokens that were carried out in place
-  pub driven : Going-on b s₀ (d .count) there
-  driven =
-      let r = driven-run b n (d .count) (scene rom work store st) there (v .0 .0) (v .0 .1) (v .1 work store .0) (i .1) (i .0) in
-      (r .1, r .2, sym (r .0) ∙ i .2)
+pub ends-spent : (b n : ℕ) (w : Outcome) (s : Scene) → Going-on b w n s → b ≤ n → ended (Spent n) n s ≡ w
+ends-spent b n w s i l = sym (run-spent b n s (i .0) l) ∙ i .2
 
-  pub all-spent : b ≤ d .count → ended (Spent (d .count)) (d .count) there ≡ runFrom b 0 s₀
-  all-spent l = sym (run-spent b (d .count) there (driven .0) l) ∙ driven .2
+module _ (b n : ℕ) (w : Outcome) (s : Scene) (i : Going-on b w n s) (l : n < b) where
+  pub ends-refused : (code : ℕ) → Stopped s code n b → (code ≡ 1 → ⊥) → ended (Refused code) n s ≡ w
+  ends-refused code p c = sym (run-refused b n code s (i .0) l (p .refused (λ z. let e = p .spent z in omega arith) c)) ∙ i .2
 
-  module _ (l : d .count < b) where
-    not-done : d .code ≡ 0 → ⊥
-    not-done z = let e = v .1 work store .1 .spent z in omega arith
+  -- and behind the token that was done by value, by its answer
+  module _ (r : Turn) (t : r ≡ tokenOf s) where
+    pub turn-ends : (a : Answer) → r .answer ≡ a → after a n (then s r) (λ to. runFrom (b - (n + 1)) (n + 1) to) ≡ w
+    turn-ends a g = sym (run-turn b n s r a (i .0) l t g) ∙ i .2
 
-    pub ends-refused : (d .code ≡ 1 → ⊥) → ended (Refused (d .code)) (d .count) there ≡ runFrom b 0 s₀
-    ends-refused c =
-        sym (run-refused b (d .count) (d .code) there (driven .0) l (v .1 work store .1 .refused not-done c)) ∙ driven .2
+    pub turn-rooted : r .answer ≡ Going → r .state .tree .active ≡ 0 → ended (Refused 7) (n + 1) (then s r) ≡ w
+    turn-rooted g a =
+        let k = turn-ready s r (i .1) (i .0) t g in
+        sym (run-rooted (b - (n + 1)) (n + 1) (then s r) (k .0) a) ∙ turn-ends Going g
 
-    pub cold-there : d .code ≡ 1 → Cold rom (d .state .place)
-    cold-there c = v .1 work store .1 .cold c
-
-    -- and behind the token that was done by value, by its answer
-    module _ (r : Turn) (t : r ≡ tokenOf there) where
-      pub turn-ends : (a : Answer) → r .answer ≡ a → after a (d .count) (then there r) (λ to. runFrom (b - (d .count + 1)) (d .count + 1) to) ≡ runFrom b 0 s₀
-      turn-ends a g = sym (run-turn b (d .count) there r a (driven .0) l t g) ∙ driven .2
-
-      pub turn-rooted : r .answer ≡ Going → r .state .tree .active ≡ 0 → ended (Refused 7) (d .count + 1) (then there r) ≡ runFrom b 0 s₀
-      turn-rooted g a =
-          let k = turn-ready there r (driven .1) (driven .0) t g in
-          sym (run-rooted (b - (d .count + 1)) (d .count + 1) (then there r) (k .0) a) ∙ turn-ends Going g
-
-      pub turn-goes : r .answer ≡ Going → (r .state .tree .active ≡ 0 → ⊥) → Going-on b s₀ (d .count + 1) (then there r)
-      turn-goes g a =
-          let k = turn-ready there r (driven .1) (driven .0) t g in
-          (ready-again (then there r) (k .0) a, k .1, turn-ends Going g)
-
-      -- memory keeps its size
-      pub turn-lent : r .answer ≡ Going → (r .state .tree .active ≡ 0 → ⊥) → (length (r .work) ≡ 16384) × (length (r .store) ≡ 16384)
-      turn-lent g a = let f = ready-facts (then there r) (turn-goes g a .0) .0 in (f .work, f .store)
-
-pub ends-spent : (b n : ℕ) (s₀ s : Scene) → Going-on b s₀ n s → b ≤ n → ended (Spent n) n s ≡ runFrom b 0 s₀
-ends-spent b n s₀ s i l = sym (run-spent b n s (i .0) l) ∙ i .2
+    pub turn-goes : r .answer ≡ Going → (r .state .tree .active ≡ 0 → ⊥) → Going-on b w (n + 1) (then s r)
+    turn-goes g a =
+        let k = turn-ready s r (i .1) (i .0) t g in
+        (ready-again (then s r) (k .0) a, k .1, turn-ends Going g)
 
 pub not-spent : (n : ℕ) → Spent n ≡ Going → ⊥
 not-spent n e = let z : _≡_ {A = ℕ} 0 1 = cc in omega arith

@@ -7,8 +7,6 @@ use mathlib.Core.List.{List, [], _∷_}
 use lib.Dec.{eqb}
 use Rattle.cells.specs.Choice.{pick}
 use Rattle.rom.specs.Bytes.{word32Of}
-use Rattle.rom.specs.declared.branch.Aim.{Aim}
-use Rattle.rom.specs.declared.branch.Aim.the-variants.{Inside, Outside}
 use Rattle.tokens.specs.Family.{plain, always, choice, divide, pickUp, rollUp, maybe}
 use Rattle.tokens.specs.Code.{codeOf, familyIn}
 use Rattle.tokens.specs.Decode.{numberOf}
@@ -33,6 +31,10 @@ hotFamily f = among f hotFamilies
 -- a token that is not done in place
 abbrev pub Cold : List ℕ → ℕ → Type 0
 Cold rom place = hotFamily (familyIn (codeOf (numberOf rom place))) ≡ false
+
+-- the code of a token that is done in place, 0 for any other
+unfoldable pub hotCodeOf : ℕ → ℕ
+hotCodeOf n = pick (hotFamily (familyIn (codeOf n))) (codeOf n) 0
 
 -- a state with the cells, the heights and the place that are held apart from it
 abbrev pub packed : State → List ℕ → ℕ → List ℕ → ℕ → ℕ → State
@@ -98,8 +100,3 @@ behindBranch wide place = place + 1 + pick wide 2 1
 
 abbrev pub onwardOf : Moved → ℕ → ℕ → Turned
 onwardOf m place next = pick (eqb (m .0) 0) (turned 0 (m .1) (m .2) next) (turned (m .0) (m .1) (m .2) place)
-
--- a taken branch from the height h, to the height g
-abbrev pub takenOf : Aim → ℕ → ℕ → ℕ → ℕ → Turned
-takenOf (Inside to) h g b place = turned 0 g b to
-takenOf Outside h g b place = turned 19 h b place

@@ -14,6 +14,7 @@ pub mod Open
 pub mod Moves
 pub mod Slow
 pub mod Fast
+pub mod HotCodes
 pub mod Sized
 pub mod KeepsTests
 pub mod KeepsWhole

@@ -18,7 +18,7 @@ pub both-hold : (a b : Bool) → T (a && b) → T a × T b
 both-hold true b h = (tt, h)
 both-hold false b h = absurd h
 
-follows : (a b : Bool) → T (not a || b) → T a → T b
+pub follows : (a b : Bool) → T (not a || b) → T a → T b
 follows true b h t = h
 follows false b h t = absurd t
 

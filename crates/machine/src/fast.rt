@@ -3,27 +3,26 @@
 ghost use mathlib.Core.Path.{_≡_};
 ghost use Prim.Native.Nat.{_≤_, _+_};
 ghost use Rattle.rom.specs.Bytes.{byteOf};
+ghost use Rattle.rom.specs.Branch.{aimOf, placeIn};
 ghost use Rattle.tokens.specs.Code.{codeOf, familyIn};
 ghost use Rattle.tokens.specs.Family.{plain};
-ghost use Rattle.machine.specs.Fast.{behindPlain, operandPlain, behindBranch, onwardOf, takenOf, Fast, Hot, HotAny, HotBy};
+ghost use Rattle.machine.specs.Fast.{behindPlain, operandPlain, behindBranch, onwardOf, Fast, Hot, HotAny, HotBy};
+use crate::codes::hot_code;
+use crate::reckon::LITERAL;
 use crate::reckon::Moved;
 use crate::reckon::divide;
 use crate::reckon::maybe;
 use crate::reckon::pick_up;
 use crate::reckon::reckon;
 use crate::reckon::roll_up;
-use rom::Aim;
-use rom::aim_at;
 use rom::byte;
+use rom::destination;
 use rom::word32;
-use tokens::code_of;
 use tokens::family;
 use tokens::family_of;
 
 // How a token ended: 0 goes on, 1 is not done here, else why it is refused; then the heights of the two stacks and the place.
 pub struct Turned(pub u32, pub usize, pub usize, pub u32);
-
-const LITERAL: u32 = 0x0101_0001;
 
 // The place behind a token and its operand.
 fn behind_plain(code: u32, place: u32) -> u32
@@ -55,6 +54,14 @@ fn behind_branch(wide: bool, place: u32) -> u32
     if wide { place + 1 + 2 } else { place + 1 + 1 }
 }
 
+// Where the branch at a place leads, 0 for outside.
+fn branch_to(rom: &[u8], length: u32, wide: bool, place: u32) -> u32
+    requires { ⌜ place ≤ 16384 ⌝ }
+    ensures { λ r. ⌜ r ≡ placeIn (aimOf (now (rom .entry)) length wide (place + 1)) ⌝ }
+{
+    destination(rom, length, wide, place + 1)
+}
+
 // The stacks as a token's work left them, at the next place where it was carried out.
 fn onward(m: Moved, place: u32, next: u32) -> Turned
     ensures { λ r. ⌜ r ≡ onwardOf m place next ⌝ }
@@ -66,16 +73,6 @@ fn onward(m: Moved, place: u32, next: u32) -> Turned
     }
 }
 
-// A taken branch, to another height: 19 where it leads out.
-fn taken(aim: Aim, h: usize, g: usize, b: usize, place: u32) -> Turned
-    ensures { λ r. ⌜ r ≡ takenOf aim h g b place ⌝ }
-{
-    match aim {
-        Aim::Inside(to) => Turned(0, g, b, to),
-        Aim::Outside => Turned(19, h, b, place),
-    }
-}
-
 // bbranch
 fn always(rom: &[u8], length: u32, wide: bool, h: usize, b: usize, place: u32) -> Turned
     requires { ⌜ (codeOf (byteOf (now rom) place) ≡ 0x0303_0000) × (h ≤ 64) × (b ≤ 32) × (8 ≤ place) × (place ≤ length) × (length ≤ 16384) ⌝ }
@@ -84,7 +81,11 @@ fn always(rom: &[u8], length: u32, wide: bool, h: usize, b: usize, place: u32) -
     if length < behind_branch(wide, place) {
         return Turned(10, h, b, place);
     }
-    taken(aim_at(rom, length, wide, place + 1), h, h, b, place)
+    let to = branch_to(rom, length, wide, place);
+    if to == 0 {
+        return Turned(19, h, b, place);
+    }
+    Turned(0, h, b, to)
 }
 
 // b?branch
@@ -107,11 +108,14 @@ fn choose(
     if h < 1 {
         return Turned(14, h, b, place);
     }
-    if stack[h - 1] == 0 {
-        taken(aim_at(rom, length, wide, place + 1), h, h - 1, b, place)
-    } else {
-        Turned(0, h - 1, b, next)
+    if stack[h - 1] != 0 {
+        return Turned(0, h - 1, b, next);
     }
+    let to = branch_to(rom, length, wide, place);
+    if to == 0 {
+        return Turned(19, h, b, place);
+    }
+    Turned(0, h - 1, b, to)
 }
 
 // A token that only reckons.
@@ -160,7 +164,7 @@ pub fn fast(
 {
     let at = place as usize;
     let number = byte(rom, at) as u32;
-    let code = code_of(number);
+    let code = hot_code(number);
     let work = family_of(code);
     match work {
         family::PLAIN => plainly(

@@ -1,6 +1,7 @@
 // The evaluator: a ROM is opened to a state, and the state is stepped or run against a budget. Work memory and the property store are lent beside it.
 // Every public call is total: any bytes, any state, any buffers, any budget.
 mod answer;
+mod codes;
 mod define;
 mod encode;
 mod fast;

@@ -15,7 +15,7 @@ const NOTHING: u32 = 0x0100_0000; // noop, b(<mark), b(>resolve)
 
 const PUSH: u32 = 0x0100_0001; // A4..A8, depth
 
-const LITERAL: u32 = 0x0101_0001;
+pub const LITERAL: u32 = 0x0101_0001; // b(lit)
 
 const ONE: u32 = 0x0100_0011;
 

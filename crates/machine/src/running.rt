@@ -185,36 +185,28 @@ fn tokens(rom: &[u8], work: &mut [u8], store: &mut [u8], st: State, budget: u32)
     requires { ⌜ Ready (now rom) (now work) (now store) st × Sized st ⌝ }
     ensures { λ r. ⌜ toldRan r (now (work .exit)) (now (store .exit)) ≡ runOf budget (scene (now (rom .entry)) (now (work .entry)) (now (store .entry)) st) ⌝ }
 {
-    let mut at = st;
-    let mut count: u32 = 0;
-    while count < budget {
-        let d = drive(rom, at, count, budget);
-        at = d.state;
-        count = d.count;
-        if budget <= count {
-            return ended(Answer::Spent(count), count, at);
-        }
+    let mut d = drive(rom, st, 0, budget);
+    while d.count < budget {
         if d.code != 1 {
-            return ended(Answer::Refused(d.code), count, at);
+            return ended(Answer::Refused(d.code), d.count, d.state);
         }
-        let r = slow(rom, &mut *work, &mut *store, at);
+        let r = slow(rom, &mut *work, &mut *store, d.state);
         let answer = r.answer;
         let next = r.state;
         match answer {
             Answer::Going => {
                 let tree = next.tree;
                 if tree.active == 0 {
-                    return ended(Answer::Refused(7), count + 1, next);
+                    return ended(Answer::Refused(7), d.count + 1, next);
                 }
-                at = next;
-                count += 1;
+                d = drive(rom, next, d.count + 1, budget);
             }
-            Answer::Finished => return ended(Answer::Finished, count + 1, next),
-            Answer::Refused(why) => return ended(Answer::Refused(why), count, next),
-            Answer::Spent(n) => return ended(Answer::Spent(n), count, next),
+            Answer::Finished => return ended(Answer::Finished, d.count + 1, next),
+            Answer::Refused(why) => return ended(Answer::Refused(why), d.count, next),
+            Answer::Spent(n) => return ended(Answer::Spent(n), d.count, next),
         }
     }
-    ended(Answer::Spent(count), count, at)
+    ended(Answer::Spent(d.count), d.count, d.state)
 }
 
 fn ended(answer: Answer, count: u32, state: State) -> Ran

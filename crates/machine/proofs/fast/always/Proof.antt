@@ -1,5 +1,5 @@
 use denote.Ref.{now}
-use Rattle.machine.proofs.FastMade.{always-cut-made, always-made}
+use Rattle.machine.proofs.FastMade.{always-cut-made, always-out-made, always-made}
 use borrow.Author.Needs.{needs}
 use Rattle.machine.proofs.fast.always.Statement.{statement}
 use Rattle.machine.proofs.fast.always.Tie as tie
@@ -10,7 +10,6 @@ always-spec =
     (tie.spec
     (λ c κs. search needs)
     (λ c. let a = c .before .before .before .args in λ base x k g. always-cut-made (now (a .rom)) (a .length) (a .wide) base x (a .h) k (a .b) (a .place) (search needs) (search needs, g, search needs, search needs, search needs) _ (c .before .behind-branch .ensures) (c .if1 .taken))
-    (λ c. search needs)
     (λ c κs. search needs)
-    (λ c κs. search needs)
-    (λ c. let a = c .before .before .before .before .before .args in λ base x k g. always-made (now (a .rom)) (a .length) (a .wide) base x (a .h) k (a .b) (a .place) (search needs) (search needs, g, search needs, search needs, search needs) _ _ _ (c .before .before .before .behind-branch .ensures) (c .before .before .if1 .left) (c .before .aim-at .ensures) (c .taken .ensures)))
+    (λ c. let a = c .before .before .before .before .before .args in λ base x k g. always-out-made (now (a .rom)) (a .length) (a .wide) base x (a .h) k (a .b) (a .place) (search needs) (search needs, g, search needs, search needs, search needs) _ _ (c .before .before .before .behind-branch .ensures) (c .before .before .if1 .left) (c .before .branch-to .ensures) (c .if2 .taken))
+    (λ c. let a = c .before .before .before .before .before .args in λ base x k g. always-made (now (a .rom)) (a .length) (a .wide) base x (a .h) k (a .b) (a .place) (search needs) (search needs, g, search needs, search needs, search needs) _ _ (c .before .before .before .behind-branch .ensures) (c .before .before .if1 .left) (c .before .branch-to .ensures) (c .if2 .left)))

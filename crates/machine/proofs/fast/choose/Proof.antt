@@ -1,5 +1,5 @@
 use denote.Ref.{now}
-use Rattle.machine.proofs.FastMade.{choice-cut-made, choice-low-made, choice-taken-made, choice-fallen-made}
+use Rattle.machine.proofs.FastMade.{choice-cut-made, choice-low-made, choice-out-made, choice-taken-made, choice-fallen-made}
 use borrow.Author.Needs.{needs}
 use Rattle.machine.proofs.fast.choose.Statement.{statement}
 use Rattle.machine.proofs.fast.choose.Tie as tie
@@ -13,8 +13,7 @@ choose-spec =
     (λ c. let a = c .before .before .before .before .args in λ base k g. choice-low-made (now (a .rom)) (a .length) (a .wide) base (now (a .stack)) (a .h) k (a .b) (a .place) (search needs) (search needs, g, search needs, search needs, search needs) _ (c .before .before .behind-branch .ensures) (c .before .if1 .left) (c .if2 .taken))
     (λ c. search needs)
     (λ c. search needs)
-    (λ c. search needs)
+    (λ c. let a = c .before .before .before .before .before .before .args in λ base k g. choice-fallen-made (now (a .rom)) (a .length) (a .wide) base (now (a .stack)) (a .h) k (a .b) (a .place) (search needs) (search needs, g, search needs, search needs, search needs) _ (c .before .before .before .before .behind-branch .ensures) (c .before .before .before .if1 .left) (c .before .before .if2 .left) (c .if3 .taken))
     (λ c κs. search needs)
-    (λ c κs. search needs)
-    (λ c. let a = c .before .before .before .before .before .before .before .before .args in λ base k g. choice-taken-made (now (a .rom)) (a .length) (a .wide) base (now (a .stack)) (a .h) k (a .b) (a .place) (search needs) (search needs, g, search needs, search needs, search needs) _ (c .before .before .before .before .before .before .behind-branch .ensures) (c .before .before .before .before .before .if1 .left) _ _ (c .before .before .before .before .if2 .left) (c .before .before .if3 .taken) (c .before .aim-at .ensures) (c .taken .ensures))
-    (λ c. let a = c .before .before .before .before .before .before .args in λ base k g. choice-fallen-made (now (a .rom)) (a .length) (a .wide) base (now (a .stack)) (a .h) k (a .b) (a .place) (search needs) (search needs, g, search needs, search needs, search needs) _ (c .before .before .before .before .behind-branch .ensures) (c .before .before .before .if1 .left) (c .before .before .if2 .left) (c .if3 .left)))
+    (λ c. let a = c .before .before .before .before .before .before .before .before .args in λ base k g. choice-out-made (now (a .rom)) (a .length) (a .wide) base (now (a .stack)) (a .h) k (a .b) (a .place) (search needs) (search needs, g, search needs, search needs, search needs) _ (c .before .before .before .before .before .before .behind-branch .ensures) (c .before .before .before .before .before .if1 .left) _ (c .before .before .before .before .if2 .left) (c .before .before .if3 .left) (c .before .branch-to .ensures) (c .if4 .taken))
+    (λ c. let a = c .before .before .before .before .before .before .before .before .args in λ base k g. choice-taken-made (now (a .rom)) (a .length) (a .wide) base (now (a .stack)) (a .h) k (a .b) (a .place) (search needs) (search needs, g, search needs, search needs, search needs) _ (c .before .before .before .before .before .before .behind-branch .ensures) (c .before .before .before .before .before .if1 .left) _ (c .before .before .before .before .if2 .left) (c .before .before .if3 .left) (c .before .branch-to .ensures) (c .if4 .left)))

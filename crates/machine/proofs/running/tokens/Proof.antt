@@ -2,20 +2,24 @@ use Prim.Native.Nat.{_≤_, _-_}
 use mathlib.Core.Path.{_≡_, refl, _∙_}
 use native.Mathlib.Omega.{arith}
 use lib.ListN.{length}
+use Rattle.machine.specs.Run.{runFrom}
 use Rattle.machine.specs.Scene.{scene}
+use Rattle.machine.specs.Carried.{Stopped}
 use Rattle.machine.specs.declared.answer.Answer.the-variants.{Finished, Refused, Spent}
-use Rattle.machine.proofs.Turns.{drivable, Going-on, begun, driven, all-spent, ends-refused, cold-there, turn-rooted, turn-goes, turn-ends, ends-spent}
+use Rattle.machine.proofs.Turns.{drivable, Going-on, begun, driven, ends-spent, ends-refused, turn-rooted, turn-goes, turn-ends}
 use borrow.Author.Needs.{needs}
 use Rattle.machine.proofs.running.tokens.Statement.{statement}
 use Rattle.machine.proofs.running.tokens.Tie as tie
 
+-- each turn of the loop ends as the run behind the first drive does
 abbrev Inv-loop : tie.InvT-loop
-Inv-loop rom work₀ store₀ budget at₀ count₀ work store at count =
-    ((count ≤ budget) × (length work ≡ length work₀) × (length store ≡ length store₀))
-    × Going-on budget (scene rom work₀ store₀ at₀) count (scene rom work store at)
+Inv-loop rom work₀ store₀ budget d₀ work store d =
+    ((d .count ≤ budget) × (length work ≡ length work₀) × (length store ≡ length store₀))
+    × (Going-on budget (runFrom (budget - d₀ .count) (d₀ .count) (scene rom work₀ store₀ (d₀ .state))) (d .count) (scene rom work store (d .state)))
+    × Stopped (scene rom work store (d .state)) (d .code) (d .count) budget
 
 abbrev μ-loop : tie.MeasureT-loop
-μ-loop rom work₀ store₀ budget at₀ count₀ work store at count = budget - count
+μ-loop rom work₀ store₀ budget d₀ work store d = budget - d .count
 
 pub tokens-spec : {M : Type 1} → statement M
 tokens-spec =
@@ -23,43 +27,40 @@ tokens-spec =
     (tie.spec
     Inv-loop
     μ-loop
-    (λ c. ((search needs, refl, refl), begun _ _ (c .before .before .before .pre .0) (c .before .before .before .pre .1)))
-    (λ c κs. (drivable _ (c .before .loop .inv .1 .0), search needs))
+    (λ c κs. (drivable _ (c .before .before .before .pre .0), search needs))
+    (λ c. let i = begun _ _ _ _ _ (c .before .before .before .before .pre .0) (c .before .before .before .before .pre .1) _ (c .drive .ensures) in ((c .drive .ensures .0 .1, refl, refl), (i .0, i .1, refl), c .drive .ensures .1 _ _ .1))
     (λ c κs. search needs)
     (λ c. search needs)
     (λ c. search needs)
-    (λ c. rw (c .ended .ensures) (all-spent _ _ _ _ _ _ _ (c .before .before .before .before .before .loop .inv .1) _ (c .before .before .before .drive .ensures) (c .before .if1 .taken)))
+    (λ c. rw (c .ended .ensures) (ends-refused _ _ _ _ (c .before .before .before .before .before .loop .inv .1) (c .before .before .before .if1 .taken) _ (c .before .before .before .before .before .loop .inv .2) (c .before .if2 .taken) ∙ begun _ _ _ _ _ (c .before .before .before .before .before .before .before .before .before .before .pre .0) (c .before .before .before .before .before .before .before .before .before .before .pre .1) _ (c .before .before .before .before .before .before .drive .ensures) .2))
+    (λ c κs. (c .before .before .before .before .before .before .loop .inv .1 .0, c .before .before .before .before .before .before .loop .inv .2 .cold (c .before .before .if2 .left)))
+    (λ c. search needs)
+    (λ c. let f = c .before .before .before .before .before .before .before .before .before .before .before .before .before .before .before .before .before .before .before .before .before .before .before .fits .budget in let l = c .before .before .before .before .before .before .before .before .before .before .before .before .before .before .before .before .if1 .taken in omega arith)
+    (λ c κs. search needs)
+    (λ c. c .before .before .before .before .before .before .before .before .before .before .before .before .slow .kept .1 .0 ∙ c .before .before .before .before .before .before .before .before .before .before .before .before .before .before .before .before .before .before .before .loop .inv .0 .1)
+    (λ c. c .before .before .before .before .before .before .before .before .before .before .before .before .slow .kept .1 .1 .0 ∙ c .before .before .before .before .before .before .before .before .before .before .before .before .before .before .before .before .before .before .before .loop .inv .0 .2)
+    (λ c. rw (c .ended2 .ensures) (turn-rooted _ _ _ _ (c .before .before .before .before .before .before .before .before .before .before .before .before .before .before .before .before .before .before .before .loop .inv .1) (c .before .before .before .before .before .before .before .before .before .before .before .before .before .before .before .before .before .if1 .taken) _ (c .before .before .before .before .before .before .before .before .before .before .before .before .slow .ensures) (c .before .before .before .before .before .enum-told .given .1) (c .before .before .if3 .taken) ∙ begun _ _ _ _ _ (c .before .before .before .before .before .before .before .before .before .before .before .before .before .before .before .before .before .before .before .before .before .before .before .before .pre .0) (c .before .before .before .before .before .before .before .before .before .before .before .before .before .before .before .before .before .before .before .before .before .before .before .before .pre .1) _ (c .before .before .before .before .before .before .before .before .before .before .before .before .before .before .before .before .before .before .before .before .drive .ensures) .2))
+    (λ c. let f = c .before .before .before .before .before .before .before .before .before .before .before .before .before .before .before .before .before .before .before .before .before .before .before .fits .budget in let l = c .before .before .before .before .before .before .before .before .before .before .before .before .before .before .before .before .if1 .taken in omega arith)
+    (λ c κs. let i = turn-goes _ _ _ _ (c .before .before .before .before .before .before .before .before .before .before .before .before .before .before .before .before .before .before .loop .inv .1) (c .before .before .before .before .before .before .before .before .before .before .before .before .before .before .before .before .if1 .taken) _ (c .before .before .before .before .before .before .before .before .before .before .before .slow .ensures) (c .before .before .before .before .enum-told .given .1) (c .before .if3 .left) in let l = c .before .before .before .before .before .before .before .before .before .before .before .before .before .before .before .before .if1 .taken in (drivable _ (i .0), omega arith))
+    (λ c. let x = c .drive2 .ensures .0 in let l = c .before .before .before .before .before .before .before .before .before .before .before .before .before .before .before .before .before .if1 .taken in omega arith)
+    (λ c. let i = turn-goes _ _ _ _ (c .before .before .before .before .before .before .before .before .before .before .before .before .before .before .before .before .before .before .before .loop .inv .1) (c .before .before .before .before .before .before .before .before .before .before .before .before .before .before .before .before .before .if1 .taken) _ (c .before .before .before .before .before .before .before .before .before .before .before .before .slow .ensures) (c .before .before .before .before .before .enum-told .given .1) (c .before .before .if3 .left) in ((c .drive2 .ensures .0 .1, c .before .before .before .before .before .before .before .before .before .before .before .before .slow .kept .1 .0 ∙ c .before .before .before .before .before .before .before .before .before .before .before .before .before .before .before .before .before .before .before .loop .inv .0 .1, c .before .before .before .before .before .before .before .before .before .before .before .before .slow .kept .1 .1 .0 ∙ c .before .before .before .before .before .before .before .before .before .before .before .before .before .before .before .before .before .before .before .loop .inv .0 .2), driven _ _ _ _ _ _ _ i _ (c .drive2 .ensures), c .drive2 .ensures .1 _ _ .1))
+    (λ c. search needs)
+    (λ c. let f = c .before .before .before .before .before .before .before .before .before .before .before .before .before .before .before .before .before .before .before .before .fits .budget in let l = c .before .before .before .before .before .before .before .before .before .before .before .before .before .if1 .taken in omega arith)
+    (λ c κs. search needs)
+    (λ c. c .before .before .before .before .before .before .before .before .before .slow .kept .1 .0 ∙ c .before .before .before .before .before .before .before .before .before .before .before .before .before .before .before .before .loop .inv .0 .1)
+    (λ c. c .before .before .before .before .before .before .before .before .before .slow .kept .1 .1 .0 ∙ c .before .before .before .before .before .before .before .before .before .before .before .before .before .before .before .before .loop .inv .0 .2)
+    (λ c. rw (c .ended3 .ensures) (turn-ends _ _ _ _ (c .before .before .before .before .before .before .before .before .before .before .before .before .before .before .before .before .loop .inv .1) (c .before .before .before .before .before .before .before .before .before .before .before .before .before .before .if1 .taken) _ (c .before .before .before .before .before .before .before .before .before .slow .ensures) Finished (c .before .before .enum-told2 .given .1) ∙ begun _ _ _ _ _ (c .before .before .before .before .before .before .before .before .before .before .before .before .before .before .before .before .before .before .before .before .before .pre .0) (c .before .before .before .before .before .before .before .before .before .before .before .before .before .before .before .before .before .before .before .before .before .pre .1) _ (c .before .before .before .before .before .before .before .before .before .before .before .before .before .before .before .before .before .drive .ensures) .2))
+    (λ c. search needs)
+    (λ c κs. search needs)
+    (λ c. c .before .before .before .before .before .before .before .before .before .slow .kept .1 .0 ∙ c .before .before .before .before .before .before .before .before .before .before .before .before .before .before .before .before .loop .inv .0 .1)
+    (λ c. c .before .before .before .before .before .before .before .before .before .slow .kept .1 .1 .0 ∙ c .before .before .before .before .before .before .before .before .before .before .before .before .before .before .before .before .loop .inv .0 .2)
+    (λ c. rw (c .ended4 .ensures) (turn-ends _ _ _ _ (c .before .before .before .before .before .before .before .before .before .before .before .before .before .before .before .before .loop .inv .1) (c .before .before .before .before .before .before .before .before .before .before .before .before .before .before .if1 .taken) _ (c .before .before .before .before .before .before .before .before .before .slow .ensures) (Refused _) (c .before .before .answer .given .1) ∙ begun _ _ _ _ _ (c .before .before .before .before .before .before .before .before .before .before .before .before .before .before .before .before .before .before .before .before .before .pre .0) (c .before .before .before .before .before .before .before .before .before .before .before .before .before .before .before .before .before .before .before .before .before .pre .1) _ (c .before .before .before .before .before .before .before .before .before .before .before .before .before .before .before .before .before .drive .ensures) .2))
+    (λ c. search needs)
+    (λ c κs. search needs)
+    (λ c. c .before .before .before .before .before .before .before .before .before .slow .kept .1 .0 ∙ c .before .before .before .before .before .before .before .before .before .before .before .before .before .before .before .before .loop .inv .0 .1)
+    (λ c. c .before .before .before .before .before .before .before .before .before .slow .kept .1 .1 .0 ∙ c .before .before .before .before .before .before .before .before .before .before .before .before .before .before .before .before .loop .inv .0 .2)
+    (λ c. rw (c .ended5 .ensures) (turn-ends _ _ _ _ (c .before .before .before .before .before .before .before .before .before .before .before .before .before .before .before .before .loop .inv .1) (c .before .before .before .before .before .before .before .before .before .before .before .before .before .before .if1 .taken) _ (c .before .before .before .before .before .before .before .before .before .slow .ensures) (Spent _) (c .before .before .answer2 .given .1) ∙ begun _ _ _ _ _ (c .before .before .before .before .before .before .before .before .before .before .before .before .before .before .before .before .before .before .before .before .before .pre .0) (c .before .before .before .before .before .before .before .before .before .before .before .before .before .before .before .before .before .before .before .before .before .pre .1) _ (c .before .before .before .before .before .before .before .before .before .before .before .before .before .before .before .before .before .drive .ensures) .2))
     (λ c κs. search needs)
     (λ c. search needs)
     (λ c. search needs)
-    (λ c. rw (c .ended2 .ensures) (ends-refused _ _ _ _ _ _ _ (c .before .before .before .before .before .before .before .loop .inv .1) _ (c .before .before .before .before .before .drive .ensures) (c .before .before .before .if1 .left) (c .before .if2 .taken)))
-    (λ c κs. (driven _ _ _ _ _ _ _ (c .before .before .before .before .before .before .before .before .loop .inv .1) _ (c .before .before .before .before .before .before .drive .ensures) .0, cold-there _ _ _ _ _ _ _ (c .before .before .before .before .before .before .before .before .loop .inv .1) _ (c .before .before .before .before .before .before .drive .ensures) (c .before .before .before .before .if1 .left) (c .before .before .if2 .left)))
-    (λ c. search needs)
-    (λ c. let f = c .before .before .before .before .before .before .before .before .before .before .before .before .before .before .before .before .before .before .before .before .before .before .before .fits .budget in let l = c .before .before .before .before .before .before .before .before .before .before .before .before .before .before .before .if1 .left in omega arith)
-    (λ c κs. search needs)
-    (λ c. c .before .before .before .before .before .before .before .before .before .before .before .slow .kept .1 .0 ∙ c .before .before .before .before .before .before .before .before .before .before .before .before .before .before .before .before .before .before .before .before .loop .inv .0 .1)
-    (λ c. c .before .before .before .before .before .before .before .before .before .before .before .slow .kept .1 .1 .0 ∙ c .before .before .before .before .before .before .before .before .before .before .before .before .before .before .before .before .before .before .before .before .loop .inv .0 .2)
-    (λ c. rw (c .ended3 .ensures) (turn-rooted _ _ _ _ _ _ _ (c .before .before .before .before .before .before .before .before .before .before .before .before .before .before .before .before .before .before .before .before .loop .inv .1) _ (c .before .before .before .before .before .before .before .before .before .before .before .before .before .before .before .before .before .before .drive .ensures) (c .before .before .before .before .before .before .before .before .before .before .before .before .before .before .before .before .if1 .left) _ (c .before .before .before .before .before .before .before .before .before .before .before .slow .ensures) (c .before .before .before .before .enum-told .given .1) (c .before .if3 .taken)))
-    (λ c. let f = c .before .before .before .before .before .before .before .before .before .before .before .before .before .before .before .before .before .before .before .before .before .before .before .fits .budget in let l = c .before .before .before .before .before .before .before .before .before .before .before .before .before .before .before .if1 .left in omega arith)
-    (λ c. let x = c .before .before .before .before .before .before .before .before .before .before .before .before .before .before .before .before .before .drive .ensures .0 in omega arith)
-    (λ c. let x = c .before .before .before .before .before .before .before .before .before .before .before .before .before .before .before .before .before .drive .ensures .0 in ((omega arith, c .before .before .before .before .before .before .before .before .before .before .slow .kept .1 .0 ∙ c .before .before .before .before .before .before .before .before .before .before .before .before .before .before .before .before .before .before .before .loop .inv .0 .1, c .before .before .before .before .before .before .before .before .before .before .slow .kept .1 .1 .0 ∙ c .before .before .before .before .before .before .before .before .before .before .before .before .before .before .before .before .before .before .before .loop .inv .0 .2), turn-goes _ _ _ _ _ _ _ (c .before .before .before .before .before .before .before .before .before .before .before .before .before .before .before .before .before .before .before .loop .inv .1) _ (c .before .before .before .before .before .before .before .before .before .before .before .before .before .before .before .before .before .drive .ensures) (c .before .before .before .before .before .before .before .before .before .before .before .before .before .before .before .if1 .left) _ (c .before .before .before .before .before .before .before .before .before .before .slow .ensures) (c .before .before .before .enum-told .given .1) (c .if3 .left)))
-    (λ c. search needs)
-    (λ c. let f = c .before .before .before .before .before .before .before .before .before .before .before .before .before .before .before .before .before .before .before .before .fits .budget in let l = c .before .before .before .before .before .before .before .before .before .before .before .before .if1 .left in omega arith)
-    (λ c κs. search needs)
-    (λ c. c .before .before .before .before .before .before .before .before .slow .kept .1 .0 ∙ c .before .before .before .before .before .before .before .before .before .before .before .before .before .before .before .before .before .loop .inv .0 .1)
-    (λ c. c .before .before .before .before .before .before .before .before .slow .kept .1 .1 .0 ∙ c .before .before .before .before .before .before .before .before .before .before .before .before .before .before .before .before .before .loop .inv .0 .2)
-    (λ c. rw (c .ended4 .ensures) (turn-ends _ _ _ _ _ _ _ (c .before .before .before .before .before .before .before .before .before .before .before .before .before .before .before .before .before .loop .inv .1) _ (c .before .before .before .before .before .before .before .before .before .before .before .before .before .before .before .drive .ensures) (c .before .before .before .before .before .before .before .before .before .before .before .before .before .if1 .left) _ (c .before .before .before .before .before .before .before .before .slow .ensures) Finished (c .before .enum-told2 .given .1)))
-    (λ c. search needs)
-    (λ c κs. search needs)
-    (λ c. c .before .before .before .before .before .before .before .before .before .slow .kept .1 .0 ∙ c .before .before .before .before .before .before .before .before .before .before .before .before .before .before .before .before .before .before .loop .inv .0 .1)
-    (λ c. c .before .before .before .before .before .before .before .before .before .slow .kept .1 .1 .0 ∙ c .before .before .before .before .before .before .before .before .before .before .before .before .before .before .before .before .before .before .loop .inv .0 .2)
-    (λ c. rw (c .ended5 .ensures) (turn-ends _ _ _ _ _ _ _ (c .before .before .before .before .before .before .before .before .before .before .before .before .before .before .before .before .before .before .loop .inv .1) _ (c .before .before .before .before .before .before .before .before .before .before .before .before .before .before .before .before .drive .ensures) (c .before .before .before .before .before .before .before .before .before .before .before .before .before .before .if1 .left) _ (c .before .before .before .before .before .before .before .before .before .slow .ensures) (Refused _) (c .before .before .answer .given .1)))
-    (λ c. search needs)
-    (λ c κs. search needs)
-    (λ c. c .before .before .before .before .before .before .before .before .before .slow .kept .1 .0 ∙ c .before .before .before .before .before .before .before .before .before .before .before .before .before .before .before .before .before .before .loop .inv .0 .1)
-    (λ c. c .before .before .before .before .before .before .before .before .before .slow .kept .1 .1 .0 ∙ c .before .before .before .before .before .before .before .before .before .before .before .before .before .before .before .before .before .before .loop .inv .0 .2)
-    (λ c. rw (c .ended6 .ensures) (turn-ends _ _ _ _ _ _ _ (c .before .before .before .before .before .before .before .before .before .before .before .before .before .before .before .before .before .before .loop .inv .1) _ (c .before .before .before .before .before .before .before .before .before .before .before .before .before .before .before .before .drive .ensures) (c .before .before .before .before .before .before .before .before .before .before .before .before .before .before .if1 .left) _ (c .before .before .before .before .before .before .before .before .before .slow .ensures) (Spent _) (c .before .before .answer2 .given .1)))
-    (λ c κs. search needs)
-    (λ c. search needs)
-    (λ c. search needs)
-    (λ c. rw (c .ended7 .ensures) (ends-spent _ _ _ _ (c .before .before .loop .inv .1) (c .before .loop-test .left))))
+    (λ c. rw (c .ended6 .ensures) (ends-spent _ _ _ _ (c .before .before .before .loop .inv .1) (c .before .if1 .left) ∙ begun _ _ _ _ _ (c .before .before .before .before .before .before .before .before .pre .0) (c .before .before .before .before .before .before .before .before .pre .1) _ (c .before .before .before .before .drive .ensures) .2)))
