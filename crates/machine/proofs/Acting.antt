@@ -8,6 +8,7 @@ use native.Mathlib.Omega.{arith}
 use borrow.Author.Tests.{ltb-true}
 use lib.Dec.{T, eqb, ltb, eqb→eq}
 use lib.ListN.{length}
+use Rattle.cells.specs.Facts.{is-true, both-hold}
 use Rattle.cells.specs.Choice.{pick, find}
 use Rattle.cells.specs.Tests.{pick-is, find-none, Rest}
 use Rattle.rom.specs.Bytes.{byteOf}
@@ -25,18 +26,18 @@ use Rattle.tokens.specs.declared.decoding.Decoded.the-variants.{Cut, Unlisted, 
 use Rattle.tokens.specs.declared.read.Read.{Read}
 use Rattle.tokens.specs.declared.read.Read.the-variants.{Refused as Unread, Good}
 use Rattle.tree.specs.Whole.{wholeTree}
-use Rattle.machine.specs.State.{isOpen}
-use Rattle.machine.specs.Numbers.{colon, value, variable}
-use Rattle.machine.specs.Scene.{Scene, Turn, scene, refuse}
-use Rattle.machine.specs.Refusals.{refusalOf, kindIn}
-use Rattle.machine.specs.Effects.{Effect, textStart, colons, values, variables, effects, actOf}
-use Rattle.machine.specs.Step.{doneOf}
+use Rattle.state.specs.State.{isOpen}
+use Rattle.state.specs.Numbers.{colon, value, variable}
+use Rattle.state.specs.Scene.{Scene, Turn, scene, refuse}
+use Rattle.state.specs.Refusals.{refusalOf, kindIn}
+use Rattle.state.specs.Effects.{Effect, textStart, colons, values, variables, effects, actOf}
+use Rattle.state.specs.Step.{doneOf}
 use Rattle.machine.specs.Fast.{hotFamily, Cold}
 use Rattle.machine.specs.Slow.{Ready, ReadHere, IsDefinition}
-use Rattle.machine.specs.KeepsTests.{is-true, both-hold}
-use Rattle.machine.specs.KeepsWhole.{Lent, Parts, ready-facts, whole-facts, whole-is}
-use Rattle.machine.specs.KeepsToken.{Stands, stands, leave-open, everyRow, code-fact}
-use Rattle.machine.specs.declared.state.State.{State}
+use Rattle.state.specs.KeepsWhole.{Lent, Parts, ready-facts, whole-facts, whole-is}
+use Rattle.state.specs.KeepsToken.{Stands, stands, leave-open}
+use Rattle.tokens.specs.Rows.{code-fact}
+use Rattle.state.specs.declared.state.State.{State}
 
 -- ---- a turn of a token whose code is known
 pub by-code : (s : Scene) (t : Token) (code : ℕ) (x : Turn) → t .code ≡ code → x ≡ doneOf s (tokenOf (t .number) code (t .operand) (t .next)) → x ≡ doneOf s t
@@ -107,7 +108,7 @@ abbrev coldFits : ℕ → Bool
 coldFits c = hotFamily (familyIn c) || (find coldCodes false c || (eqb (outOfPlaceIn c) everywhere || eqb c 0))
 
 codes-fit : (n : ℕ) → T (coldFits (codeOf n))
-unfolding table ends lows highs doubles everyRow
+unfolding table ends lows highs doubles
 codes-fit n = code-fact coldFits tt tt tt n
 
 no-way : (a b c d : Bool) → a ≡ false → b ≡ false → (T c → ⊥) → T (not d) → T (a || (b || (c || d))) → ⊥

@@ -7,8 +7,8 @@ use lib.ListN.{getD, set}
 use lib.Seq.{set-getD}
 use Rattle.tokens.specs.Table.{ends, lows, highs, doubles, table, rowOf}
 use Rattle.tokens.specs.Code.{codeOf}
-use Rattle.machine.specs.Stacks.{leftOf}
-use Rattle.machine.specs.Rows.{coded-one, results-fit}
+use Rattle.state.specs.Stacks.{leftOf}
+use Rattle.tokens.specs.Rows.{coded-one, results-fit}
 use Rattle.machine.specs.Reckoned.{moved, OnData, OfNone, OfOne, OfTwo, OfThree}
 use Rattle.machine.proofs.Paths.{data-fine, none-given}
 

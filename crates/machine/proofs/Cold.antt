@@ -16,11 +16,11 @@ use Rattle.cells.specs.Choice.{pick}
 use Rattle.tree.specs.Property.{badName}
 use Rattle.tree.specs.Node.{noRoom, outermost}
 use Rattle.memory.specs.Cells.{uneven, outsideWork}
-use Rattle.machine.specs.State.{baseOf}
-use Rattle.machine.specs.Numbers.{colon, value, variable, constant, seekOf, isHeld, isBody, kindsOf}
-use Rattle.machine.specs.declared.state.Numbers.{Numbers}
-use Rattle.machine.specs.Scene.{Scene, cellOf}
-use Rattle.machine.specs.Refusals.{refusalOf, bad, newNumber, rounded, titleOf, namedHere, valueHere, titledHere, noRoomFor}
+use Rattle.state.specs.State.{baseOf}
+use Rattle.state.specs.Numbers.{colon, value, variable, constant, seekOf, isHeld, isBody, kindsOf}
+use Rattle.state.specs.declared.state.Numbers.{Numbers}
+use Rattle.state.specs.Scene.{Scene, cellOf}
+use Rattle.state.specs.Refusals.{refusalOf, bad, newNumber, rounded, titleOf, namedHere, valueHere, titledHere, noRoomFor}
 use Rattle.machine.specs.Slow.{ofCell}
 
 module _ (s : Scene) (n : ℕ) (o : Operand) (next : ℕ) where

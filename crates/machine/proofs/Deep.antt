@@ -14,7 +14,7 @@ use Rattle.cells.specs.declared.Divided.{Divided}
 use Rattle.cells.specs.declared.Divided.the-variants.{ByZero, Parts}
 use Rattle.tokens.specs.Table.{ends, lows, highs, doubles, table, rowOf}
 use Rattle.tokens.specs.Code.{codeOf}
-use Rattle.machine.specs.Stacks.{stacks, outcome, leftOf, cellsFrom, plainOf, turnedOf, divideOf, pickUpOf, rollUpOf, maybeOf}
+use Rattle.state.specs.Stacks.{stacks, outcome, leftOf, cellsFrom, plainOf, turnedOf, divideOf, pickUpOf, rollUpOf, maybeOf}
 use Rattle.machine.specs.Reckoned.{moved, Works}
 
 -- ---- what u/mod's answer says

@@ -7,6 +7,7 @@ use native.Mathlib.Omega.{arith}
 use borrow.Author.Tests.{lt-ltb, le-ltb, eq-eqb, ne-eqb, eqb-true, eqb-false, ltb-true, ltb-false}
 use lib.Dec.{eqb, ltb, leb, leb→le}
 use lib.ListN.{getD}
+use Rattle.cells.specs.Facts.{holds, both-hold}
 use Rattle.cells.specs.Tests.{pick-is}
 use Rattle.tokens.specs.Table.{isProgram}
 use Rattle.tokens.specs.Decode.{tokenOf, decodeOf, isKind}
@@ -22,27 +23,27 @@ use Rattle.tokens.specs.declared.read.Read.the-variants.{Refused as Unread, Goo
 use Rattle.tokens.specs.declared.body.Body.{Body}
 use Rattle.tokens.specs.declared.body.Body.the-variants.{Ends, Stops}
 use Rattle.memory.specs.Writing.{writtenOf, bytesOf}
-use Rattle.machine.specs.State.{moved, movedTo, withNumbers, withWork}
-use Rattle.machine.specs.Numbers.{colon, value, variable, constant, seekFrom, seekOf, isHeld, definedOf, assignedOf}
-use Rattle.machine.specs.Numbers.{kindOfByte, kindAt, kindHeld, kindsOf}
-use Rattle.machine.specs.Scene.{scene, turn, told}
-use Rattle.machine.specs.Refusals.{newNumber, kindIn, rounded}
-use Rattle.machine.specs.Effects.{gave, behindBody, effects, actOf}
-use Rattle.machine.specs.Moves.{stepped, popOf, pushOf, callOf}
-use Rattle.machine.specs.Step.{doneOf}
+use Rattle.state.specs.State.{moved, movedTo, withNumbers, withWork}
+use Rattle.state.specs.Numbers.{colon, value, variable, constant, seekFrom, seekOf, isHeld, definedOf, assignedOf}
+use Rattle.state.specs.Numbers.{kindOfByte, kindAt, kindHeld, kindsOf}
+use Rattle.state.specs.Scene.{scene, turn, told}
+use Rattle.state.specs.Refusals.{newNumber, kindIn, rounded}
+use Rattle.state.specs.Effects.{gave, behindBody, effects, actOf}
+use Rattle.state.specs.Moves.{stepped, popOf, pushOf, callOf}
+use Rattle.state.specs.Step.{doneOf}
 use Rattle.machine.specs.Slow.{QuietOf, QuietBy, Defines, Colons, Variables, Fresh, TakesValue}
-use Rattle.machine.specs.KeepsTests.{find-at, holds, both-hold}
-use Rattle.machine.specs.KeepsToken.{behind-body}
-use Rattle.machine.specs.declared.state.State.{State}
-use Rattle.machine.specs.declared.state.Numbers.{Numbers}
-use Rattle.machine.specs.declared.answer.Answer.the-variants.{Going, Refused}
-use Rattle.machine.specs.declared.answer.Popped.{Popped}
-use Rattle.machine.specs.declared.answer.Stepped.{Stepped}
+use Rattle.state.specs.KeepsTests.{find-at}
+use Rattle.state.specs.KeepsToken.{behind-body}
+use Rattle.state.specs.declared.state.State.{State}
+use Rattle.state.specs.declared.state.Numbers.{Numbers}
+use Rattle.state.specs.declared.answer.Answer.the-variants.{Going, Refused}
+use Rattle.state.specs.declared.answer.Popped.{Popped}
+use Rattle.state.specs.declared.answer.Stepped.{Stepped}
 use Rattle.machine.proofs.Cold.{assign-unknown, assign-low, assign-good, call-unknown, call-high, call-value, call-deep, call-body}
 use Rattle.machine.proofs.Cold.{define-held, define-most, colon-stops, colon-good, variable-full, variable-good, value-low, value-good, constant-low, constant-good}
 use Rattle.machine.proofs.Done.{carried, stopped}
 use Rattle.machine.proofs.Pops.{cellAt, first-pop, popped-on, still-on, pushed-here}
-use Rattle.machine.proofs.Seeking.{program-bounds, kind-got}
+use Rattle.state.specs.Seeking.{program-bounds, kind-got}
 
 -- ---- the kind that the numbers say
 module _ (ns : Numbers) (m : ℕ) where

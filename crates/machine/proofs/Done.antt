@@ -4,13 +4,13 @@ use mathlib.Core.Path.{_≡_, _∙_, ap}
 use mathlib.Core.Bool.{false}
 use lib.Dec.{eqb}
 use borrow.Author.Tests.{eq-eqb}
+use Rattle.cells.specs.Facts.{when-true, when-false}
 use Rattle.tokens.specs.Decode.{tokenOf}
 use Rattle.tokens.specs.declared.decoding.Token.{Token}
-use Rattle.machine.specs.Scene.{Scene, refuse}
-use Rattle.machine.specs.Refusals.{refusalOf}
-use Rattle.machine.specs.Effects.{actOf}
-use Rattle.machine.specs.Step.{doneOf}
-use Rattle.machine.proofs.Seeking.{when-true, when-false}
+use Rattle.state.specs.Scene.{Scene, refuse}
+use Rattle.state.specs.Refusals.{refusalOf}
+use Rattle.state.specs.Effects.{actOf}
+use Rattle.state.specs.Step.{doneOf}
 
 pub carried : (s : Scene) (t : Token) → refusalOf s t ≡ 0 → doneOf s t ≡ actOf s t
 unfolding doneOf

@@ -6,14 +6,14 @@ use mathlib.Core.List.{List}
 use native.Mathlib.Omega.{arith}
 use borrow.Author.Tests.{eqb-true, eqb-false, ne-eqb}
 use lib.Dec.{eqb}
-use Rattle.machine.specs.Scene.{Scene, Turn, scene, turn, refuse}
-use Rattle.machine.specs.Step.{tokenOf}
-use Rattle.machine.specs.Run.{then}
-use Rattle.machine.specs.Laws.{refused-keeps}
+use Rattle.state.specs.Scene.{Scene, Turn, scene, turn, refuse}
+use Rattle.state.specs.Step.{tokenOf}
+use Rattle.state.specs.Run.{then}
+use Rattle.state.specs.Laws.{refused-keeps}
 use Rattle.machine.specs.Fast.{Cold, packed, said, Goes, Fast}
 use Rattle.machine.specs.Carried.{Carried, Stopped}
-use Rattle.machine.specs.declared.state.State.{State}
-use Rattle.machine.specs.declared.answer.Answer.the-variants.{Going, Refused}
+use Rattle.state.specs.declared.state.State.{State}
+use Rattle.state.specs.declared.answer.Answer.the-variants.{Going, Refused}
 use Rattle.machine.specs.declared.fast.Turned.{Turned}
 
 pub carried-none : (n : ℕ) (s : Scene) → Carried (n - n) s s

@@ -12,15 +12,15 @@ use Rattle.memory.specs.Writing.{writtenOf, bytesOf}
 use Rattle.memory.specs.Laws.{written-append, written-more, written-none, length-resolved, range-rom, resolved-rom, resolved-work, resolved-none}
 use Rattle.memory.specs.declared.window.Window.{Window}
 use Rattle.memory.specs.declared.window.Window.the-variants.{Rom, Work, Nowhere}
-use Rattle.machine.specs.State.{withWork, moved}
-use Rattle.machine.specs.Scene.{scene, turn, told}
-use Rattle.machine.specs.Effects.{gave, effects, actOf}
-use Rattle.machine.specs.Moves.{stepped, popOf}
+use Rattle.state.specs.State.{withWork, moved}
+use Rattle.state.specs.Scene.{scene, turn, told}
+use Rattle.state.specs.Effects.{gave, effects, actOf}
+use Rattle.state.specs.Moves.{stepped, popOf}
 use Rattle.machine.specs.Slow.{Quiet, Writes, WritesFrom, pairOn, encodedOn}
-use Rattle.machine.specs.declared.state.State.{State}
-use Rattle.machine.specs.declared.answer.Answer.the-variants.{Going, Refused}
-use Rattle.machine.specs.declared.answer.Popped.{Popped}
-use Rattle.machine.specs.declared.answer.Stepped.{Stepped}
+use Rattle.state.specs.declared.state.State.{State}
+use Rattle.state.specs.declared.answer.Answer.the-variants.{Going, Refused}
+use Rattle.state.specs.declared.answer.Popped.{Popped}
+use Rattle.state.specs.declared.answer.Stepped.{Stepped}
 use Rattle.machine.proofs.Cold.{join-apart, join-good, int-good, string-bad, string-full, string-good}
 use Rattle.machine.proofs.Done.{carried, stopped}
 use Rattle.machine.proofs.Pops.{poppedBy, cellAt, first-pop, two-pops, four-pops, lowered, paired-on}

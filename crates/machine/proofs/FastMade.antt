@@ -1,35 +1,33 @@
 -- What each way through a token in place promises. Assumes nothing.
 use Prim.Native.Nat.{ℕ, _+_, _-_, _<_, _≤_}
 use mathlib.Core.Path.{_≡_, refl, sym, _∙_, ap, subst}
-use mathlib.Core.Bool.{Bool, true, false, not, _&&_, _||_}
+use mathlib.Core.Bool.{Bool, true, false, not, _||_}
 use mathlib.Core.List.{List}
 use native.Mathlib.Omega.{arith}
 use native.Mathlib.Nat.{sub-zero}
 use borrow.Author.Tests.{eqb-false}
-use lib.Dec.{T, ltb, leb, eqb, eqb→eq, eqb-refl}
-use lib.IntN.{ℤ, pos, negsuc}
+use lib.Dec.{T, ltb, eqb, eqb→eq, eqb-refl}
 use lib.ListN.{getD}
+use Rattle.cells.specs.Facts.{follows}
 use Rattle.cells.specs.Choice.{pick}
-use Rattle.cells.specs.Tests.{tests, pick-is}
-use Rattle.rom.specs.Sizes.{firstPlace, dataMost}
+use Rattle.cells.specs.Tests.{pick-is}
+use Rattle.rom.specs.Sizes.{dataMost}
 use Rattle.rom.specs.Bytes.{byteOf}
 use Rattle.rom.specs.Branch.{aimOf, placeIn}
 use Rattle.rom.specs.BranchLaws.{AimFits, aim-fits, aim-outside, aim-inside}
-use Rattle.rom.specs.declared.branch.Aim.{Aim}
-use Rattle.rom.specs.declared.branch.Aim.the-variants.{Inside, Outside}
+use Rattle.rom.specs.declared.branch.Aim.the-variants.{Inside}
 use Rattle.tokens.specs.Family.{plain, always, choice, divide, pickUp, rollUp, maybe}
 use Rattle.tokens.specs.Row.{Row}
 use Rattle.tokens.specs.Table.{ends, lows, highs, doubles, table, program, notListed, rowOf}
 use Rattle.tokens.specs.Code.{packed as packedRow, codeOf, familyIn, formIn}
 use Rattle.tokens.specs.Decode.{isDouble}
-use Rattle.machine.specs.KeepsTests.{both-hold}
-use Rattle.machine.specs.Rows.{follows, everyRow, rows-pass}
-use Rattle.machine.specs.Stacks.{Stacks, stacks, topOf, tooLow, tooHigh, tooDeep, backTrouble, Outcome, outcome, reckonOf, divideOf, pickUpOf, rollUpOf, maybeOf}
+use Rattle.tokens.specs.Rows.{everyRow, rows-pass}
+use Rattle.state.specs.Stacks.{Stacks, stacks, topOf, tooLow, tooHigh, tooDeep, backTrouble, Outcome, outcome, reckonOf, divideOf, pickUpOf, rollUpOf, maybeOf}
 use Rattle.machine.specs.Reckoned.{told, Stands, Works}
-use Rattle.machine.specs.Scene.{scene, refuse}
-use Rattle.machine.specs.Step.{tokenOf}
-use Rattle.machine.specs.Fast.{hotFamilies, hotFamily, Cold, packed, Goes, Fits, Hot, Fast, turned, behindPlain, operandPlain, behindBranch, onwardOf}
-use Rattle.machine.specs.declared.state.State.{State}
+use Rattle.state.specs.Scene.{scene, refuse}
+use Rattle.state.specs.Step.{tokenOf}
+use Rattle.machine.specs.Fast.{hotFamily, Cold, packed, Goes, Fits, Hot, Fast, turned, behindPlain, operandPlain, behindBranch, onwardOf}
+use Rattle.state.specs.declared.state.State.{State}
 use Rattle.machine.specs.declared.reckon.Moved.{Moved}
 use Rattle.machine.specs.declared.fast.Turned.{Turned}
 use Rattle.machine.proofs.Hot.{double-cold}

@@ -6,8 +6,8 @@ use lib.Dec.{T}
 use Rattle.tokens.specs.Row.{Seen}
 use Rattle.tokens.specs.Table.{ends, lows, highs, doubles, table, rowOf}
 use Rattle.tokens.specs.Code.{codeOf}
-use Rattle.machine.specs.Stacks.{reckonedOf}
-use Rattle.machine.specs.Rows.{among, coded, coded-other}
+use Rattle.state.specs.Stacks.{reckonedOf}
+use Rattle.tokens.specs.Rows.{among, coded, coded-other}
 use Rattle.machine.specs.Reckoned.{OfNone, OfOne, OfTwo, OfThree}
 
 module _ (k : ℕ) where

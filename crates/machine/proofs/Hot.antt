@@ -7,6 +7,7 @@ use mathlib.Core.List.{List}
 use native.Mathlib.Omega.{arith}
 use borrow.Author.Tests.{eqb-true, leb-true}
 use lib.Dec.{T, ltb, leb, eqb, eqb→eq}
+use Rattle.cells.specs.Facts.{is-false, holds, both-hold, follows}
 use Rattle.cells.specs.Choice.{pick}
 use Rattle.cells.specs.Tests.{tests}
 use Rattle.rom.specs.Bytes.{byteOf}
@@ -19,11 +20,10 @@ use Rattle.tokens.specs.declared.decoding.Operand.{Operand}
 use Rattle.tokens.specs.declared.decoding.Decoded.the-variants.{Cut, Whole}
 use Rattle.tokens.specs.declared.read.Read.{Read}
 use Rattle.tokens.specs.declared.read.Read.the-variants.{Refused as Unread, Good}
-use Rattle.machine.specs.KeepsTests.{is-false, holds, both-hold}
-use Rattle.machine.specs.Rows.{follows, rows-pass}
-use Rattle.machine.specs.State.{isOpen}
-use Rattle.machine.specs.Scene.{Scene, refuse}
-use Rattle.machine.specs.Step.{readTurn, doneOf, tokenOf}
+use Rattle.tokens.specs.Rows.{rows-pass}
+use Rattle.state.specs.State.{isOpen}
+use Rattle.state.specs.Scene.{Scene, refuse}
+use Rattle.state.specs.Step.{readTurn, doneOf, tokenOf}
 use Rattle.machine.specs.Fast.{hotFamily}
 
 -- ---- what the list says of every hot number

@@ -18,17 +18,17 @@ use Rattle.tokens.specs.Decode.{behindOf, operandOf}
 use Rattle.tokens.specs.Decode.{tokenOf as tokenMade}
 use Rattle.tokens.specs.declared.decoding.Operand.{Operand}
 use Rattle.tokens.specs.declared.decoding.Operand.the-variants.{Nothing, Branch}
-use Rattle.machine.specs.Rows.{coded-one}
+use Rattle.tokens.specs.Rows.{coded-one}
 use Rattle.rom.specs.Sizes.{dataMost}
 use Rattle.cells.specs.Tests.{pick-is}
-use Rattle.machine.specs.Stacks.{Stacks, stacks, leftOf, topOf, tooLow, tooHigh, tooDeep, backTrouble, Outcome, outcome, reckonOf, divideOf, pickUpOf, rollUpOf, maybeOf}
+use Rattle.state.specs.Stacks.{Stacks, stacks, leftOf, topOf, tooLow, tooHigh, tooDeep, backTrouble, Outcome, outcome, reckonOf, divideOf, pickUpOf, rollUpOf, maybeOf}
 use Rattle.machine.specs.Reckoned.{told}
-use Rattle.machine.specs.State.{stacksOf, moved, baseOf}
-use Rattle.machine.specs.Scene.{Scene, Turn, turn, refuse, goes, cellOf}
-use Rattle.machine.specs.Effects.{operandIn}
-use Rattle.machine.specs.Step.{doneOf, tokenOf}
+use Rattle.state.specs.State.{stacksOf, moved, baseOf}
+use Rattle.state.specs.Scene.{Scene, Turn, turn, refuse, goes, cellOf}
+use Rattle.state.specs.Effects.{operandIn}
+use Rattle.state.specs.Step.{doneOf, tokenOf}
 use Rattle.machine.specs.Fast.{hotFamily, packed, said, turned, behindPlain, operandPlain, behindBranch, onwardOf}
-use Rattle.machine.specs.declared.answer.Answer.the-variants.{Going, Refused}
+use Rattle.state.specs.declared.answer.Answer.the-variants.{Going, Refused}
 use Rattle.machine.specs.declared.reckon.Moved.{Moved}
 use Rattle.machine.specs.declared.fast.Turned.{Turned}
 use Rattle.machine.proofs.Hot.{hot-turn}

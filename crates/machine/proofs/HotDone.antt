@@ -15,13 +15,13 @@ use Rattle.tokens.specs.Decode.{behindOf, operandOf}
 use Rattle.tokens.specs.Decode.{tokenOf as tokenMade}
 use Rattle.tokens.specs.declared.decoding.Operand.{Operand}
 use Rattle.tokens.specs.declared.decoding.Operand.the-variants.{Branch}
-use Rattle.machine.specs.Rows.{among, plainCodes, plain-coded}
-use Rattle.machine.specs.Stacks.{stacks, plainOf, tooLow, tooHigh, backTrouble, Outcome, outcome, reckonOf, divideOf, pickUpOf, pickedOf, rollUpOf, rolledOf, maybeOf, doubledOf}
-use Rattle.machine.specs.State.{stacksOf, moved, movedTo, baseOf}
-use Rattle.machine.specs.Scene.{Scene, Turn, refuse, goes, cellOf}
-use Rattle.machine.specs.Refusals.{refusalOf}
-use Rattle.machine.specs.Effects.{actOf, effects, operandIn, gave}
-use Rattle.machine.specs.Step.{doneOf}
+use Rattle.tokens.specs.Rows.{among, plainCodes, plain-coded}
+use Rattle.state.specs.Stacks.{stacks, plainOf, tooLow, tooHigh, backTrouble, Outcome, outcome, reckonOf, divideOf, pickUpOf, pickedOf, rollUpOf, rolledOf, maybeOf, doubledOf}
+use Rattle.state.specs.State.{stacksOf, moved, movedTo, baseOf}
+use Rattle.state.specs.Scene.{Scene, Turn, refuse, goes, cellOf}
+use Rattle.state.specs.Refusals.{refusalOf}
+use Rattle.state.specs.Effects.{actOf, effects, operandIn, gave}
+use Rattle.state.specs.Step.{doneOf}
 use Rattle.machine.specs.Fast.{behindPlain, operandPlain}
 use Rattle.machine.proofs.Done.{carried, stopped}
 

@@ -16,17 +16,17 @@ use Rattle.tree.specs.Node.{noRoom, outermost, childOf, finishedOf, newDeviceOf
 use Rattle.tree.specs.Node.{doneOf as treeDone}
 use Rattle.tree.specs.declared.tree.Tree.{Tree}
 use Rattle.tree.specs.declared.tree.Written.{Written}
-use Rattle.machine.specs.State.{moved, withTree}
-use Rattle.machine.specs.Scene.{Scene, scene, turn, told}
-use Rattle.machine.specs.Refusals.{refusalOf, titleOf}
-use Rattle.machine.specs.Effects.{gave, effects, actOf}
-use Rattle.machine.specs.Moves.{stepped, popOf}
-use Rattle.machine.specs.Step.{doneOf}
+use Rattle.state.specs.State.{moved, withTree}
+use Rattle.state.specs.Scene.{Scene, scene, turn, told}
+use Rattle.state.specs.Refusals.{refusalOf, titleOf}
+use Rattle.state.specs.Effects.{gave, effects, actOf}
+use Rattle.state.specs.Moves.{stepped, popOf}
+use Rattle.state.specs.Step.{doneOf}
 use Rattle.machine.specs.Slow.{Quiet, KeepsFrom, KeepsBy, keptOn}
-use Rattle.machine.specs.declared.state.State.{State}
-use Rattle.machine.specs.declared.answer.Answer.the-variants.{Going, Refused}
-use Rattle.machine.specs.declared.answer.Popped.{Popped}
-use Rattle.machine.specs.declared.answer.Stepped.{Stepped}
+use Rattle.state.specs.declared.state.State.{State}
+use Rattle.state.specs.declared.answer.Answer.the-variants.{Going, Refused}
+use Rattle.state.specs.declared.answer.Popped.{Popped}
+use Rattle.state.specs.declared.answer.Stepped.{Stepped}
 use Rattle.machine.proofs.Cold.{open-full, open-good, close-outermost, close-good, property-bad-name, property-bad-value, property-put, title-bad, title-put}
 use Rattle.machine.proofs.Done.{carried, stopped}
 use Rattle.machine.proofs.Pops.{poppedBy, cellAt, two-pops, four-pops, popped-on}

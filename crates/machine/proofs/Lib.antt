@@ -3,16 +3,13 @@ pub mod Arms
 pub mod Returns
 pub mod Deep
 pub mod Given
-pub mod Seeking
 pub mod Done
 pub mod Cold
 pub mod Hot
 pub mod HotDone
 pub mod HotAgrees
 pub mod FastMade
-pub mod Wholes
 pub mod Driving
-pub mod Opened
 pub mod Turns
 pub mod Pops
 pub mod Memories

@@ -15,13 +15,13 @@ use Rattle.memory.specs.Writing.{writtenOf, bytesOf}
 use Rattle.memory.specs.Cells.{uneven, outsideWork, fetchCellOf, fetchByteOf, cellRefusal, byteRefusal}
 use Rattle.memory.specs.declared.window.Fetched.{Fetched}
 use Rattle.memory.specs.declared.window.Fetched.the-variants.{Value, Refused as NotFetched}
-use Rattle.machine.specs.State.{moved}
-use Rattle.machine.specs.Scene.{Scene, scene, turn, refuse, goes, cellOf}
-use Rattle.machine.specs.Effects.{gave, effects, actOf}
-use Rattle.machine.specs.Step.{doneOf}
+use Rattle.state.specs.State.{moved}
+use Rattle.state.specs.Scene.{Scene, scene, turn, refuse, goes, cellOf}
+use Rattle.state.specs.Effects.{gave, effects, actOf}
+use Rattle.state.specs.Step.{doneOf}
 use Rattle.machine.specs.Slow.{ofCell, lookOf, storeWhy, storeThen}
-use Rattle.machine.specs.declared.state.State.{State}
-use Rattle.machine.specs.declared.answer.Answer.the-variants.{Going, Refused}
+use Rattle.state.specs.declared.state.State.{State}
+use Rattle.state.specs.declared.answer.Answer.the-variants.{Going, Refused}
 use Rattle.machine.proofs.Cold.{fetch-cell, fetch-byte, store-cell, store-byte}
 use Rattle.machine.proofs.Done.{carried, stopped}
 

@@ -9,8 +9,8 @@ use Rattle.tokens.specs.Family.{plain}
 use Rattle.tokens.specs.Row.{Seen, Result}
 use Rattle.tokens.specs.Table.{rowOf}
 use Rattle.tokens.specs.Code.{codeOf, familyIn, takesIn, givesIn, returnTakesIn, returnGivesIn}
-use Rattle.machine.specs.Stacks.{Stacks, stacks, outcome, leftOf, seenOf, reckonedOf, plainOf, reckonOf}
-use Rattle.machine.specs.Rows.{return-results-fit}
+use Rattle.state.specs.Stacks.{Stacks, stacks, outcome, leftOf, seenOf, reckonedOf, plainOf, reckonOf}
+use Rattle.tokens.specs.Rows.{return-results-fit}
 use Rattle.machine.specs.Reckoned.{moved, Stands, Reckons, OnData}
 use Rattle.machine.specs.declared.reckon.Moved.{Moved}
 

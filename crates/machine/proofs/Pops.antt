@@ -5,15 +5,15 @@ use mathlib.Core.List.{[], _∷_}
 use native.Mathlib.Omega.{arith}
 use borrow.Author.Tests.{lt-ltb, ne-eqb}
 use lib.ListN.{getD}
-use Rattle.machine.specs.Stacks.{stacks, leftOf, topOf}
-use Rattle.machine.specs.State.{moved, movedTo}
-use Rattle.machine.specs.Effects.{gave}
-use Rattle.machine.specs.Moves.{stepped, restacked, pushOf, popOf}
+use Rattle.state.specs.Stacks.{stacks, leftOf, topOf}
+use Rattle.state.specs.State.{moved, movedTo}
+use Rattle.state.specs.Effects.{gave}
+use Rattle.state.specs.Moves.{stepped, restacked, pushOf, popOf}
 use Rattle.machine.specs.Slow.{pairOn}
-use Rattle.machine.specs.declared.state.State.{State}
-use Rattle.machine.specs.declared.answer.Answer.the-variants.{Going}
-use Rattle.machine.specs.declared.answer.Popped.{Popped}
-use Rattle.machine.specs.declared.answer.Stepped.{Stepped}
+use Rattle.state.specs.declared.state.State.{State}
+use Rattle.state.specs.declared.answer.Answer.the-variants.{Going}
+use Rattle.state.specs.declared.answer.Popped.{Popped}
+use Rattle.state.specs.declared.answer.Stepped.{Stepped}
 
 module _ (st : State) where
   -- the state with its k highest cells gone

@@ -7,8 +7,8 @@ use lib.ListN.{getD, set}
 use lib.Seq.{set-getD}
 use Rattle.tokens.specs.Table.{ends, lows, highs, doubles, table, rowOf}
 use Rattle.tokens.specs.Code.{codeOf}
-use Rattle.machine.specs.Stacks.{stacks, outcome, leftOf, plainOf}
-use Rattle.machine.specs.Rows.{coded-one}
+use Rattle.state.specs.Stacks.{stacks, outcome, leftOf, plainOf}
+use Rattle.tokens.specs.Rows.{coded-one}
 use Rattle.machine.specs.Reckoned.{moved, Both}
 use Rattle.machine.proofs.Paths.{low, back-low, back-high, high, fine}
 

@@ -6,20 +6,20 @@ use native.Mathlib.Omega.{arith}
 use borrow.Author.Tests.{eq-eqb, ne-eqb}
 use native.Mathlib.Nat.{sub-zero}
 use lib.ListN.{length}
-use Rattle.machine.specs.Scene.{Scene, Turn, scene, turn, refuse}
-use Rattle.machine.specs.Step.{readyOf, tokenOf}
-use Rattle.machine.specs.Run.{Outcome, ended, then, after, runFrom}
-use Rattle.machine.specs.Sized.{Sized}
-use Rattle.machine.specs.Laws.{watchedOf, keeps-watched}
-use Rattle.machine.specs.KeepsWhole.{Lent, ready-facts, whole-facts}
+use Rattle.state.specs.Scene.{Scene, Turn, scene, turn, refuse}
+use Rattle.state.specs.Step.{readyOf, tokenOf}
+use Rattle.state.specs.Run.{Outcome, ended, then, after, runFrom}
+use Rattle.state.specs.Sized.{Sized}
+use Rattle.state.specs.Laws.{watchedOf, keeps-watched}
+use Rattle.state.specs.KeepsWhole.{Lent, ready-facts, whole-facts}
 use Rattle.machine.specs.Fast.{Cold}
 use Rattle.machine.specs.Carried.{Carried, Stopped, Drives, Drivable}
 use Rattle.machine.specs.declared.running.Driven.{Driven}
-use Rattle.machine.specs.declared.state.State.{State}
-use Rattle.machine.specs.declared.answer.Answer.{Answer}
-use Rattle.machine.specs.declared.answer.Answer.the-variants.{Going, Finished, Refused, Spent}
+use Rattle.state.specs.declared.state.State.{State}
+use Rattle.state.specs.declared.answer.Answer.{Answer}
+use Rattle.state.specs.declared.answer.Answer.the-variants.{Going, Finished, Refused, Spent}
 use Rattle.tree.specs.declared.tree.Tree.{Tree}
-use Rattle.machine.specs.KeepsParts.{base-below}
+use Rattle.state.specs.KeepsParts.{base-below}
 
 -- ---- a ready state may be driven
 pub drivable : (s : Scene) → readyOf s ≡ Going → Drivable (s .state)

@@ -4,13 +4,13 @@ use mathlib.Core.Path.{_≡_}
 use mathlib.Core.Bool.{Bool}
 use mathlib.Core.List.{List}
 use lib.ListN.{length}
-use Rattle.machine.specs.State.{baseOf}
-use Rattle.machine.specs.Scene.{Scene, scene, refuse}
-use Rattle.machine.specs.Step.{tokenOf}
-use Rattle.machine.specs.Run.{then}
+use Rattle.state.specs.State.{baseOf}
+use Rattle.state.specs.Scene.{Scene, scene, refuse}
+use Rattle.state.specs.Step.{tokenOf}
+use Rattle.state.specs.Run.{then}
 use Rattle.machine.specs.Fast.{Cold, packed, Goes}
-use Rattle.machine.specs.declared.state.State.{State}
-use Rattle.machine.specs.declared.answer.Answer.the-variants.{Going}
+use Rattle.state.specs.declared.state.State.{State}
+use Rattle.state.specs.declared.answer.Answer.the-variants.{Going}
 use Rattle.machine.specs.declared.running.Went.{Went}
 use Rattle.machine.specs.declared.running.Driven.{Driven}
 

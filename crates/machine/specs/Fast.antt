@@ -10,14 +10,14 @@ use Rattle.rom.specs.Bytes.{word32Of}
 use Rattle.tokens.specs.Family.{plain, always, choice, divide, pickUp, rollUp, maybe}
 use Rattle.tokens.specs.Code.{codeOf, familyIn}
 use Rattle.tokens.specs.Decode.{numberOf}
-use Rattle.machine.specs.Stacks.{stacks}
-use Rattle.machine.specs.State.{moved, baseOf}
-use Rattle.machine.specs.Scene.{turn, scene}
-use Rattle.machine.specs.Step.{tokenOf}
-use Rattle.machine.specs.Rows.{among}
-use Rattle.machine.specs.declared.state.State.{State}
-use Rattle.machine.specs.declared.answer.Answer.{Answer}
-use Rattle.machine.specs.declared.answer.Answer.the-variants.{Going, Refused}
+use Rattle.state.specs.Stacks.{stacks}
+use Rattle.state.specs.State.{moved, baseOf}
+use Rattle.state.specs.Scene.{turn, scene}
+use Rattle.state.specs.Step.{tokenOf}
+use Rattle.tokens.specs.Rows.{among}
+use Rattle.state.specs.declared.state.State.{State}
+use Rattle.state.specs.declared.answer.Answer.{Answer}
+use Rattle.state.specs.declared.answer.Answer.the-variants.{Going, Refused}
 use Rattle.machine.specs.declared.reckon.Moved.{Moved}
 use Rattle.machine.specs.declared.fast.Turned.{Turned}
 

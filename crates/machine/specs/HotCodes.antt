@@ -4,11 +4,13 @@ use mathlib.Core.Path.{_≡_, refl, sym, _∙_, ap, subst}
 use mathlib.Core.Bool.{Bool, true, false, not, _||_}
 use mathlib.Core.List.{List, [], _∷_}
 use lib.Dec.{T}
+use Rattle.cells.specs.Facts.{follows}
 use Rattle.cells.specs.Choice.{pick}
+use Rattle.cells.specs.Facts.{never-true}
 use Rattle.tokens.specs.Row.{Row}
 use Rattle.tokens.specs.Table.{ends, lows, highs, doubles, table, rowOf}
 use Rattle.tokens.specs.Code.{packed, codeOf, familyIn}
-use Rattle.machine.specs.Rows.{follows, rows-pass, among, Beside, none-left}
+use Rattle.tokens.specs.Rows.{rows-pass, among, Beside, none-left}
 use Rattle.machine.specs.Fast.{hotFamilies, hotFamily, hotCodeOf}
 
 -- the numbers of the rows that pass a test, in the list's order
@@ -28,14 +30,10 @@ unfolding codeOf hotNumbers table ends lows highs doubles
 hot-listed n t =
     follows (hotRow (rowOf n)) (among n hotNumbers) (rows-pass (λ m r. not (hotRow r) || among m hotNumbers) tt (λ m. tt) (λ m. tt) n) t
 
-never : (x : Bool) → (T x → ⊥) → x ≡ false
-never true f = absurd (f tt)
-never false f = refl
-
 -- a number that is none of them
 pub none-hot : (n : ℕ) → Beside (Unit {0}) hotNumbers n → 0 ≡ hotCodeOf n
 unfolding hotCodeOf
-none-hot n r = rw (never (hotFamily (familyIn (codeOf n))) (λ t. none-left (Unit {0}) hotNumbers n r (hot-listed n t)))
+none-hot n r = rw (never-true (hotFamily (familyIn (codeOf n))) (λ t. none-left (Unit {0}) hotNumbers n r (hot-listed n t)))
 
 module _ (n code : ℕ) (e : code ≡ hotCodeOf n) where
   -- where it is of a family that is done in place, it is the token's

@@ -4,7 +4,7 @@ use mathlib.Core.Path.{_≡_}
 use mathlib.Core.List.{List, [], _∷_}
 use Rattle.tokens.specs.Row.{Seen}
 use Rattle.tokens.specs.Table.{rowOf}
-use Rattle.machine.specs.Stacks.{Stacks, stacks, Outcome, outcome, reckonedOf, reckonOf}
+use Rattle.state.specs.Stacks.{Stacks, stacks, Outcome, outcome, reckonedOf, reckonOf}
 use Rattle.machine.specs.declared.reckon.Moved.{Moved}
 
 abbrev pub moved : ℕ → ℕ → ℕ → Moved

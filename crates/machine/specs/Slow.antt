@@ -17,16 +17,16 @@ use Rattle.memory.specs.declared.window.Fetched.{Fetched}
 use Rattle.tree.specs.declared.tree.Outcome.{Outcome}
 use Rattle.tree.specs.declared.tree.Outcome.the-variants.{Done, Refused as NotDone}
 use Rattle.tree.specs.declared.tree.Written.{Written}
-use Rattle.machine.specs.State.{isOpen, moved, movedTo, withWork, withTree}
-use Rattle.machine.specs.Numbers.{colon, value, variable, constant, isHeld}
-use Rattle.machine.specs.Refusals.{newNumber, kindIn}
-use Rattle.machine.specs.Scene.{scene, told}
-use Rattle.machine.specs.Effects.{gave}
-use Rattle.machine.specs.Moves.{stepped}
-use Rattle.machine.specs.Step.{readyOf, doneOf}
-use Rattle.machine.specs.declared.state.State.{State}
-use Rattle.machine.specs.declared.answer.Answer.the-variants.{Going, Refused}
-use Rattle.machine.specs.declared.answer.Stepped.{Stepped}
+use Rattle.state.specs.State.{isOpen, moved, movedTo, withWork, withTree}
+use Rattle.state.specs.Numbers.{colon, value, variable, constant, isHeld}
+use Rattle.state.specs.Refusals.{newNumber, kindIn}
+use Rattle.state.specs.Scene.{scene, told}
+use Rattle.state.specs.Effects.{gave}
+use Rattle.state.specs.Moves.{stepped}
+use Rattle.state.specs.Step.{readyOf, doneOf}
+use Rattle.state.specs.declared.state.State.{State}
+use Rattle.state.specs.declared.answer.Answer.the-variants.{Going, Refused}
+use Rattle.state.specs.declared.answer.Stepped.{Stepped}
 
 -- ---- a token that leaves memory alone
 -- whatever the number

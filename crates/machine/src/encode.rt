@@ -4,14 +4,9 @@ ghost use Prim.Native.Nat.{_≤_, _+_};
 ghost use lib.ListN.{length};
 ghost use Rattle.memory.specs.Window.{badRange, resolveOf};
 ghost use Rattle.memory.specs.Writing.{writtenOf};
-ghost use Rattle.machine.specs.Moves.{stepped};
+ghost use Rattle.state.specs.Moves.{stepped};
 ghost use Rattle.machine.specs.Slow.{Quiet, Writes, WritesFrom, pairOn, encodedOn};
-ghost use Rattle.machine.specs.declared.answer.Answer.the-variants.{Going};
-use crate::answer::Stepped;
-use crate::moves::pop;
-use crate::moves::push;
-use crate::moves::refused;
-use crate::state::State;
+ghost use Rattle.state.specs.declared.answer.Answer.the-variants.{Going};
 use memory::WORK_BASE;
 use memory::Window;
 use memory::copy_in;
@@ -21,6 +16,11 @@ use memory::window_of;
 use memory::write_cell;
 use rom::sizes::DATA_MOST;
 use rom::sizes::WORK_SIZE;
+use state::State;
+use state::Stepped;
+use state::pop;
+use state::push;
+use state::refused;
 
 // Two cells more, which have room, and the next token.
 pub fn pair(st: State, next: u32, first: u32, second: u32) -> Stepped

@@ -4,7 +4,7 @@ ghost use mathlib.Core.Path.{_≡_};
 ghost use Prim.Native.Nat.{_+_, _^_, _≤_, _<_};
 ghost use Rattle.tokens.specs.Family.{plain};
 ghost use Rattle.tokens.specs.Code.{codeOf, familyIn};
-ghost use Rattle.machine.specs.Stacks.{divideOf, pickUpOf, turnedOf, rollUpOf, maybeOf};
+ghost use Rattle.state.specs.Stacks.{divideOf, pickUpOf, turnedOf, rollUpOf, maybeOf};
 ghost use Rattle.machine.specs.Reckoned.{Stands, Reckons, OnData, Plainly, AnyCells, Both, OfNone, OfOne, OfTwo, OfThree, Works};
 
 // What a token's work leaves besides the cells: 0 or why it is refused, and the heights of the data and the return stack.

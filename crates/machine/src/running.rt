@@ -2,26 +2,26 @@
 ghost use mathlib.Core.Path.{_≡_};
 ghost use Prim.Native.Nat.{_≤_, _<_};
 ghost use lib.ListN.{length};
-ghost use Rattle.machine.specs.Scene.{scene, told};
-ghost use Rattle.machine.specs.Step.{readyOf, tokenOf, stepOf};
-ghost use Rattle.machine.specs.Run.{runOf, toldRan, ranOf};
+ghost use Rattle.state.specs.Scene.{scene, told};
+ghost use Rattle.state.specs.Step.{readyOf, tokenOf, stepOf};
+ghost use Rattle.state.specs.Run.{runOf, toldRan, ranOf};
 ghost use Rattle.machine.specs.Carried.{Glides, Drives, Drivable};
 ghost use Rattle.machine.specs.Slow.{Ready};
-ghost use Rattle.machine.specs.Sized.{Sized};
-use crate::answer::Answer;
-use crate::answer::Ran;
-use crate::answer::Stepped;
+ghost use Rattle.state.specs.Sized.{Sized};
 use crate::fast::fast;
-use crate::moves::base;
-use crate::moves::going;
-use crate::moves::refused;
 use crate::slow::slow;
-use crate::state::State;
-use crate::whole::is_whole;
 use rom::sizes::ROM_LEAST;
 use rom::sizes::ROM_MOST;
 use rom::sizes::STORE_SIZE;
 use rom::sizes::WORK_SIZE;
+use state::Answer;
+use state::Ran;
+use state::State;
+use state::Stepped;
+use state::base;
+use state::going;
+use state::is_whole;
+use state::refused;
 
 // How far tokens went in place: the count, the heights of the two stacks, the place, and the code of the token that was not carried out, 0 where the
 // budget is spent.

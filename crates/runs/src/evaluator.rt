@@ -1,10 +1,10 @@
 // The evaluator's calls without what they promise: nothing that is printed rests on a contract, and the checks of the callers need not carry it.
-use machine::Ran;
-use machine::State;
-use machine::Stepped;
+use state::Ran;
+use state::State;
+use state::Stepped;
 
 pub fn open(rom: &[u8], work: &mut [u8], store: &mut [u8]) -> Stepped {
-    machine::open(rom, work, store)
+    state::open(rom, work, store)
 }
 
 pub fn step(rom: &[u8], work: &mut [u8], store: &mut [u8], state: State) -> Stepped {

@@ -11,11 +11,11 @@ use crate::trial::same_sums;
 use crate::trial::show_kept;
 use crate::trial::show_tried;
 use crate::trial::state_after;
-use machine::Back;
-use machine::Calls;
-use machine::Numbers;
-use machine::Stack;
-use machine::State;
+use state::Back;
+use state::Calls;
+use state::Numbers;
+use state::Stack;
+use state::State;
 
 // A state offered, under the number of its line.
 fn show_order(k: u32, rom: &[u8], work: &mut [u8], store: &mut [u8], state: State, budget: u32) {

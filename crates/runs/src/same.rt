@@ -1,11 +1,11 @@
 // Whether two states are the same in every number, live or not.
 use crate::show::size_at;
 use crate::show::word_at;
-use machine::Back;
-use machine::Calls;
-use machine::Numbers;
-use machine::Stack;
-use machine::State;
+use state::Back;
+use state::Calls;
+use state::Numbers;
+use state::Stack;
+use state::State;
 use tree::Tree;
 
 fn same_words(a: &[u32], b: &[u32]) -> bool {

@@ -9,13 +9,13 @@ use crate::say::say_name;
 use crate::say::say_number;
 use crate::say::say_one;
 use crate::sum::crc;
-use machine::Answer;
-use machine::Back;
-use machine::Calls;
-use machine::Numbers;
-use machine::Stack;
-use machine::State;
 use rom::sizes::PROPERTIES_MOST;
+use state::Answer;
+use state::Back;
+use state::Calls;
+use state::Numbers;
+use state::Stack;
+use state::State;
 use tree::Tree;
 
 pub fn show_answer(answer: Answer) {

@@ -10,8 +10,8 @@ use crate::say::say_one;
 use crate::show::show_answer;
 use crate::show::show_state;
 use crate::sum::crc;
-use machine::Answer;
-use machine::State;
+use state::Answer;
+use state::State;
 
 // Whether a spent budget is told with the count of the run.
 fn told_right(answer: Answer, count: u32) -> bool {

@@ -1,7 +1,7 @@
 use denote.Ref.{now}
 use mathlib.Core.Path.{sym, _∙_, ap, subst}
 use Prim.Native.Nat.{ℕ}
-use Rattle.machine.specs.Rows.{Beside}
+use Rattle.tokens.specs.Rows.{Beside}
 use Rattle.machine.specs.Fast.{hotFamilies}
 use Rattle.machine.specs.HotCodes.{hot-is, cold-is}
 use Rattle.tokens.specs.Code.{codeOf, familyIn}

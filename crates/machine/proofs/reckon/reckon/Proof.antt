@@ -1,6 +1,6 @@
 use mathlib.Core.Path.{sym, _∙_}
 use denote.Ref.{now}
-use Rattle.machine.specs.Rows.{none-left, plainCodes, plain-coded}
+use Rattle.tokens.specs.Rows.{none-left, plainCodes, plain-coded}
 use Rattle.machine.proofs.Paths.{settled}
 use Rattle.machine.proofs.Arms.{nothing-fine}
 use Rattle.machine.proofs.reckon.reckon.Statement.{statement}

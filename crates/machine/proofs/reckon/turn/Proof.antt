@@ -3,7 +3,7 @@ use mathlib.Core.Path.{_≡_, _∙_}
 use denote.Ref.{now}
 use lib.ListN.{getD}
 use borrow.Author.Needs.{needs}
-use Rattle.machine.specs.Stacks.{turnedOf}
+use Rattle.state.specs.Stacks.{turnedOf}
 use Rattle.machine.proofs.Deep.{leftToTurn, turns, turned, turn-starts}
 use Rattle.machine.proofs.reckon.turn.Statement.{statement}
 use Rattle.machine.proofs.reckon.turn.Tie as tie

@@ -3,10 +3,10 @@ use mathlib.Core.List.{List}
 use Prim.Native.Nat.{ℕ}
 use native.Mathlib.Omega.{arith}
 use denote.Ref.{now}
-use Rattle.machine.specs.Scene.{scene}
+use Rattle.state.specs.Scene.{scene}
 use Rattle.machine.specs.Fast.{packed, Goes}
 use Rattle.machine.specs.Carried.{Carried}
-use Rattle.machine.specs.declared.state.State.{State}
+use Rattle.state.specs.declared.state.State.{State}
 use Rattle.machine.proofs.Driving.{carried-none, glides, halts, spends}
 use borrow.Author.Needs.{needs}
 use Rattle.machine.proofs.running.glide.Statement.{statement}

@@ -1,6 +1,6 @@
 use borrow.Author.Tests.{lt-ltb, le-ltb, eq-eqb, ne-eqb}
-use Rattle.machine.specs.Step.{readyOf}
-use Rattle.machine.proofs.Wholes.{not-on, not-off}
+use Rattle.cells.specs.Facts.{not-on, not-off}
+use Rattle.state.specs.Step.{readyOf}
 use borrow.Author.Needs.{needs}
 use Rattle.machine.proofs.running.ready.Statement.{statement}
 use Rattle.machine.proofs.running.ready.Tie as tie

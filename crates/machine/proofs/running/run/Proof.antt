@@ -1,8 +1,8 @@
 use denote.Ref.{now}
 use mathlib.Core.Path.{sym, _∙_}
-use Rattle.machine.specs.Scene.{scene}
-use Rattle.machine.specs.KeepsWhole.{not-going, not-finished}
-use Rattle.machine.specs.declared.answer.Answer.the-variants.{Finished, Refused, Spent}
+use Rattle.state.specs.Scene.{scene}
+use Rattle.state.specs.KeepsWhole.{not-going, not-finished}
+use Rattle.state.specs.declared.answer.Answer.the-variants.{Finished, Refused, Spent}
 use Rattle.machine.proofs.Turns.{run-known, not-spent}
 use borrow.Author.Needs.{needs}
 use Rattle.machine.proofs.running.run.Statement.{statement}

@@ -1,7 +1,7 @@
 use denote.Ref.{now}
 use mathlib.Core.Path.{sym, _∙_}
-use Rattle.machine.specs.Scene.{scene}
-use Rattle.machine.specs.Laws.{step-going, finished-stays, step-refused, step-spent}
+use Rattle.state.specs.Scene.{scene}
+use Rattle.state.specs.Laws.{step-going, finished-stays, step-refused, step-spent}
 use borrow.Author.Needs.{needs}
 use Rattle.machine.proofs.running.step.Statement.{statement}
 use Rattle.machine.proofs.running.step.Tie as tie

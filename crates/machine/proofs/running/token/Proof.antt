@@ -1,5 +1,5 @@
 use denote.Ref.{now}
-use Rattle.machine.specs.Scene.{scene}
+use Rattle.state.specs.Scene.{scene}
 use Rattle.machine.proofs.Turns.{drivable, step-carried, ready-here, cold-here, step-cold, step-refused-here}
 use borrow.Author.Needs.{needs}
 use Rattle.machine.proofs.running.token.Statement.{statement}

@@ -2,10 +2,10 @@ use Prim.Native.Nat.{_≤_, _-_}
 use mathlib.Core.Path.{_≡_, refl, _∙_}
 use native.Mathlib.Omega.{arith}
 use lib.ListN.{length}
-use Rattle.machine.specs.Run.{runFrom}
-use Rattle.machine.specs.Scene.{scene}
+use Rattle.state.specs.Run.{runFrom}
+use Rattle.state.specs.Scene.{scene}
 use Rattle.machine.specs.Carried.{Stopped}
-use Rattle.machine.specs.declared.answer.Answer.the-variants.{Finished, Refused, Spent}
+use Rattle.state.specs.declared.answer.Answer.the-variants.{Finished, Refused, Spent}
 use Rattle.machine.proofs.Turns.{drivable, Going-on, begun, driven, ends-spent, ends-refused, turn-rooted, turn-goes, turn-ends}
 use borrow.Author.Needs.{needs}
 use Rattle.machine.proofs.running.tokens.Statement.{statement}

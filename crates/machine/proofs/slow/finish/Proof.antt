@@ -1,5 +1,5 @@
 use mathlib.Core.Path.{sym}
-use Rattle.machine.specs.Effects.{effects, actOf}
+use Rattle.state.specs.Effects.{effects, actOf}
 use Rattle.machine.proofs.Cold.{finish-good}
 use Rattle.machine.proofs.Done.{carried}
 use Rattle.machine.proofs.slow.finish.Statement.{statement}

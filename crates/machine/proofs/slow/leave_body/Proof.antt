@@ -5,12 +5,12 @@ use native.Mathlib.Omega.{arith}
 use lib.Dec.{eqb}
 use borrow.Author.Tests.{ne-eqb}
 use Rattle.tokens.specs.Decode.{tokenOf}
-use Rattle.machine.specs.State.{baseOf}
-use Rattle.machine.specs.Scene.{scene}
-use Rattle.machine.specs.Effects.{effects, actOf}
-use Rattle.machine.specs.Moves.{leaveOf}
+use Rattle.state.specs.State.{baseOf}
+use Rattle.state.specs.Scene.{scene}
+use Rattle.state.specs.Effects.{effects, actOf}
+use Rattle.state.specs.Moves.{leaveOf}
 use Rattle.machine.specs.Slow.{Quiet}
-use Rattle.machine.specs.declared.state.State.{State}
+use Rattle.state.specs.declared.state.State.{State}
 use Rattle.machine.proofs.Cold.{leave-unequal, leave-good}
 use Rattle.machine.proofs.Done.{carried, stopped}
 use borrow.Author.Needs.{needs}

@@ -1,5 +1,5 @@
 use mathlib.Core.Path.{refl, sym}
-use Rattle.machine.specs.Effects.{effects, actOf}
+use Rattle.state.specs.Effects.{effects, actOf}
 use Rattle.machine.proofs.Cold.{text-high, text-good}
 use Rattle.machine.proofs.Done.{carried, stopped}
 use borrow.Author.Needs.{needs}

@@ -1,5 +1,5 @@
 use mathlib.Core.Path.{sym, _∙_}
-use Rattle.machine.specs.Step.{tokenOf}
+use Rattle.state.specs.Step.{tokenOf}
 use borrow.Author.Needs.{needs}
 use Rattle.machine.proofs.slow.slow.Statement.{statement}
 use Rattle.machine.proofs.slow.slow.Tie as tie

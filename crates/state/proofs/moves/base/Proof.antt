@@ -1,0 +1,13 @@
+use borrow.Author.Tests.{lt-ltb, le-ltb}
+use borrow.Author.Needs.{needs}
+use Rattle.state.proofs.moves.base.Statement.{statement}
+use Rattle.state.proofs.moves.base.Tie as tie
+
+pub base-spec : {M : Type 1} → statement M
+base-spec =
+    tie.close
+    (tie.spec
+    (λ c. search needs)
+    (λ c κs. search needs)
+    (λ c. rw (lt-ltb _ _ (c .before .before .before .before .if1 .taken)) (c .base-at .ensures))
+    (λ c. rw (le-ltb _ _ (c .if1 .left))))

@@ -1,0 +1,18 @@
+use borrow.Author.Tests.{lt-ltb, le-ltb}
+use Rattle.state.specs.Moves.{pushOf}
+use borrow.Author.Needs.{needs}
+use Rattle.state.proofs.moves.push.Statement.{statement}
+use Rattle.state.proofs.moves.push.Tie as tie
+
+pub push-spec : {M : Type 1} → statement M
+unfolding pushOf
+push-spec =
+    tie.close
+    (tie.spec
+    (λ c. search needs)
+    (λ c. search needs)
+    (λ c. search needs)
+    (λ c κs. search needs)
+    (λ c κs. search needs)
+    (λ c. rw (lt-ltb _ _ (c .before .if1 .taken)) (c .going .ensures))
+    (λ c. rw (le-ltb _ _ (c .before .if1 .left)) (c .refused .ensures)))

@@ -1,0 +1,15 @@
+use borrow.Author.Needs.{needs}
+use Rattle.cells.specs.Facts.{not-on, not-off}
+use Rattle.state.proofs.whole.is_frame.Statement.{statement}
+use Rattle.state.proofs.whole.is_frame.Tie as tie
+
+pub is-frame-spec : {M : Type 1} → statement M
+is-frame-spec =
+    tie.close
+    (tie.spec
+    (λ c κs. search needs)
+    (λ c κs. search needs)
+    (λ c. rw (← c .before .before .entry .ensures, ← c .before .is-place .ensures, not-off (c .before .is-place .result) (c .if1 .taken)))
+    (λ c κs. search needs)
+    (λ c κs. search needs)
+    (λ c. rw (← c .before .before .before .before .before .before .before .entry .ensures, ← c .before .before .before .before .before .before .is-place .ensures, not-on (c .before .before .before .before .before .before .is-place .result) (c .before .before .before .before .before .if1 .left), ← c .before .base-at .ensures, ← c .next-base .ensures)))

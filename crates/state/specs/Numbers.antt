@@ -1,0 +1,81 @@
+-- The program numbers of a state: "A number or name held twice: the oldest counts." Assumes nothing.
+use Prim.Native.Nat.{ℕ, zero, suc, _+_, _-_}
+use mathlib.Core.Bool.{Bool, true, false}
+use mathlib.Core.List.{List, [], _∷_}
+use lib.ListN.{getD, set}
+use lib.Dec.{ltb, eqb}
+use Rattle.cells.specs.Choice.{pick, find}
+use Rattle.tokens.specs.Table.{isProgram}
+use Rattle.state.specs.declared.state.Numbers.{Numbers}
+
+-- the kind bytes
+abbrev pub colon : ℕ
+colon = 0xB7
+
+abbrev pub value : ℕ
+value = 0xB8
+
+abbrev pub variable : ℕ
+variable = 0xB9
+
+abbrev pub constant : ℕ
+constant = 0xBA
+
+-- where a number stands, the oldest first, of so many from i on; the end where it is not there
+unfoldable pub seekFrom : List ℕ → ℕ → ℕ → ℕ → ℕ
+seekFrom names n zero i = i
+seekFrom names n (suc k) i = elim (eqb (getD names i 0) n) [ true ↦ i | false ↦ seekFrom names n k (i + 1) ]
+
+abbrev pub seekOf : Numbers → ℕ → ℕ
+seekOf ns n = seekFrom (ns .names) n (ns .count) 0
+
+abbrev pub isHeld : Numbers → ℕ → Bool
+isHeld ns n = ltb (seekOf ns n) (ns .count)
+
+-- an entry's kind: what is neither b(:) nor b(value) gives its value and takes no other, as b(constant) does
+abbrev pub kindOfByte : ℕ → ℕ
+kindOfByte k = find ((colon, colon) ∷ (value, value) ∷ []) constant k
+
+abbrev pub kindAt : Numbers → ℕ → ℕ
+kindAt ns i = kindOfByte (getD (ns .kinds) i 0)
+
+abbrev pub isBody : Numbers → ℕ → Bool
+isBody ns i = eqb (getD (ns .kinds) i 0) colon
+
+-- the kind of a number, 0 where it is not held
+unfoldable pub kindHeld : Numbers → ℕ → ℕ
+kindHeld ns n = pick (isHeld ns n) (kindAt ns (seekOf ns n)) 0
+
+-- of each number from n on: the kinds that reading a body goes by
+unfoldable pub kindsFrom : Numbers → ℕ → ℕ → List ℕ
+kindsFrom ns zero n = []
+kindsFrom ns (suc k) n = kindHeld ns n ∷ kindsFrom ns k (n + 1)
+
+abbrev pub kindsOf : Numbers → List ℕ
+kindsOf ns = kindsFrom ns 2048 0x800
+
+-- one number more
+abbrev pub definedOf : Numbers → ℕ → ℕ → ℕ → Bool → Numbers
+definedOf ns n kind v wide =
+    record {
+      names = set (ns .names) (ns .count) n;
+      kinds = set (ns .kinds) (ns .count) kind;
+      values = set (ns .values) (ns .count) v;
+      wides = set (ns .wides) (ns .count) wide;
+      count = ns .count + 1;
+    }
+
+-- another value
+abbrev pub assignedOf : Numbers → ℕ → ℕ → Numbers
+assignedOf ns i v =
+    record {
+      names = ns .names;
+      kinds = ns .kinds;
+      values = set (ns .values) i v;
+      wides = ns .wides;
+      count = ns .count;
+    }
+
+-- for the code's own steps: a kind put down among those of all program numbers
+abbrev pub putKind : List ℕ → ℕ → ℕ → List ℕ
+putKind kinds n kind = pick (isProgram n) (set kinds (n - 0x800) kind) kinds

@@ -1,0 +1,138 @@
+// Refusal 7: whether a state is whole. The tree's part is the tree's own test.
+ghost use mathlib.Core.Path.{_≡_};
+ghost use Prim.Native.Nat.{_<_};
+ghost use Rattle.state.specs.Whole.{isPlace, nextBase, frameWhole, callsWhole, entryKept, numbersWhole, heightsKept, wholeOf};
+use crate::moves::base_at;
+use crate::moves::entry;
+use crate::numbers::kind_byte;
+use crate::state::Calls;
+use crate::state::Numbers;
+use crate::state::State;
+use rom::sizes::DATA_MOST;
+use rom::sizes::FIRST_PLACE;
+use rom::sizes::FRAMES_MOST;
+use rom::sizes::NUMBERS_MOST;
+use rom::sizes::RETURN_MOST;
+use rom::sizes::WORK_SIZE;
+use tokens::is_program;
+
+// A place of the ROM: from 8 to the length, where no token starts.
+fn is_place(length: u32, place: u32) -> bool
+    ensures { λ r. ⌜ r ≡ isPlace length place ⌝ }
+{
+    if (place as usize) < FIRST_PLACE {
+        false
+    } else {
+        place <= length
+    }
+}
+
+// The base above a frame's: the next frame's, and the return height above the last.
+fn next_base(calls: Calls, returns: usize, i: usize) -> usize
+    requires { ⌜ i < calls .count ⌝ }
+    ensures { λ r. ⌜ r ≡ nextBase calls returns i ⌝ }
+{
+    if i + 1 < calls.count {
+        base_at(&calls.bases, i + 1)
+    } else {
+        returns
+    }
+}
+
+fn is_frame(length: u32, calls: Calls, returns: usize, i: usize) -> bool
+    requires { ⌜ i < calls .count ⌝ }
+    ensures { λ r. ⌜ r ≡ frameWhole length calls returns i ⌝ }
+{
+    if !is_place(length, entry(&calls.places, i)) {
+        return false;
+    }
+    base_at(&calls.bases, i) <= next_base(calls, returns, i)
+}
+
+fn are_frames(length: u32, calls: Calls, returns: usize) -> bool
+    ensures { λ r. ⌜ r ≡ callsWhole length calls returns ⌝ }
+{
+    if FRAMES_MOST < calls.count {
+        return false;
+    }
+    let mut i = 0;
+    while i < calls.count {
+        if !is_frame(length, calls, returns, i) {
+            return false;
+        }
+        i += 1;
+    }
+    true
+}
+
+// A program number, with its body's place where it has one.
+fn is_entry(length: u32, name: u32, kind: u8, value: u32) -> bool
+    ensures { λ r. ⌜ r ≡ entryKept length name kind value ⌝ }
+{
+    if !is_program(name) {
+        return false;
+    }
+    if kind == 0xB7 {
+        is_place(length, value)
+    } else {
+        true
+    }
+}
+
+fn are_numbers(length: u32, numbers: Numbers) -> bool
+    ensures { λ r. ⌜ r ≡ numbersWhole length numbers ⌝ }
+{
+    if NUMBERS_MOST < numbers.count {
+        return false;
+    }
+    let mut i = 0;
+    while i < numbers.count {
+        let name = entry(&numbers.names, i);
+        let kind = kind_byte(&numbers.kinds, i);
+        let value = entry(&numbers.values, i);
+        if !is_entry(length, name, kind, value) {
+            return false;
+        }
+        i += 1;
+    }
+    true
+}
+
+fn are_heights(length: u32, place: u32, height: usize, returns: usize, work: u32) -> bool
+    ensures { λ r. ⌜ r ≡ heightsKept length place height returns work ⌝ }
+{
+    if DATA_MOST < height {
+        return false;
+    }
+    if RETURN_MOST < returns {
+        return false;
+    }
+    if WORK_SIZE < (work as usize) {
+        return false;
+    }
+    is_place(length, place)
+}
+
+// Whether every height, count, place, base, number and record of a state is in its limits.
+pub fn is_whole(st: State) -> bool
+    ensures { λ r. ⌜ r ≡ wholeOf st ⌝ }
+{
+    let stack = st.stack;
+    let back = st.back;
+    if !are_heights(
+        st.length,
+        st.place,
+        stack.height,
+        back.height,
+        st.work_place,
+    ) {
+        return false;
+    }
+    if !are_frames(st.length, st.calls, back.height) {
+        return false;
+    }
+    if !are_numbers(st.length, st.numbers) {
+        return false;
+    }
+    tree::is_whole(st.tree)
+}
