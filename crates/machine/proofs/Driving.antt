@@ -10,11 +10,12 @@ use Rattle.state.specs.Scene.{Scene, Turn, scene, turn, refuse}
 use Rattle.state.specs.Step.{tokenOf}
 use Rattle.state.specs.Run.{then}
 use Rattle.state.specs.Laws.{refused-keeps}
-use Rattle.machine.specs.Fast.{Cold, packed, said, Goes, Fast}
+use Rattle.reckon.specs.Fast.{packed, said, Goes, Fast}
+use Rattle.state.specs.Hot.{Cold}
 use Rattle.machine.specs.Carried.{Carried, Stopped}
 use Rattle.state.specs.declared.state.State.{State}
 use Rattle.state.specs.declared.answer.Answer.the-variants.{Going, Refused}
-use Rattle.machine.specs.declared.fast.Turned.{Turned}
+use Rattle.reckon.specs.declared.in_place.Turned.{Turned}
 
 pub carried-none : (n : ℕ) (s : Scene) → Carried (n - n) s s
 carried-none n s = let e : n - n ≡ 0 = omega arith in subst (λ (k : ℕ). Carried k s s) (sym e) refl

@@ -12,7 +12,7 @@ use Rattle.state.specs.Run.{Outcome, ended, then, after, runFrom}
 use Rattle.state.specs.Sized.{Sized}
 use Rattle.state.specs.Laws.{watchedOf, keeps-watched}
 use Rattle.state.specs.KeepsWhole.{Lent, ready-facts, whole-facts}
-use Rattle.machine.specs.Fast.{Cold}
+use Rattle.state.specs.Hot.{Cold}
 use Rattle.machine.specs.Carried.{Carried, Stopped, Drives, Drivable}
 use Rattle.machine.specs.declared.running.Driven.{Driven}
 use Rattle.state.specs.declared.state.State.{State}

@@ -8,7 +8,8 @@ use Rattle.state.specs.State.{baseOf}
 use Rattle.state.specs.Scene.{Scene, scene, refuse}
 use Rattle.state.specs.Step.{tokenOf}
 use Rattle.state.specs.Run.{then}
-use Rattle.machine.specs.Fast.{Cold, packed, Goes}
+use Rattle.reckon.specs.Fast.{packed, Goes}
+use Rattle.state.specs.Hot.{Cold}
 use Rattle.state.specs.declared.state.State.{State}
 use Rattle.state.specs.declared.answer.Answer.the-variants.{Going}
 use Rattle.machine.specs.declared.running.Went.{Went}

@@ -1,5 +1,1 @@
-pub mod Reckoned
-pub mod Slow
-pub mod Fast
-pub mod HotCodes
 pub mod Carried

@@ -1,14 +1,6 @@
 // The evaluator: a state is stepped or run against a budget. Work memory and the property store are lent beside it. Both calls are total: any bytes, any
 // state, any buffers, any budget.
-mod codes;
-mod define;
-mod encode;
-mod fast;
-mod kinds;
-mod node;
-mod reckon;
 mod running;
-mod slow;
 
 pub use running::run;
 pub use running::step;

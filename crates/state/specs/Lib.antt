@@ -23,3 +23,5 @@ pub mod Laws
 pub mod Examples
 pub mod StackExamples
 pub mod Seeking
+pub mod Done
+pub mod Hot

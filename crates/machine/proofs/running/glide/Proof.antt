@@ -4,7 +4,7 @@ use Prim.Native.Nat.{ℕ}
 use native.Mathlib.Omega.{arith}
 use denote.Ref.{now}
 use Rattle.state.specs.Scene.{scene}
-use Rattle.machine.specs.Fast.{packed, Goes}
+use Rattle.reckon.specs.Fast.{packed, Goes}
 use Rattle.machine.specs.Carried.{Carried}
 use Rattle.state.specs.declared.state.State.{State}
 use Rattle.machine.proofs.Driving.{carried-none, glides, halts, spends}

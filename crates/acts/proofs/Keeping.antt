@@ -1,0 +1,180 @@
+-- Properties written, nodes opened and closed: what a call on the tree answers is what the step says. Assumes nothing.
+use Prim.Native.Nat.{ℕ, _≤_}
+use mathlib.Core.Path.{_≡_, refl, sym, ap, _∙_}
+use mathlib.Core.Bool.{Bool, true, false}
+use mathlib.Core.List.{List, [], _∷_}
+use borrow.Author.Tests.{eq-eqb, ne-eqb, eqb-true}
+use lib.Dec.{eqb}
+use lib.ListN.{length}
+use Rattle.cells.specs.Choice.{pick}
+use Rattle.tokens.specs.Decode.{tokenOf}
+use Rattle.tokens.specs.declared.decoding.Token.{Token}
+use Rattle.memory.specs.Window.{badRange, resolveOf}
+use Rattle.tree.specs.Whole.{wholeTree}
+use Rattle.tree.specs.Property.{valueOf, allPrinted, badName, overfull, wouldHold, putRefusal, treePut, storePut, putOf, storeOf}
+use Rattle.tree.specs.Node.{noRoom, outermost, childOf, finishedOf, newDeviceOf, finishDeviceOf, refusedOf}
+use Rattle.tree.specs.Node.{doneOf as treeDone}
+use Rattle.tree.specs.declared.tree.Tree.{Tree}
+use Rattle.tree.specs.declared.tree.Written.{Written}
+use Rattle.state.specs.State.{moved, withTree}
+use Rattle.state.specs.Scene.{Scene, scene, turn, told}
+use Rattle.state.specs.Refusals.{refusalOf, titleOf}
+use Rattle.state.specs.Effects.{gave, effects, actOf}
+use Rattle.state.specs.Moves.{stepped, popOf}
+use Rattle.state.specs.Step.{doneOf}
+use Rattle.acts.specs.Slow.{Quiet, KeepsFrom, KeepsBy, keptOn}
+use Rattle.state.specs.declared.state.State.{State}
+use Rattle.state.specs.declared.answer.Answer.the-variants.{Going, Refused}
+use Rattle.state.specs.declared.answer.Popped.{Popped}
+use Rattle.state.specs.declared.answer.Stepped.{Stepped}
+use Rattle.acts.proofs.Cold.{open-full, open-good, close-outermost, close-good, property-bad-name, property-bad-value, property-put, title-bad, title-put}
+use Rattle.state.specs.Done.{carried, stopped}
+use Rattle.acts.proofs.Pops.{poppedBy, cellAt, two-pops, four-pops, popped-on}
+
+-- ---- nodes
+module _ (st : State) (next : ℕ) (h : st .stack .height ≤ 64) (w : Written) (r : Stepped) (k : r ≡ keptOn st st next w) where
+  given : (v : Written) (work store : List ℕ) → w ≡ v → told r work store ≡ told (keptOn st st next v) work store
+  given v work store e = ap (λ (x : Stepped). told x work store) k ∙ ap (λ (x : Written). told (keptOn st st next x) work store) e
+
+  pub open-told : w ≡ newDeviceOf (st .tree) → Quiet 0x1710_0000 st next r
+  unfolding actOf effects
+  open-told e o n rom work store = by (noRoom (st .tree)) refl
+    where
+      by : (b : Bool) → noRoom (st .tree) ≡ b → told r work store ≡ doneOf (scene rom work store st) (tokenOf n 0x1710_0000 o next)
+      by true f =
+          given (refusedOf 20 (st .tree)) work store (e ∙ rw f)
+          ∙ sym (stopped (scene rom work store st) (tokenOf n 0x1710_0000 o next) 20 refl (open-full (scene rom work store st) n o next h f))
+      by false f =
+          given (treeDone (childOf (st .tree))) work store (e ∙ rw f)
+          ∙ sym (carried (scene rom work store st) (tokenOf n 0x1710_0000 o next) (open-good (scene rom work store st) n o next h f))
+
+  pub close-told : w ≡ finishDeviceOf (st .tree) → Quiet 0x1810_0000 st next r
+  unfolding actOf effects
+  close-told e o n rom work store = by (outermost (st .tree)) refl
+    where
+      by : (b : Bool) → outermost (st .tree) ≡ b → told r work store ≡ doneOf (scene rom work store st) (tokenOf n 0x1810_0000 o next)
+      by true f =
+          given (refusedOf 20 (st .tree)) work store (e ∙ rw f)
+          ∙ sym (stopped (scene rom work store st) (tokenOf n 0x1810_0000 o next) 20 refl (close-outermost (scene rom work store st) n o next h f))
+      by false f =
+          given (treeDone (finishedOf (st .tree))) work store (e ∙ rw f)
+          ∙ sym (carried (scene rom work store st) (tokenOf n 0x1810_0000 o next) (close-good (scene rom work store st) n o next h f))
+
+-- ---- a property put: the step's turn, where the token is refused as the call is and carried out as it is
+module _ (rom work store : List ℕ) (st : State) (t : Token) (next takes : ℕ) (name value : List ℕ) where
+  abbrev s : Scene
+  s = scene rom work store st
+
+  put-told : refusalOf s t ≡ putRefusal (st .tree) store name value
+      → actOf s t ≡ turn Going (withTree (moved st (gave st takes []) next) (treePut (st .tree) store name value)) work (storePut (st .tree) store name value)
+      → told (keptOn st (poppedBy st takes) next (putOf (st .tree) store name value)) work (storeOf (st .tree) store name value) ≡ doneOf s t
+  unfolding putOf storeOf
+  put-told e f = by (eqb (putRefusal (st .tree) store name value) 0) refl
+    where
+      by : (b : Bool) → eqb (putRefusal (st .tree) store name value) 0 ≡ b
+          → told (keptOn st (poppedBy st takes) next (putOf (st .tree) store name value)) work (storeOf (st .tree) store name value) ≡ doneOf s t
+      by true z =
+          rw z
+          (ap (λ (x : State). turn Going (withTree x (treePut (st .tree) store name value)) work (storePut (st .tree) store name value)) (popped-on st takes next)
+          ∙ sym (carried s t (e ∙ eqb-true _ _ z) ∙ f))
+      by false z = rw z (sym (stopped s t (putRefusal (st .tree) store name value) z e))
+
+  pub put-by : (taken : State) (w : Written) (then : List ℕ) (r : Stepped) → refusalOf s t ≡ putRefusal (st .tree) store name value
+      → actOf s t ≡ turn Going (withTree (moved st (gave st takes []) next) (treePut (st .tree) store name value)) work (storePut (st .tree) store name value)
+      → taken ≡ poppedBy st takes → w ≡ putOf (st .tree) store name value → then ≡ storeOf (st .tree) store name value → r ≡ keptOn st taken next w
+      → told r work then ≡ doneOf s t
+  put-by taken w then r e f a b c d =
+      ap (λ (x : Stepped). told x work then) d
+      ∙ ap (λ (x : State). told (keptOn st x next w) work then) a
+      ∙ ap (λ (x : Written). told (keptOn st (poppedBy st takes) next x) work then) b
+      ∙ ap (λ (x : List ℕ). told (keptOn st (poppedBy st takes) next (putOf (st .tree) store name value)) work x) c
+      ∙ put-told e f
+
+-- ---- why it is refused, of a store and a tree that are whole
+module _ (tree : Tree) (store name value : List ℕ) (l : length store ≡ 16384) (w : wholeTree tree ≡ true) where
+  refusal-is : putRefusal tree store name value ≡ pick (badName name) 26 (pick (overfull (wouldHold tree store name value)) 27 0)
+  unfolding putRefusal
+  refusal-is = rw (eq-eqb (length store) 16384 l, w)
+
+title-good : (n : ℕ) → badName (titleOf n) ≡ false
+unfolding badName allPrinted
+title-good n = by (eqb n 0x201) (eqb n 0x119) refl refl
+  where
+    by : (a b : Bool) → eqb n 0x201 ≡ a → eqb n 0x119 ≡ b → badName (titleOf n) ≡ false
+    by true b e f = rw e
+    by false true e f = rw (e, f)
+    by false false e f = rw (e, f)
+
+-- neither device-name nor model: device-type
+pub other-title : (n : ℕ) → (Unit {0} × (n ≡ 0x201 → ⊥)) × (n ≡ 0x119 → ⊥)
+    → titleOf n ≡ 0x64 ∷ 0x65 ∷ 0x76 ∷ 0x69 ∷ 0x63 ∷ 0x65 ∷ 0x5F ∷ 0x74 ∷ 0x79 ∷ 0x70 ∷ 0x65 ∷ []
+other-title n r = rw (ne-eqb n 0x201 (r .0 .1), ne-eqb n 0x119 (r .1))
+
+-- ---- property
+module _ (rom work store : List ℕ) (st : State) (next : ℕ) (h : st .stack .height ≤ 64) (l : 4 ≤ st .stack .height) (p q t u : Popped)
+    (e : p ≡ popOf st) (f : q ≡ popOf (p .state)) (g : t ≡ popOf (q .state)) (i : u ≡ popOf (t .state)) where
+  abbrev range : ℕ → ℕ → Bool
+  range address count = badRange rom work (st .length) address count
+
+  pub property-bad-name-told : (r : Stepped) → range (q .cell) (p .cell) ≡ true → r ≡ stepped (Refused 22) st → KeepsFrom rom work store store st next r
+  property-bad-name-told r b w n o =
+      let c = four-pops st p q t u l e f g i in
+      rw w (sym (stopped (scene rom work store st) (tokenOf n 0x1500_0040 o next) 22 refl
+      (property-bad-name (scene rom work store st) n o next h l (rw (← c .0, ← c .1) b))))
+
+  module _ (b : range (q .cell) (p .cell) ≡ false) where
+    pub property-bad-value-told : (r : Stepped) → range (u .cell) (t .cell) ≡ true → r ≡ stepped (Refused 22) st → KeepsFrom rom work store store st next r
+    property-bad-value-told r d w n o =
+        let c = four-pops st p q t u l e f g i in
+        rw w (sym (stopped (scene rom work store st) (tokenOf n 0x1500_0040 o next) 22 refl
+        (property-bad-value (scene rom work store st) n o next h l (rw (← c .0, ← c .1) b) (rw (← c .2, ← c .3) d))))
+
+    pub property-told : (name value then : List ℕ) (v : Written) (r : Stepped) → range (u .cell) (t .cell) ≡ false
+        → length store ≡ 16384 → wholeTree (st .tree) ≡ true
+        → name ≡ resolveOf rom work (st .length) (q .cell) (p .cell) → value ≡ resolveOf rom work (st .length) (u .cell) (t .cell)
+        → v ≡ putOf (st .tree) store name (valueOf value false) → then ≡ storeOf (st .tree) store name (valueOf value false)
+        → r ≡ keptOn st (u .state) next v → KeepsFrom rom work store then st next r
+    unfolding actOf effects
+    property-told name value then v r d m w a x y z k n o =
+        let c = four-pops st p q t u l e f g i in
+        let s = scene rom work store st in
+        let one = resolveOf rom work (st .length) (cellAt st 1) (cellAt st 0) in
+        let two = valueOf (resolveOf rom work (st .length) (cellAt st 3) (cellAt st 2)) false in
+        let j : name ≡ one = rw (← c .0, ← c .1) a in
+        let v' : value ≡ resolveOf rom work (st .length) (cellAt st 3) (cellAt st 2) = rw (← c .2, ← c .3) x in
+        let i : valueOf value false ≡ two = ap (λ (b : List ℕ). valueOf b false) v' in
+        put-by rom work store st (tokenOf n 0x1500_0040 o next) next 4 one two (u .state) v then r
+        (property-put s n o next h l (rw (← c .0, ← c .1) b) (badName one) (overfull (wouldHold (st .tree) store one two)) (rw (← c .2, ← c .3) d) refl refl
+        ∙ sym (refusal-is (st .tree) store one two m w))
+        refl (c .4)
+        (y ∙ ap (λ (b : List ℕ). putOf (st .tree) store b (valueOf value false)) j ∙ ap (λ (b : List ℕ). putOf (st .tree) store one b) i)
+        (z ∙ ap (λ (b : List ℕ). storeOf (st .tree) store b (valueOf value false)) j ∙ ap (λ (b : List ℕ). storeOf (st .tree) store one b) i) k
+
+-- ---- device-name, model, device-type
+module _ (rom work store : List ℕ) (st : State) (n next : ℕ) (h : st .stack .height ≤ 64) (l : 2 ≤ st .stack .height) (p q : Popped)
+    (e : p ≡ popOf st) (f : q ≡ popOf (p .state)) where
+  pub title-bad-told : (r : Stepped) → badRange rom work (st .length) (q .cell) (p .cell) ≡ true → r ≡ stepped (Refused 22) st
+      → KeepsBy n rom work store store st next r
+  title-bad-told r b w o =
+      let c = two-pops st p q l e f in
+      rw w (sym (stopped (scene rom work store st) (tokenOf n 0x1600_0020 o next) 22 refl
+      (title-bad (scene rom work store st) n o next h l (rw (← c .0, ← c .1) b))))
+
+  pub title-told : (value then : List ℕ) (v : Written) (r : Stepped) → badRange rom work (st .length) (q .cell) (p .cell) ≡ false
+      → length store ≡ 16384 → wholeTree (st .tree) ≡ true → value ≡ resolveOf rom work (st .length) (q .cell) (p .cell)
+      → v ≡ putOf (st .tree) store (titleOf n) (valueOf value true) → then ≡ storeOf (st .tree) store (titleOf n) (valueOf value true)
+      → r ≡ keptOn st (q .state) next v → KeepsBy n rom work store then st next r
+  unfolding actOf effects
+  title-told value then v r b m w x y z k o =
+      let c = two-pops st p q l e f in
+      let s = scene rom work store st in
+      let one = valueOf (resolveOf rom work (st .length) (cellAt st 1) (cellAt st 0)) true in
+      let v' : value ≡ resolveOf rom work (st .length) (cellAt st 1) (cellAt st 0) = rw (← c .0, ← c .1) x in
+      let i : valueOf value true ≡ one = ap (λ (b : List ℕ). valueOf b true) v' in
+      put-by rom work store st (tokenOf n 0x1600_0020 o next) next 2 (titleOf n) one (q .state) v then r
+      (title-put s n o next h l (overfull (wouldHold (st .tree) store (titleOf n) one)) (rw (← c .0, ← c .1) b) refl
+      ∙ sym (refusal-is (st .tree) store (titleOf n) one m w
+      ∙ ap (λ (b : Bool). pick b 26 (pick (overfull (wouldHold (st .tree) store (titleOf n) one)) 27 0)) (title-good n)))
+      refl (c .2)
+      (y ∙ ap (λ (b : List ℕ). putOf (st .tree) store (titleOf n) b) i)
+      (z ∙ ap (λ (b : List ℕ). storeOf (st .tree) store (titleOf n) b) i) k

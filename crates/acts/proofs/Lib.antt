@@ -1,0 +1,7 @@
+pub mod Cold
+pub mod Pops
+pub mod Memories
+pub mod Encoding
+pub mod Defining
+pub mod Keeping
+pub mod Acting
