@@ -8,9 +8,9 @@ use native.Mathlib.Omega.{arith}
 use borrow.Author.Tests.{ltb-true}
 use lib.Dec.{T, eqb, ltb, eqb→eq}
 use lib.ListN.{length}
-use Rattle.cells.specs.Facts.{is-true, both-hold}
 use Rattle.cells.specs.Choice.{pick, find}
 use Rattle.cells.specs.Tests.{pick-is, find-none, Rest}
+use Rattle.cells.specs.Facts.{is-true, both-hold}
 use Rattle.rom.specs.Bytes.{byteOf}
 use Rattle.tokens.specs.Row.{everywhere}
 use Rattle.tokens.specs.Table.{ends, lows, highs, doubles, table, isProgram}

@@ -7,8 +7,8 @@ use native.Mathlib.Omega.{arith}
 use borrow.Author.Tests.{lt-ltb, le-ltb, eq-eqb, ne-eqb, eqb-true, eqb-false, ltb-true, ltb-false}
 use lib.Dec.{eqb, ltb, leb, leb→le}
 use lib.ListN.{getD}
-use Rattle.cells.specs.Facts.{holds, both-hold}
 use Rattle.cells.specs.Tests.{pick-is}
+use Rattle.cells.specs.Facts.{holds, both-hold}
 use Rattle.tokens.specs.Table.{isProgram}
 use Rattle.tokens.specs.Decode.{tokenOf, decodeOf, isKind}
 use Rattle.tokens.specs.Place.{judged, misplacedOf, readOf}

@@ -8,9 +8,9 @@ use native.Mathlib.Nat.{sub-zero}
 use borrow.Author.Tests.{eqb-false}
 use lib.Dec.{T, ltb, eqb, eqb→eq, eqb-refl}
 use lib.ListN.{getD}
-use Rattle.cells.specs.Facts.{follows}
 use Rattle.cells.specs.Choice.{pick}
 use Rattle.cells.specs.Tests.{pick-is}
+use Rattle.cells.specs.Facts.{follows}
 use Rattle.rom.specs.Sizes.{dataMost}
 use Rattle.rom.specs.Bytes.{byteOf}
 use Rattle.rom.specs.Branch.{aimOf, placeIn}

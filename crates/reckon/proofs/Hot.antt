@@ -7,9 +7,9 @@ use mathlib.Core.List.{List}
 use native.Mathlib.Omega.{arith}
 use borrow.Author.Tests.{eqb-true, leb-true}
 use lib.Dec.{T, ltb, leb, eqb, eqb→eq}
-use Rattle.cells.specs.Facts.{is-false, holds, both-hold, follows}
 use Rattle.cells.specs.Choice.{pick}
 use Rattle.cells.specs.Tests.{tests}
+use Rattle.cells.specs.Facts.{is-false, holds, both-hold, follows}
 use Rattle.rom.specs.Bytes.{byteOf}
 use Rattle.tokens.specs.Table.{ends, lows, highs, doubles, table, rowOf}
 use Rattle.tokens.specs.Code.{packed, codeOf, familyIn, outOfPlaceIn, formIn}

@@ -4,9 +4,8 @@ use mathlib.Core.Path.{_≡_, refl, sym, _∙_, ap, subst}
 use mathlib.Core.Bool.{Bool, true, false, not, _||_}
 use mathlib.Core.List.{List, [], _∷_}
 use lib.Dec.{T}
-use Rattle.cells.specs.Facts.{follows}
 use Rattle.cells.specs.Choice.{pick}
-use Rattle.cells.specs.Facts.{never-true}
+use Rattle.cells.specs.Facts.{follows, never-true}
 use Rattle.tokens.specs.Row.{Row}
 use Rattle.tokens.specs.Table.{ends, lows, highs, doubles, table, rowOf}
 use Rattle.tokens.specs.Code.{packed, codeOf, familyIn}

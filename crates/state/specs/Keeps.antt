@@ -7,9 +7,9 @@ use mathlib.Core.List.{List, [], _∷_, _++_}
 use lib.ListN.{length, getD, set, length-set, length-append, length-take}
 use lib.Dec.{T, ltb, leb, eqb, eqb→eq, nltb→le, ltb→lt, nleb→lt}
 use borrow.Author.Tests.{eq-eqb, ltb-true}
-use Rattle.cells.specs.Facts.{holds, is-false, neither, not-both}
 use Rattle.cells.specs.Choice.{pick}
 use Rattle.cells.specs.Tests.{tests, when-is, pick-is, neqb→ne}
+use Rattle.cells.specs.Facts.{holds, is-false, neither, not-both}
 use Rattle.rom.specs.Sizes.{dataMost, returnMost, framesMost, numbersMost, workSize, storeSize}
 use Rattle.tokens.specs.Family.{plain, always, choice, text, widen, divide, pickUp, rollUp, maybe, leave, fetch, store, define, kind, assign, call}
 use Rattle.tokens.specs.Family.{encodeInt, encodeString, join, property, titled, newDevice, finishDevice}

@@ -7,9 +7,9 @@ use mathlib.Core.List.{List}
 use lib.ListN.{length, replicate, length-replicate}
 use lib.Dec.{T, ltb}
 use borrow.Author.Tests.{eq-eqb}
-use Rattle.cells.specs.Facts.{neither}
 use Rattle.cells.specs.Choice.{pick}
 use Rattle.cells.specs.Tests.{tests}
+use Rattle.cells.specs.Facts.{neither}
 use Rattle.rom.specs.Sizes.{romLeast, romMost, workSize, storeSize}
 use Rattle.rom.specs.Header.{startOf, formatOf, lengthOf, headerOf}
 use Rattle.tree.specs.Held.{liveAmong}

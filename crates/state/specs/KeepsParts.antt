@@ -9,8 +9,8 @@ use lib.ListN.{length, getD, set, length-set}
 use lib.Seq.{getD-set-same, getD-set-other}
 use lib.Dec.{T, T-not, ltb, leb, eqb, eqb→eq}
 use borrow.Author.Tests.{eqb-true, eqb-false, ltb-true, ltb-false, lt-ltb, le-ltb}
-use Rattle.cells.specs.Facts.{holds, both-hold}
 use Rattle.cells.specs.Tests.{tests, neqb→ne}
+use Rattle.cells.specs.Facts.{holds, both-hold}
 use Rattle.rom.specs.Sizes.{framesMost, numbersMost}
 use Rattle.tokens.specs.Table.{isProgram}
 use Rattle.tokens.specs.Family.{call, assign}

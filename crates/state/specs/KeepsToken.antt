@@ -5,9 +5,9 @@ use mathlib.Core.Path.{_≡_, refl, subst}
 use mathlib.Core.Bool.{Bool, true, false, not, _&&_, _||_}
 use mathlib.Core.List.{List, [], _∷_}
 use lib.Dec.{T, ltb, eqb, eqb→eq}
-use Rattle.cells.specs.Facts.{both-hold}
 use Rattle.cells.specs.Choice.{pick, find}
 use Rattle.cells.specs.Tests.{pick-is}
+use Rattle.cells.specs.Facts.{both-hold}
 use Rattle.rom.specs.Branch.{aimOf, placeIn}
 use Rattle.rom.specs.BranchLaws.{AimFits, aim-fits}
 use Rattle.rom.specs.declared.branch.Aim.{Aim}

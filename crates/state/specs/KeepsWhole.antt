@@ -6,9 +6,9 @@ use mathlib.Core.Bool.{Bool, true, false, not, _&&_}
 use lib.ListN.{length, getD}
 use lib.Dec.{T, not-T, ltb, leb, eqb, le→leb, eqb→eq}
 use borrow.Author.Tests.{eq-eqb, le-ltb}
-use Rattle.cells.specs.Facts.{holds, is-true, is-false, both-hold, join-hold, four-hold, join-four, neither}
 use Rattle.cells.specs.Choice.{pick}
 use Rattle.cells.specs.Tests.{tests, pick-is}
+use Rattle.cells.specs.Facts.{holds, is-true, is-false, both-hold, join-hold, four-hold, join-four, neither}
 use Rattle.rom.specs.Sizes.{firstPlace, dataMost, returnMost, framesMost, numbersMost, workSize, storeSize, romLeast}
 use Rattle.rom.specs.Sizes.{romMost}
 use Rattle.tokens.specs.Table.{isProgram}

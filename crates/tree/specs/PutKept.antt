@@ -10,8 +10,8 @@ use lib.ListN.{length, replicate, length-append, length-replicate}
 use lib.Seq.{getD-set-same, getD-set-other}
 use lib.Dec.{T, leb, ltb, eqb, le→leb, lt→ltb}
 use borrow.Author.Tests.{eqb-true, eqb-false, eq-eqb, ne-eqb, ltb-false}
-use Rattle.cells.specs.Facts.{join-four}
 use Rattle.cells.specs.Choice.{pick}
+use Rattle.cells.specs.Facts.{join-four}
 use Rattle.tree.specs.Held.{Property, liveOf, laidOut, nameSize, valueSize}
 use Rattle.tree.specs.Whole.{soundWith, wholeTree}
 use Rattle.tree.specs.Property.{badName, overfull, wouldHold, putRefusal, storeWith, recordedOf, treePut, storePut, putOf, storeOf}
