@@ -27,9 +27,9 @@ use Rattle.tokens.specs.declared.read.Read.{Read}
 use Rattle.tokens.specs.declared.read.Read.the-variants.{Refused as Unread, Good}
 use Rattle.tree.specs.Whole.{wholeTree}
 use Rattle.state.specs.State.{isOpen}
-use Rattle.state.specs.Numbers.{colon, value, variable}
+use Rattle.tokens.specs.Definition.{colon, kindIn, value, variable}
 use Rattle.state.specs.Scene.{Scene, Turn, scene, refuse}
-use Rattle.state.specs.Refusals.{refusalOf, kindIn}
+use Rattle.state.specs.Refusals.{refusalOf}
 use Rattle.state.specs.Effects.{Effect, textStart, colons, values, variables, effects, actOf}
 use Rattle.state.specs.Step.{doneOf}
 use Rattle.state.specs.Hot.{hotFamily, Cold}

@@ -16,11 +16,12 @@ use Rattle.cells.specs.Choice.{pick}
 use Rattle.tree.specs.Property.{badName}
 use Rattle.tree.specs.Node.{noRoom, outermost}
 use Rattle.memory.specs.Cells.{uneven, outsideWork}
+use Rattle.tokens.specs.Definition.{colon, constant, newNumber, value, variable}
 use Rattle.state.specs.State.{baseOf}
-use Rattle.state.specs.Numbers.{colon, value, variable, constant, seekOf, isHeld, isBody, kindsOf}
+use Rattle.state.specs.Numbers.{seekOf, isHeld, isBody, kindsOf}
 use Rattle.state.specs.declared.state.Numbers.{Numbers}
 use Rattle.state.specs.Scene.{Scene, cellOf}
-use Rattle.state.specs.Refusals.{refusalOf, bad, newNumber, rounded, titleOf, namedHere, valueHere, titledHere, noRoomFor}
+use Rattle.state.specs.Refusals.{refusalOf, bad, rounded, titleOf, namedHere, valueHere, titledHere, noRoomFor}
 use Rattle.acts.specs.Slow.{ofCell}
 
 module _ (s : Scene) (n : ℕ) (o : Operand) (next : ℕ) where

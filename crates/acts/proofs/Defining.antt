@@ -23,11 +23,12 @@ use Rattle.tokens.specs.declared.read.Read.the-variants.{Refused as Unread, Goo
 use Rattle.tokens.specs.declared.body.Body.{Body}
 use Rattle.tokens.specs.declared.body.Body.the-variants.{Ends, Stops}
 use Rattle.memory.specs.Writing.{writtenOf, bytesOf}
+use Rattle.tokens.specs.Definition.{colon, constant, kindIn, newNumber, value, variable}
 use Rattle.state.specs.State.{moved, movedTo, withNumbers, withWork}
-use Rattle.state.specs.Numbers.{colon, value, variable, constant, seekFrom, seekOf, isHeld, definedOf, assignedOf}
+use Rattle.state.specs.Numbers.{seekFrom, seekOf, isHeld, definedOf, assignedOf}
 use Rattle.state.specs.Numbers.{kindOfByte, kindAt, kindHeld, kindsOf}
 use Rattle.state.specs.Scene.{scene, turn, told}
-use Rattle.state.specs.Refusals.{newNumber, kindIn, rounded}
+use Rattle.state.specs.Refusals.{rounded}
 use Rattle.state.specs.Effects.{gave, behindBody, effects, actOf}
 use Rattle.state.specs.Moves.{stepped, popOf, pushOf, callOf}
 use Rattle.state.specs.Step.{doneOf}

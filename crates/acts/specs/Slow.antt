@@ -18,8 +18,8 @@ use Rattle.tree.specs.declared.tree.Outcome.{Outcome}
 use Rattle.tree.specs.declared.tree.Outcome.the-variants.{Done, Refused as NotDone}
 use Rattle.tree.specs.declared.tree.Written.{Written}
 use Rattle.state.specs.State.{isOpen, moved, movedTo, withWork, withTree}
-use Rattle.state.specs.Numbers.{colon, value, variable, constant, isHeld}
-use Rattle.state.specs.Refusals.{newNumber, kindIn}
+use Rattle.state.specs.Numbers.{isHeld}
+use Rattle.tokens.specs.Definition.{colon, constant, kindIn, newNumber, value, variable}
 use Rattle.state.specs.Scene.{scene, told}
 use Rattle.state.specs.Effects.{gave}
 use Rattle.state.specs.Moves.{stepped}

@@ -2,12 +2,11 @@
 ghost use mathlib.Core.Path.{_≡_};
 ghost use mathlib.Core.Bool.{true};
 ghost use Prim.Native.Nat.{_≤_, _<_, _+_};
-ghost use Rattle.tokens.specs.Body.{numberIn};
 ghost use Rattle.tokens.specs.Decode.{isKind};
 ghost use Rattle.tokens.specs.declared.decoding.Operand.the-variants.{Definition};
 ghost use Rattle.state.specs.Numbers.{definedOf, assignedOf};
 ghost use Rattle.state.specs.State.{withNumbers};
-ghost use Rattle.state.specs.Refusals.{newNumber, kindIn, rounded as Refusals·rounded};
+ghost use Rattle.state.specs.Refusals.{rounded as Refusals·rounded};
 ghost use Rattle.acts.specs.Slow.{QuietOf, QuietBy, Defines, Colons, Variables, Fresh, TakesValue, IsDefinition};
 use crate::kinds::kinds_of;
 use memory::WORK_BASE;
@@ -29,47 +28,10 @@ use state::wide_at;
 use tokens::Body;
 use tokens::Operand;
 use tokens::is_program;
+use tokens::kind_in;
+use tokens::new_number;
+use tokens::number_in;
 use tokens::read_body;
-
-// What an operand holds.
-fn new_number(operand: Operand) -> u32
-    ensures { λ r. ⌜ r ≡ newNumber operand ⌝ }
-{
-    match operand {
-        Operand::Nothing => 0,
-        Operand::Literal(_) => 0,
-        Operand::Text { start: _, count: _ } => 0,
-        Operand::Branch { bits: _, aim: _ } => 0,
-        Operand::Number(_) => 0,
-        Operand::Definition { number, kind: _ } => number,
-    }
-}
-
-fn kind_in(operand: Operand) -> u32
-    ensures { λ r. ⌜ r ≡ kindIn operand ⌝ }
-{
-    match operand {
-        Operand::Nothing => 0,
-        Operand::Literal(_) => 0,
-        Operand::Text { start: _, count: _ } => 0,
-        Operand::Branch { bits: _, aim: _ } => 0,
-        Operand::Number(_) => 0,
-        Operand::Definition { number: _, kind } => kind,
-    }
-}
-
-fn number_in(operand: Operand) -> u32
-    ensures { λ r. ⌜ r ≡ numberIn operand ⌝ }
-{
-    match operand {
-        Operand::Nothing => 0,
-        Operand::Literal(_) => 0,
-        Operand::Text { start: _, count: _ } => 0,
-        Operand::Branch { bits: _, aim: _ } => 0,
-        Operand::Number(number) => number,
-        Operand::Definition { number: _, kind: _ } => 0,
-    }
-}
 
 // Another value for the number that stands at a place.
 fn assigned(st: State, at: usize, value: u32) -> State

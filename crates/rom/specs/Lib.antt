@@ -4,4 +4,5 @@ pub mod Branch
 pub mod BranchLaws
 pub mod Sum
 pub mod Header
+pub mod HeaderLaws
 pub mod Examples

@@ -20,11 +20,12 @@ use Rattle.memory.specs.Window.{romBase, workBase}
 use Rattle.memory.specs.Writing.{writtenOf, bytesOf}
 use Rattle.tree.specs.Property.{treePut, storePut}
 use Rattle.tree.specs.Node.{childOf, finishedOf}
+use Rattle.tokens.specs.Definition.{colon, kindIn, newNumber, value, variable}
 use Rattle.state.specs.Stacks.{Stacks, stacks, leftOf, plainOf, pickedOf, rolledOf, doubledOf}
 use Rattle.state.specs.State.{stacksOf, moved, movedTo, withCalls, withNumbers, withWork, withTree, finishedAt}
-use Rattle.state.specs.Numbers.{colon, value, variable, seekOf, isBody, definedOf, assignedOf}
+use Rattle.state.specs.Numbers.{seekOf, isBody, definedOf, assignedOf}
 use Rattle.state.specs.Scene.{Scene, Turn, turn, refuse, goes, cellOf}
-use Rattle.state.specs.Refusals.{newNumber, kindIn, bodyHere, rounded, isCell, stringAt, titleOf, namedHere, valueHere, titledHere}
+use Rattle.state.specs.Refusals.{bodyHere, rounded, isCell, stringAt, titleOf, namedHere, valueHere, titledHere}
 use Rattle.state.specs.declared.state.State.{State}
 use Rattle.state.specs.declared.state.Calls.{Calls}
 use Rattle.state.specs.declared.answer.Answer.the-variants.{Finished, Going}

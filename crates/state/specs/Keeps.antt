@@ -31,12 +31,13 @@ use Rattle.tree.specs.Laws.{Nodes}
 use Rattle.tree.specs.Kept.{child-nodes, finished-nodes}
 use Rattle.tree.specs.PutKept.{Accepted, put-whole, put-size}
 use Rattle.tree.specs.PutKept.{Sized as SizedTree}
+use Rattle.tokens.specs.Definition.{colon, kindIn, newNumber, takesHere, value, variable}
 use Rattle.state.specs.Stacks.{Stacks, stacks, leftOf, plainOf, pickedOf, rolledOf, doubledOf, backTrouble, tooDeep}
 use Rattle.state.specs.State.{stacksOf, moved, withCalls, withNumbers, withWork, withTree, isOpen, baseOf}
-use Rattle.state.specs.Numbers.{colon, value, variable, seekOf, isHeld, isBody, kindsOf, definedOf, assignedOf}
+use Rattle.state.specs.Numbers.{seekOf, isHeld, isBody, kindsOf, definedOf, assignedOf}
 use Rattle.state.specs.Scene.{Scene, Turn, turn, goes, cellOf, refuse}
 use Rattle.state.specs.Refusals
-use Rattle.state.specs.Refusals.{asked, newNumber, kindIn, bodyHere, takesHere, leadsOut, givesMore, rounded, noRoomFor, stringAt, titleOf}
+use Rattle.state.specs.Refusals.{asked, bodyHere, leadsOut, givesMore, rounded, noRoomFor, stringAt, titleOf}
 use Rattle.state.specs.Refusals.{namedHere, valueHere, titledHere, refusals, refusalOf}
 use Rattle.state.specs.Effects
 use Rattle.state.specs.Effects.{gave, operandIn, aimed, behindBody, framedOf, unframedOf, effects, nothing, actOf}

@@ -17,9 +17,10 @@ use Rattle.tokens.specs.Family.{call, assign}
 use Rattle.tokens.specs.Code.{familyIn}
 use Rattle.tokens.specs.Body.{kindOf, numberIn, unknownOf}
 use Rattle.tokens.specs.declared.decoding.Token.{Token}
+use Rattle.tokens.specs.Definition.{colon, value}
 use Rattle.state.specs.State.{baseOf}
 use Rattle.state.specs.Stacks.{leftOf}
-use Rattle.state.specs.Numbers.{colon, value, seekOf, isHeld, isBody, kindAt, kindHeld, kindsFrom, kindsOf, definedOf, assignedOf}
+use Rattle.state.specs.Numbers.{seekOf, isHeld, isBody, kindAt, kindHeld, kindsFrom, kindsOf, definedOf, assignedOf}
 use Rattle.state.specs.Whole.{nextBase}
 use Rattle.state.specs.Effects.{framedOf, unframedOf}
 use Rattle.state.specs.Sized.{SizedCalls, SizedNumbers}

@@ -32,7 +32,8 @@ use Rattle.tokens.specs.declared.decoding.Decoded.the-variants.{Cut, Unlisted, 
 use Rattle.tokens.specs.declared.read.Read.{Read}
 use Rattle.tokens.specs.declared.read.Read.the-variants.{Refused as Unread, Good}
 use Rattle.tokens.specs.declared.body.Body.{Body}
-use Rattle.state.specs.Refusals.{newNumber, outside, leadsOut}
+use Rattle.tokens.specs.Definition.{newNumber}
+use Rattle.state.specs.Refusals.{outside, leadsOut}
 use Rattle.state.specs.Effects.{aimed, behindBody}
 use Rattle.state.specs.KeepsWhole.{Place}
 

@@ -14,10 +14,11 @@ use Rattle.tokens.specs.declared.read.Read.{Read}
 use Rattle.tokens.specs.declared.read.Read.the-variants.{Refused as Unread, Good}
 use Rattle.tree.specs.Laws.{Nodes}
 use Rattle.tree.specs.Kept.{whole-is as tree-whole}
+use Rattle.tokens.specs.Definition.{colon, kindIn, value, variable}
 use Rattle.state.specs.State.{isOpen}
-use Rattle.state.specs.Numbers.{isBody, seekOf, colon, value, variable}
+use Rattle.state.specs.Numbers.{isBody, seekOf}
 use Rattle.state.specs.Scene.{Scene, Turn, turn, refuse}
-use Rattle.state.specs.Refusals.{refusalOf, kindIn}
+use Rattle.state.specs.Refusals.{refusalOf}
 use Rattle.state.specs.Effects.{effects, nothing, actOf, defines, colons, values, variables, calls}
 use Rattle.state.specs.Step.{readyOf, doneOf, readTurn, tokenOf, knownTurn, stepOf}
 use Rattle.state.specs.KeepsTests.{find-at, _▸_}

@@ -6,20 +6,8 @@ use lib.ListN.{getD, set}
 use lib.Dec.{ltb, eqb}
 use Rattle.cells.specs.Choice.{pick, find}
 use Rattle.tokens.specs.Table.{isProgram}
+use Rattle.tokens.specs.Definition.{colon, value, constant}
 use Rattle.state.specs.declared.state.Numbers.{Numbers}
-
--- the kind bytes
-abbrev pub colon : ℕ
-colon = 0xB7
-
-abbrev pub value : ℕ
-value = 0xB8
-
-abbrev pub variable : ℕ
-variable = 0xB9
-
-abbrev pub constant : ℕ
-constant = 0xBA
 
 -- where a number stands, the oldest first, of so many from i on; the end where it is not there
 unfoldable pub seekFrom : List ℕ → ℕ → ℕ → ℕ → ℕ

@@ -12,7 +12,7 @@ use Rattle.rom.specs.declared.branch.Aim.{Aim}
 use Rattle.rom.specs.declared.branch.Aim.the-variants.{Inside, Outside}
 use Rattle.tokens.specs.Family.{plain, always, choice, divide, pickUp, rollUp, maybe, leave, fetch, store, define, assign, call}
 use Rattle.tokens.specs.Family.{encodeInt, encodeString, join, property, titled, newDevice, finishDevice}
-use Rattle.tokens.specs.Code.{codeOf, familyIn, takesIn, givesIn}
+use Rattle.tokens.specs.Code.{familyIn, givesIn}
 use Rattle.tokens.specs.Body.{unknownOf, bodyOf}
 use Rattle.tokens.specs.declared.decoding.Operand.{Operand}
 use Rattle.tokens.specs.declared.decoding.Operand.the-variants.{Nothing, Literal, Text, Branch, Number, Definition}
@@ -23,9 +23,10 @@ use Rattle.memory.specs.Window.{badRange, resolveOf}
 use Rattle.memory.specs.Cells.{uneven, outsideWork}
 use Rattle.tree.specs.Property.{valueOf, badName, overfull, wouldHold}
 use Rattle.tree.specs.Node.{noRoom, outermost}
+use Rattle.tokens.specs.Definition.{colon, variable, newNumber, kindIn, ofKind, takesHere}
 use Rattle.state.specs.Stacks.{tooDeep, backTrouble}
 use Rattle.state.specs.State.{stacksOf, baseOf}
-use Rattle.state.specs.Numbers.{colon, variable, seekOf, isHeld, isBody, kindsOf}
+use Rattle.state.specs.Numbers.{seekOf, isHeld, isBody, kindsOf}
 use Rattle.state.specs.Scene.{Scene, cellOf}
 
 -- a condition that is asked of one family of tokens alone
@@ -40,22 +41,6 @@ abbrev pub undefined : Scene → Token → Bool
 undefined s t = asked call t unknownHere s || asked assign t unknownHere s
 
 -- ---- 13: "number already defined, or a 257th"
-abbrev pub newNumber : Operand → ℕ
-newNumber Nothing = 0
-newNumber (Literal n) = 0
-newNumber (Text start count) = 0
-newNumber (Branch bits aim) = 0
-newNumber (Number n) = 0
-newNumber (Definition n k) = n
-
-abbrev pub kindIn : Operand → ℕ
-kindIn Nothing = 0
-kindIn (Literal n) = 0
-kindIn (Text start count) = 0
-kindIn (Branch bits aim) = 0
-kindIn (Number n) = 0
-kindIn (Definition n k) = k
-
 abbrev definedAlready : Scene → Token → Bool
 definedAlready s t = isHeld (s .state .numbers) (newNumber (t .operand)) || leb numbersMost (s .state .numbers .count)
 
@@ -63,9 +48,6 @@ abbrev pub taken : Scene → Token → Bool
 taken s t = asked define t definedAlready s
 
 -- ---- "After its head's own tests b(:) reads on to the first C2 that starts a token, refusing at the first token that gives 10, 18, 11 or 12"
-abbrev pub ofKind : ℕ → Token → Bool
-ofKind k t = eqb (familyIn (t .code)) define && eqb (kindIn (t .operand)) k
-
 abbrev pub bodyHere : Scene → Token → Body
 bodyHere s t = bodyOf (s .rom) (s .state .length) (s .state .wide) (kindsOf (s .state .numbers)) (t .next)
 
@@ -77,9 +59,6 @@ abbrev pub bodyRefusal : Scene → Token → ℕ
 bodyRefusal s t = elim (ofKind colon t) [ true ↦ whyStopped (bodyHere s t) | false ↦ 0 ]
 
 -- ---- 14: "data stack too low": a definition takes what its kind takes; pick and roll reach further down
-abbrev pub takesHere : Token → ℕ
-takesHere t = takesIn (t .code) + elim (eqb (familyIn (t .code)) define) [ true ↦ takesIn (codeOf (kindIn (t .operand))) | false ↦ 0 ]
-
 abbrev reachesBelow : Scene → Token → Bool
 reachesBelow s t = tooDeep (stacksOf (s .state))
 

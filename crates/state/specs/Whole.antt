@@ -10,7 +10,7 @@ use Rattle.cells.specs.Choice.{pick}
 use Rattle.rom.specs.Sizes.{firstPlace, dataMost, returnMost, framesMost, numbersMost, workSize}
 use Rattle.tokens.specs.Table.{isProgram}
 use Rattle.tree.specs.Whole.{everyBelow, wholeTree}
-use Rattle.state.specs.Numbers.{colon}
+use Rattle.tokens.specs.Definition.{colon}
 use Rattle.state.specs.declared.state.State.{State}
 use Rattle.state.specs.declared.state.Calls.{Calls}
 use Rattle.state.specs.declared.state.Numbers.{Numbers}

@@ -5,6 +5,7 @@ pub mod Code
 pub mod Decode
 pub mod Place
 pub mod Body
+pub mod Definition
 pub mod Laws
 pub mod Rows
 pub mod Rules

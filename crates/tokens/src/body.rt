@@ -27,7 +27,8 @@ pub fn kind_of(kinds: &[u8; 2048], number: u32) -> u8
     }
 }
 
-fn number_in(operand: Operand) -> u32
+// The number that stands behind b(to).
+pub fn number_in(operand: Operand) -> u32
     ensures { λ r. ⌜ r ≡ numberIn operand ⌝ }
 {
     match operand {

@@ -3,11 +3,13 @@
 mod body;
 mod code;
 mod decoding;
+mod definition;
 pub mod family;
 mod read;
 
 pub use body::Body;
 pub use body::kind_of;
+pub use body::number_in;
 pub use body::read_body;
 pub use body::unknown;
 pub use code::code_of;
@@ -21,6 +23,9 @@ pub use decoding::Operand;
 pub use decoding::Token;
 pub use decoding::decode;
 pub use decoding::is_program;
+pub use definition::kind_in;
+pub use definition::new_number;
+pub use definition::takes_here;
 pub use read::Read;
 pub use read::out_of_place;
 pub use read::read_at;

@@ -1,7 +1,7 @@
 use mathlib.Core.Path.{sym}
 use mathlib.Core.List.{_∷_, []}
 use Rattle.cells.specs.Tests.{find-none}
-use Rattle.state.specs.Numbers.{colon, value, constant}
+use Rattle.tokens.specs.Definition.{colon, constant, value}
 use Rattle.acts.proofs.kinds.known_kind.Statement.{statement}
 use Rattle.acts.proofs.kinds.known_kind.Tie as tie
 
