@@ -1,0 +1,268 @@
+-- The pass over a body's bytes marks its token starts, and finds its C2: exactly where the body ends with one, and no token before it is
+-- refused. Assumes nothing.
+use Prim.Native.Nat.{ℕ, zero, suc, _-_, _≤_, _<_}
+use mathlib.Core.Path.{_≡_, refl, sym, _∙_, subst}
+use mathlib.Core.Logic.{_≢_}
+use mathlib.Core.Bool.{Bool, true, false, _||_}
+use mathlib.Core.List.{List}
+use native.Mathlib.Omega.{arith}
+use native.Mathlib.Decide.{ℕ-discrete}
+use lib.ListN.{length, getD, set, length-set}
+use lib.Seq.{getD-set-same, getD-set-other}
+use lib.Dec.{T, eqb, eqb→eq}
+use Rattle.cells.specs.Facts.{is-false, neither}
+use Rattle.cells.specs.Tests.{when-is, neqb→ne}
+use Rattle.rom.specs.Header.{lengthOf}
+use Rattle.rom.specs.Sizes.{romMost}
+use Rattle.tokens.specs.Body.{unknownOf}
+use Rattle.tokens.specs.Laws.{next-ahead}
+use Rattle.tokens.specs.declared.decoding.Token.{Token}
+use Rattle.tokens.specs.declared.read.Read.{Read}
+use Rattle.tokens.specs.declared.read.Read.the-variants.{Refused, Good}
+use Rattle.screen.specs.Effect.{astray}
+use Rattle.screen.specs.Reach.{tokenAt, Claim, Holds, Starts}
+use Rattle.screen.specs.Model.{unmet, Marked, marked, startIn, startsOf}
+
+-- ---- the token starts of a body
+-- a start of a body is its first place, or a start of what is behind its first token
+data Split (rom : List ℕ) (w : Bool) (p : ℕ) (t : Token) : ℕ → Type 0 where
+  here : Split rom w p t p
+  further : {q : ℕ} → (t .number ≡ 0xC2 → ⊥) → Starts rom w (t .next) q → Split rom w p t q
+
+split : {rom : List ℕ} {w : Bool} {p q : ℕ} {t : Token} → tokenAt rom 1 w p ≡ Good t → Starts rom w p q → Split rom w p t q
+split e Starts.entry = here
+split {rom} {w} {p} {q} {t} e (Starts.behind {t = u} s f n) = onto (split e s) f
+  where
+    onto : {r : ℕ} → Split rom w p t r → tokenAt rom 1 w r ≡ Good u → Split rom w p t (u .next)
+    onto here f = let d : u ≡ t = cc (e, f) in rw d (further (λ z. n (rw d z)) Starts.entry)
+    onto (further m s′) f = further m (Starts.behind s′ f n)
+
+-- what holds of the first place, and of the starts behind its token, holds of every start
+by-start : {rom : List ℕ} {w : Bool} {p q : ℕ} {t : Token} (Q : ℕ → Type 0) → tokenAt rom 1 w p ≡ Good t → Starts rom w p q → Q p
+    → ((t .number ≡ 0xC2 → ⊥) → Starts rom w (t .next) q → Q q) → Q q
+by-start {rom} {w} {p} {q} {t} Q e s h f = by (split e s) h f
+  where
+    by : {r : ℕ} → Split rom w p t r → Q p → ((t .number ≡ 0xC2 → ⊥) → Starts rom w (t .next) r → Q r) → Q r
+    by here h f = h
+    by (further m s′) h f = f m s′
+
+-- a start of what is behind the first token is a start
+prepend : {rom : List ℕ} {w : Bool} {p q : ℕ} {t : Token} → tokenAt rom 1 w p ≡ Good t → (t .number ≡ 0xC2 → ⊥) → Starts rom w (t .next) q
+    → Starts rom w p q
+prepend e n Starts.entry = Starts.behind Starts.entry e n
+prepend e n (Starts.behind s f m) = Starts.behind (prepend e n s) f m
+
+-- ---- where a body ends
+-- the C2 that ends a body is a start of it, and is before the length
+pub record EndIs (rom : List ℕ) (w : Bool) (p c : ℕ) : Type 0 where
+  pub low : p ≤ c
+  pub high : c < lengthOf rom
+  pub start : Starts rom w p c
+  pub token : Token
+  pub is : tokenAt rom 1 w c ≡ Good token
+  pub number : token .number ≡ 0xC2
+
+-- it is so of every body that ends
+pub end-is : {rom : List ℕ} {w : Bool} {p c : ℕ} → Holds rom (Claim.reads w p c) → EndIs rom w p c
+end-is {rom} {w} {p} (Holds.last {t = t} e n) =
+    let a = next-ahead rom (lengthOf rom) w true p t e in
+    record { low = omega arith; high = omega arith; start = Starts.entry; token = t; is = e; number = n }
+end-is {rom} {w} {p} (Holds.more {t = t} e n k r) =
+    let a = next-ahead rom (lengthOf rom) w true p t e in
+    let y = end-is r in
+    record { low = omega arith; high = y .high; start = prepend e n (y .start); token = y .token; is = y .is; number = y .number }
+
+-- each of its starts is a whole token, not behind it
+pub record Within (rom : List ℕ) (w : Bool) (p c q : ℕ) : Type 0 where
+  pub low : p ≤ q
+  pub high : q ≤ c
+  pub token : Token
+  pub is : tokenAt rom 1 w q ≡ Good token
+
+-- it is so of every start
+pub start-within : {rom : List ℕ} {w : Bool} {p c q : ℕ} → Holds rom (Claim.reads w p c) → Starts rom w p q → Within rom w p c q
+start-within {rom} {w} {p} (Holds.last {t = t} e n) s =
+    by-start (Within rom w p p) e s (record { low = omega arith; high = omega arith; token = t; is = e }) (λ m s′. absurd (m n))
+start-within {rom} {w} {p} {c} (Holds.more {t = t} e n k r) s =
+    let a = next-ahead rom (lengthOf rom) w true p t e in
+    by-start (Within rom w p c) e s (let y = end-is r in record { low = omega arith; high = omega arith; token = t; is = e })
+    (λ m s′. let y = start-within r s′ in record { low = omega arith; high = y .high; token = y .token; is = y .is })
+
+-- a body has one end
+pub one-end : {rom : List ℕ} {w : Bool} {p c d : ℕ} → Holds rom (Claim.reads w p c) → Holds rom (Claim.reads w p d) → c ≡ d
+one-end r s = let a = start-within r (end-is s .start) in let b = start-within s (end-is r .start) in omega arith
+
+-- ---- what the pass finds
+-- a place is a start, and marked, or none, and as it was
+pub data Cell (rom : List ℕ) (w : Bool) (entry : ℕ) (seen then : List ℕ) (p : ℕ) : Type 0 where
+  start : Starts rom w entry p → getD then p 0 ≡ unmet → Cell rom w entry seen then p
+  other : (Starts rom w entry p → ⊥) → getD then p 0 ≡ getD seen p 0 → Cell rom w entry seen then p
+
+-- what is known of a body whose starts are marked: `reads` asks that what the numbers' kinds tell is so
+pub record Marks (rom : List ℕ) (w : Bool) (kinds : List ℕ) (entry : ℕ) (seen : List ℕ) (m : Marked) : Type 0 where
+  pub low : entry ≤ m .end
+  pub high : m .end < lengthOf rom
+  pub reads : ((p : ℕ) (t : Token) → entry ≤ p → unknownOf kinds t ≡ false → Holds rom (Claim.known p t)) → Holds rom (Claim.reads w entry (m .end))
+  pub starts : {p : ℕ} → Starts rom w entry p → (entry ≤ p) × (p ≤ m .end) × (getD (m .seen) p 0 ≡ unmet)
+  pub whole : {p : ℕ} → Starts rom w entry p → (t : Token) × (tokenAt rom 1 w p ≡ Good t)
+  pub fine : {p : ℕ} {t : Token} → Starts rom w entry p → tokenAt rom 1 w p ≡ Good t → (astray t ≡ false) × (unknownOf kinds t ≡ false)
+  pub each : (p : ℕ) → Cell rom w entry seen (m .seen) p
+  pub size : length (m .seen) ≡ length seen
+
+module _ {rom : List ℕ} {w : Bool} {kinds : List ℕ} {p : ℕ} {seen : List ℕ} {t : Token} where
+  -- the last token
+  marks-last : p < length seen → tokenAt rom 1 w p ≡ Good t → astray t ≡ false → unknownOf kinds t ≡ false → t .number ≡ 0xC2
+      → Marks rom w kinds p seen (marked true p (set seen p unmet))
+  marks-last i e a u n =
+      let b = next-ahead rom (lengthOf rom) w true p t e in
+      record {
+        low = omega arith;
+        high = omega arith;
+        reads = λ k. Holds.last e n;
+        starts = λ s.
+            by-start (λ q. (p ≤ q) × (q ≤ p) × (getD (set seen p unmet) q 0 ≡ unmet)) e s
+            (omega arith, omega arith, getD-set-same seen p unmet 0 i) (λ m s′. absurd (m n));
+        whole = λ s. by-start (λ q. (t : Token) × (tokenAt rom 1 w q ≡ Good t)) e s (t, e) (λ m s′. absurd (m n));
+        fine = λ {p = q} {t = v} s.
+            by-start (λ r. tokenAt rom 1 w r ≡ Good v → (astray v ≡ false) × (unknownOf kinds v ≡ false)) e s
+            (λ f. let d : v ≡ t = cc (e, f) in rw d (a, u)) (λ m s′. absurd (m n));
+        each = λ q.
+            elim (ℕ-discrete q p) [
+              | yes d ↦ rw d (start Starts.entry (getD-set-same seen p unmet 0 i))
+              | no d ↦
+                  other (λ s. by-start (λ r. (r ≡ p → ⊥) → ⊥) e s (λ h. h refl) (λ m s′. absurd (m n)) d) (getD-set-other seen p q unmet 0 d)
+            ];
+        size = length-set seen p unmet;
+      }
+
+  -- a token before the last
+  marks-more : {m : Marked} → p < length seen → tokenAt rom 1 w p ≡ Good t → astray t ≡ false → unknownOf kinds t ≡ false
+      → (t .number ≡ 0xC2 → ⊥) → Marks rom w kinds (t .next) (set seen p unmet) m → Marks rom w kinds p seen m
+  marks-more {m} i e a u n y =
+      let b = next-ahead rom (lengthOf rom) w true p t e in
+      let lo = y .low in
+      record {
+        low = omega arith;
+        high = y .high;
+        reads = λ k. Holds.more e n (k p t (omega arith) u) (y .reads (λ q v l x. k q v (omega arith) x));
+        starts = λ s.
+            by-start (λ q. (p ≤ q) × (q ≤ m .end) × (getD (m .seen) q 0 ≡ unmet)) e s (omega arith, omega arith, first (y .each p))
+            (λ o s′. let z = y .starts s′ in (omega arith, z .1, z .2));
+        whole = λ s. by-start (λ q. (t : Token) × (tokenAt rom 1 w q ≡ Good t)) e s (t, e) (λ o s′. y .whole s′);
+        fine = λ {p = q} {t = v} s.
+            by-start (λ r. tokenAt rom 1 w r ≡ Good v → (astray v ≡ false) × (unknownOf kinds v ≡ false)) e s
+            (λ f. let d : v ≡ t = cc (e, f) in rw d (a, u)) (λ o s′. y .fine s′);
+        each = λ q.
+            elim (ℕ-discrete q p) [
+              | yes d ↦ rw d (start Starts.entry (first (y .each p)))
+              | no d ↦ later d (y .each q)
+            ];
+        size = y .size ∙ length-set seen p unmet;
+      }
+    where
+      first : Cell rom w (t .next) (set seen p unmet) (m .seen) p → getD (m .seen) p 0 ≡ unmet
+      first (start s f) = f
+      first (other o f) = f ∙ getD-set-same seen p unmet 0 i
+
+      later : {q : ℕ} → (q ≡ p → ⊥) → Cell rom w (t .next) (set seen p unmet) (m .seen) q → Cell rom w p seen (m .seen) q
+      later d (start s f) = start (prepend e n s) f
+      later {q} d (other o f) =
+          other (λ s. by-start (λ r. (r ≡ p → ⊥) → (Starts rom w (t .next) r → ⊥) → ⊥) e s (λ h k. h refl) (λ x s′ h k. k s′) d o)
+          (f ∙ getD-set-other seen p q unmet 0 d)
+
+-- one token, whatever is behind it
+marks-in : (rom : List ℕ) (w : Bool) (kinds : List ℕ) (go : ℕ → List ℕ → Marked)
+    → ((q : ℕ) (m : List ℕ) → lengthOf rom ≤ length m → go q m .good ≡ true → Marks rom w kinds q m (go q m))
+    → (p : ℕ) (seen : List ℕ) → lengthOf rom ≤ length seen → (r : Read) → tokenAt rom 1 w p ≡ r → startIn kinds seen p go r .good ≡ true
+    → Marks rom w kinds p seen (startIn kinds seen p go r)
+marks-in rom w kinds go f p seen l (Refused why) e = λ g. absurd (subst T (sym g) tt)
+marks-in rom w kinds go f p seen l (Good t) e =
+    let b = next-ahead rom (lengthOf rom) w true p t e in
+    when-is (λ m. m .good ≡ true → Marks rom w kinds p seen m) (astray t || unknownOf kinds t) _ _ (λ x g. absurd (subst T (sym g) tt))
+    (λ x.
+    let y = neither (astray t) (unknownOf kinds t) x in
+    when-is (λ m. m .good ≡ true → Marks rom w kinds p seen m) (eqb (t .number) 0xC2) _ _
+    (λ n g. marks-last (omega arith) e (is-false (astray t) (y .0)) (is-false (unknownOf kinds t) (y .1)) (eqb→eq (t .number) 0xC2 n))
+    (λ n g.
+    marks-more (omega arith) e (is-false (astray t) (y .0)) (is-false (unknownOf kinds t) (y .1)) (neqb→ne (t .number) 0xC2 n)
+    (f (t .next) (set seen p unmet) (rw length-set l) g)))
+
+-- the pass from a place on, by the tokens that it may read
+marks-from : (rom : List ℕ) (w : Bool) (kinds : List ℕ) (k p : ℕ) (seen : List ℕ) → lengthOf rom ≤ length seen
+    → startsOf rom (lengthOf rom) w kinds k p seen .good ≡ true → Marks rom w kinds p seen (startsOf rom (lengthOf rom) w kinds k p seen)
+unfolding startsOf
+marks-from rom w kinds zero p seen l g = absurd (subst T (sym g) tt)
+marks-from rom w kinds (suc k) p seen l g =
+    marks-in rom w kinds (λ q m. startsOf rom (lengthOf rom) w kinds k q m) (λ q m h. marks-from rom w kinds k q m h) p seen l
+    (tokenAt rom 1 w p) refl g
+
+-- where the pass is good it has marked the starts of a body that ends with a C2
+pub marks-good : (rom : List ℕ) (w : Bool) (kinds : List ℕ) (entry : ℕ) (seen : List ℕ) → lengthOf rom ≤ length seen
+    → startsOf rom (lengthOf rom) w kinds romMost entry seen .good ≡ true
+    → Marks rom w kinds entry seen (startsOf rom (lengthOf rom) w kinds romMost entry seen)
+marks-good rom w kinds entry seen l g = marks-from rom w kinds romMost entry seen l g
+
+-- what is outside of the body is as it was
+pub marks-kept : {rom : List ℕ} {w : Bool} {kinds : List ℕ} {entry : ℕ} {seen : List ℕ} {m : Marked} → Marks rom w kinds entry seen m
+    → (p : ℕ) → (entry ≤ p → p ≤ m .end → ⊥) → getD (m .seen) p 0 ≡ getD seen p 0
+marks-kept {rom} {w} {kinds} {entry} {seen} {m} y p out = by (y .each p)
+  where
+    by : Cell rom w entry seen (m .seen) p → getD (m .seen) p 0 ≡ getD seen p 0
+    by (start s e) = let z = y .starts s in absurd (out (z .0) (z .1))
+    by (other o e) = e
+
+-- what is marked and was not is a start
+pub marks-only : {rom : List ℕ} {w : Bool} {kinds : List ℕ} {entry : ℕ} {seen : List ℕ} {m : Marked} → Marks rom w kinds entry seen m
+    → (p : ℕ) → getD (m .seen) p 0 ≡ unmet → getD seen p 0 ≢ unmet → Starts rom w entry p
+marks-only {rom} {w} {kinds} {entry} {seen} {m} y p now then = by (y .each p)
+  where
+    by : Cell rom w entry seen (m .seen) p → Starts rom w entry p
+    by (start s e) = s
+    by (other o e) = absurd (then (sym e ∙ now))
+
+-- ---- what it does not miss
+-- the pass is good, and finds this C2
+pub record Found (m : Marked) (c : ℕ) : Type 0 where
+  pub good : m .good ≡ true
+  pub end : m .end ≡ c
+
+-- no token of a body names an unknown number or branches to outside
+abbrev pub Fine : List ℕ → Bool → List ℕ → ℕ → Type 0
+Fine rom w kinds entry =
+    (p : ℕ) (t : Token) → Starts rom w entry p → tokenAt rom 1 w p ≡ Good t → (unknownOf kinds t ≡ false) × (astray t ≡ false)
+
+-- a token that is not refused
+found-in : (kinds seen : List ℕ) (p c : ℕ) (go : ℕ → List ℕ → Marked) (r : Read) (t : Token) → r ≡ Good t → (unknownOf kinds t ≡ false) × (astray t ≡ false)
+    → (t .number ≡ 0xC2 → p ≡ c) → ((t .number ≡ 0xC2 → ⊥) → Found (go (t .next) (set seen p unmet)) c)
+    → Found (startIn kinds seen p go r) c
+found-in kinds seen p c go r t e f last more =
+    rw e
+    (when-is (λ m. Found m c) (astray t || unknownOf kinds t) _ _ (λ x. absurd (refused (astray t) (unknownOf kinds t) (f .1) (f .0) x))
+    (λ x.
+    when-is (λ m. Found m c) (eqb (t .number) 0xC2) _ _ (λ n. record { good = refl; end = last (eqb→eq (t .number) 0xC2 n) })
+    (λ n. more (neqb→ne (t .number) 0xC2 n))))
+  where
+    refused : (a b : Bool) → a ≡ false → b ≡ false → T (a || b) → ⊥
+    refused true b e f x = subst T e tt
+    refused false b e f x = subst T f x
+
+-- the pass from a place on, where there are as many turns as places: a token is at least one byte
+found-from : {rom : List ℕ} {w : Bool} {p c : ℕ} (kinds : List ℕ) → Holds rom (Claim.reads w p c) → Fine rom w kinds p → (k : ℕ) (seen : List ℕ)
+    → lengthOf rom - p ≤ k → Found (startsOf rom (lengthOf rom) w kinds k p seen) c
+unfolding startsOf
+found-from {rom} {w} {p} kinds (Holds.last {t = t} e n) fine zero seen l =
+    let a = next-ahead rom (lengthOf rom) w true p t e in absurd (omega arith)
+found-from {rom} {w} {p} kinds (Holds.more {t = t} e n x r) fine zero seen l =
+    let a = next-ahead rom (lengthOf rom) w true p t e in absurd (omega arith)
+found-from {rom} {w} {p} kinds (Holds.last {t = t} e n) fine (suc k) seen l =
+    found-in kinds seen p p (λ q m. startsOf rom (lengthOf rom) w kinds k q m) (tokenAt rom 1 w p) t e (fine p t Starts.entry e) (λ z. refl)
+    (λ z. absurd (z n))
+found-from {rom} {w} {p} {c} kinds (Holds.more {t = t} e n x r) fine (suc k) seen l =
+    let a = next-ahead rom (lengthOf rom) w true p t e in
+    found-in kinds seen p c (λ q m. startsOf rom (lengthOf rom) w kinds k q m) (tokenAt rom 1 w p) t e (fine p t Starts.entry e)
+    (λ z. absurd (n z)) (λ z. found-from kinds r (λ q u s f. fine q u (prepend e n s) f) k (set seen p unmet) (omega arith))
+
+-- where a body ends with a C2, and none of its tokens is refused, the pass is good, and finds that C2
+pub marks-found : {rom : List ℕ} {w : Bool} {entry c : ℕ} (kinds seen : List ℕ) → lengthOf rom ≤ romMost → Holds rom (Claim.reads w entry c)
+    → Fine rom w kinds entry → Found (startsOf rom (lengthOf rom) w kinds romMost entry seen) c
+marks-found {rom} {w} {entry} kinds seen l r fine = found-from kinds r fine romMost seen (omega arith)
