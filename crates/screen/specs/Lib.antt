@@ -25,3 +25,10 @@ pub mod ExactRound
 pub mod ExactBody
 pub mod Exact
 pub mod Agree
+pub mod Exactly
+pub mod CodeLaws
+pub mod WalkLaws
+pub mod BodyLaws
+pub mod KeepLaws
+pub mod RoundLaws
+pub mod ScreenLaws

@@ -1,4 +1,43 @@
 // From one token that must be met exactly once to the next.
+ghost use mathlib.Core.Path.{_≡_};
+ghost use mathlib.Core.Bool.{false, _&&_, _||_};
+ghost use lib.Dec.{eqb, ltb};
+ghost use Rattle.tokens.specs.Body.{kindOf};
+ghost use Prim.Native.Nat.{suc, _≤_, _<_, _+_};
+ghost use lib.ListN.{set};
+ghost use Rattle.rom.specs.Sizes.{romMost, numbersMost};
+ghost use Rattle.tokens.specs.Family.{widen};
+ghost use Rattle.screen.specs.Effect.{isA, valueSum};
+ghost use Rattle.screen.specs.Model.{slot, packed, apartOf, outsideText, moved as Model·moved, withCount, board, newNode, closedNode};
+ghost use Rattle.screen.specs.Model.{colonOf, defineOf, advanceOf, roundsOf};
+ghost use Rattle.screen.specs.BodyLaws.{Bounded};
+ghost use Rattle.screen.specs.RoundLaws.{passOf, Standing, Defining, NodeIs, TurnIs, RoundIs, AfterIs, PassedIs};
+use crate::body::places;
+use crate::body::shift;
+use crate::body::sum_of;
+use crate::body::survey_body;
+use crate::effect::Sum;
+use crate::effect::fixes;
+use crate::effect::is_a;
+use crate::effect::pack;
+use crate::limits::NODES_MOST;
+use crate::limits::NUMBERS_MOST;
+use crate::limits::ROM_MOST;
+use crate::tables::cell_at;
+use crate::tables::set_kind;
+use crate::tables::set_sum;
+use crate::walking::Text;
+use crate::walking::height_in;
+use crate::walking::less;
+use crate::walking::walk_from;
+use tokens::Read;
+use tokens::Token;
+use tokens::family;
+use tokens::kind_in;
+use tokens::kind_of;
+use tokens::new_number;
+use tokens::read_at;
+use tokens::takes_here;
 
 // Where a round starts, with which heights, and what is in force there.
 pub struct Stand {
@@ -19,4 +58,425 @@ pub struct Tally {
     pub return_peak: u32,
     pub frames: u32,
     pub out: u32,
+}
+
+// Whether a place of a round may stand where it does, and the place behind its token.
+pub struct Pass(pub bool, pub u32);
+
+// A round: whether it is good, and the highest place that it came to.
+pub struct Round {
+    pub good: bool,
+    pub far: u32,
+}
+
+// What a token that ends a round leaves: whether it may stand there, and where the next round starts.
+pub struct Turned {
+    pub good: bool,
+    pub stand: Stand,
+}
+
+// What comes behind a round.
+pub enum After {
+    Fails,
+    Ends,
+    Goes(Stand),
+}
+
+fn outside(length: u32, stand: Stand) -> Text
+    ensures { λ r. ⌜ r ≡ outsideText length stand ⌝ }
+{
+    Text {
+        length: length,
+        wide: stand.wide,
+        within: false,
+        low: stand.start,
+        children: stand.children,
+    }
+}
+
+// A place of a round: no token may start before the last one ends, and one that ends a round is the highest.
+fn passed(rom: &[u8], text: Text, far: u32, cell: u32, place: u32, free: u32) -> Pass
+    requires { ⌜ place < 0x4000_0000 ⌝ }
+    ensures { λ r. ⌜ r ≡ passOf (now (rom .entry)) text far cell place free ⌝ }
+{
+    if cell == 0 {
+        return Pass(true, free);
+    }
+    if place < free {
+        return Pass(false, free);
+    }
+    match read_at(rom, text.length, text.wide, false, place) {
+        Read::Refused(_) => Pass(true, place + 1),
+        Read::Good(token) => {
+            if place == far {
+                return Pass(true, token.next);
+            }
+            if fixes(token) {
+                return Pass(false, free);
+            }
+            Pass(true, token.next)
+        }
+    }
+}
+
+// No two tokens of a round overlap, and none but the highest ends it.
+fn apart(rom: &[u8], text: Text, seen: &[u32], far: u32, count: u32, start: u32) -> bool
+    requires { ⌜ start + count < 0x4000_0000 ⌝ }
+    ensures { λ r. ⌜ r ≡ apartOf (now (rom .entry)) text (now (seen .entry)) far count start 0 ⌝ }
+{
+    let mut place = start;
+    let mut free = 0;
+    let mut left = count;
+    while 0 < left {
+        let p = passed(rom, text, far, cell_at(seen, place), place, free);
+        if !p.0 {
+            return false;
+        }
+        free = p.1;
+        place += 1;
+        left -= 1;
+    }
+    true
+}
+
+// The walk of a round, and its overlaps.
+fn walk_round(
+    rom: &[u8],
+    length: u32,
+    kinds: &[u8; 2048],
+    sums: &[u64],
+    seen: &mut [u32],
+    work: &mut [u32],
+    stand: Stand,
+) -> Round
+    requires { ⌜ (length ≤ 16384) × Standing stand × (stand .cell ≤ 0x1000_0000) × Bounded 0x1000_0000 (now seen) ⌝ }
+    ensures { λ r. ⌜ RoundIs (now (rom .entry)) length (board (now (seen .entry)) (now (work .entry)) (now (kinds .entry)) (now (sums .entry)) stand) r (now (seen .exit)) (now (work .exit)) ⌝ }
+{
+    let text = outside(length, stand);
+    let w = walk_from(
+        rom,
+        text,
+        kinds,
+        sums,
+        &mut *seen,
+        &mut *work,
+        stand.start,
+        stand.cell,
+    );
+    let far = w.far;
+    if !w.good {
+        return Round {
+            good: false,
+            far: far,
+        };
+    }
+    let count = less(far + 1, stand.start);
+    Round {
+        good: apart(rom, text, &*seen, far, count, stand.start),
+        far: far,
+    }
+}
+
+fn widened(token: Token, wide: bool) -> bool
+    ensures { λ r. ⌜ r ≡ (isA widen token || wide) ⌝ }
+{
+    if is_a(family::WIDEN, token) {
+        true
+    } else {
+        wide
+    }
+}
+
+// Behind the token that ended a round.
+fn moved(stand: Stand, token: Token, cell: u32) -> Stand
+    ensures { λ r. ⌜ r ≡ Model·moved stand token cell ⌝ }
+{
+    let height = less(height_in(cell), takes_here(token));
+    Stand {
+        start: token.next,
+        cell: 1 + height + 256 * (cell / 256),
+        wide: widened(token, stand.wide),
+        children: stand.children,
+        nodes: stand.nodes,
+        count: stand.count,
+    }
+}
+
+// One number more.
+fn counted(stand: Stand, start: u32) -> Stand
+    requires { ⌜ stand .count < 256 ⌝ }
+    ensures { λ r. ⌜ r ≡ withCount stand start (suc (stand .count)) ⌝ }
+{
+    Stand {
+        start: start,
+        cell: stand.cell,
+        wide: stand.wide,
+        children: stand.children,
+        nodes: stand.nodes,
+        count: stand.count + 1,
+    }
+}
+
+fn refused(stand: Stand) -> Turned
+    ensures { λ r. ⌜ r .good ≡ false ⌝ }
+{
+    Turned {
+        good: false,
+        stand: stand,
+    }
+}
+
+// new-device
+fn new_node(stand: Stand) -> Turned
+    requires { ⌜ Standing stand ⌝ }
+    ensures { λ r. ⌜ NodeIs (λ b. newNode b stand) stand r ⌝ }
+{
+    if NODES_MOST <= stand.nodes {
+        return refused(stand);
+    }
+    let s = Stand {
+        start: stand.start,
+        cell: stand.cell,
+        wide: stand.wide,
+        children: stand.children + 1,
+        nodes: stand.nodes + 1,
+        count: stand.count,
+    };
+    Turned {
+        good: true,
+        stand: s,
+    }
+}
+
+// finish-device
+fn close_node(stand: Stand) -> Turned
+    requires { ⌜ Standing stand ⌝ }
+    ensures { λ r. ⌜ NodeIs (λ b. closedNode b stand) stand r ⌝ }
+{
+    if stand.children == 0 {
+        return refused(stand);
+    }
+    let s = Stand {
+        start: stand.start,
+        cell: stand.cell,
+        wide: stand.wide,
+        children: stand.children - 1,
+        nodes: stand.nodes,
+        count: stand.count,
+    };
+    Turned {
+        good: true,
+        stand: s,
+    }
+}
+
+// A number goes into the tables, with its kind and its sum.
+fn enter(kinds: &mut [u8; 2048], sums: &mut [u64], number: u32, kind: u8, sum: Sum)
+    requires { ⌜ (number ≤ 0xFFF) × (sum .need < 65536) ⌝ }
+    ensures { λ r. ⌜ (now (kinds .exit) ≡ set (now (kinds .entry)) (slot number) kind) × (now (sums .exit) ≡ set (now (sums .entry)) (slot number) (packed sum)) ⌝ }
+{
+    set_kind(kinds, number, kind);
+    set_sum(sums, number, pack(sum));
+}
+
+// b(:), whose number is new.
+fn colon(
+    rom: &[u8],
+    length: u32,
+    seen: &mut [u32],
+    work: &mut [u32],
+    kinds: &mut [u8; 2048],
+    sums: &mut [u64],
+    stand: Stand,
+    number: u32,
+    entry: u32,
+) -> Turned
+    requires { ⌜ (length ≤ 16384) × (entry ≤ length) × (number ≤ 0xFFF) × (stand .count < 256) × Standing stand × Bounded 0x1000_0000 (now seen) ⌝ }
+    ensures { λ r. ⌜ ((st : Stand) → TurnIs (colonOf (now (rom .entry)) length (board (now (seen .entry)) (now (work .entry)) (now (kinds .entry)) (now (sums .entry)) st) stand number entry) (now (seen .entry)) (stand .cell) r (now (seen .exit)) (now (work .exit)) (now (kinds .exit)) (now (sums .exit))) ⌝ }
+{
+    let s = survey_body(
+        rom,
+        length,
+        &*kinds,
+        &*sums,
+        &mut *seen,
+        &mut *work,
+        stand,
+        entry,
+    );
+    if !s.good {
+        return refused(stand);
+    }
+    let end = s.end;
+    let tally = s.tally;
+    shift(&mut *seen, tally.need, entry, places(entry, end));
+    enter(kinds, sums, number, 0xB7, sum_of(tally));
+    Turned {
+        good: true,
+        stand: counted(stand, end + 1),
+    }
+}
+
+// A number is new that was not defined, where there is room for one more.
+fn is_new(kinds: &[u8; 2048], stand: Stand, number: u32) -> bool
+    ensures { λ r. ⌜ r ≡ (eqb (kindOf (now (kinds .entry)) number) 0 && ltb (stand .count) numbersMost) ⌝ }
+{
+    if kind_of(kinds, number) == 0 {
+        stand.count < NUMBERS_MOST
+    } else {
+        false
+    }
+}
+
+// A value, a variable or a constant gives one cell.
+fn value_sum() -> Sum
+    ensures { λ r. ⌜ r ≡ valueSum ⌝ }
+{
+    Sum {
+        need: 0,
+        out: 1,
+        peak: 1,
+        return_peak: 0,
+        frames: 0,
+    }
+}
+
+// A defining token, whose number must be new.
+fn define(
+    rom: &[u8],
+    length: u32,
+    seen: &mut [u32],
+    work: &mut [u32],
+    kinds: &mut [u8; 2048],
+    sums: &mut [u64],
+    stand: Stand,
+    token: Token,
+) -> Turned
+    requires { ⌜ (length ≤ 16384) × Defining length token × Standing stand × Bounded 0x1000_0000 (now seen) ⌝ }
+    ensures { λ r. ⌜ ((st : Stand) → st .count ≡ stand .count → TurnIs (defineOf (now (rom .entry)) length (board (now (seen .entry)) (now (work .entry)) (now (kinds .entry)) (now (sums .entry)) st) stand token) (now (seen .entry)) (stand .cell) r (now (seen .exit)) (now (work .exit)) (now (kinds .exit)) (now (sums .exit))) ⌝ }
+{
+    let operand = token.operand;
+    let number = new_number(operand);
+    let kind = kind_in(operand);
+    if !is_new(&*kinds, stand, number) {
+        return refused(stand);
+    }
+    if kind == 0xB7 {
+        return colon(
+            rom,
+            length,
+            seen,
+            work,
+            kinds,
+            sums,
+            stand,
+            number,
+            token.next,
+        );
+    }
+    enter(kinds, sums, number, kind as u8, value_sum());
+    Turned {
+        good: true,
+        stand: counted(stand, token.next),
+    }
+}
+
+// The token that ended a round is carried out.
+fn advance(
+    rom: &[u8],
+    length: u32,
+    seen: &mut [u32],
+    work: &mut [u32],
+    kinds: &mut [u8; 2048],
+    sums: &mut [u64],
+    stand: Stand,
+    cell: u32,
+    token: Token,
+) -> Turned
+    requires { ⌜ (length ≤ 16384) × Defining length token × Standing stand × Bounded 0x1000_0000 (now seen) ⌝ }
+    ensures { λ r. ⌜ TurnIs (advanceOf (now (rom .entry)) length (board (now (seen .entry)) (now (work .entry)) (now (kinds .entry)) (now (sums .entry)) stand) cell token) (now (seen .entry)) (cell + 1) r (now (seen .exit)) (now (work .exit)) (now (kinds .exit)) (now (sums .exit)) ⌝ }
+{
+    let s = moved(stand, token, cell);
+    if is_a(family::DEFINE, token) {
+        return define(rom, length, seen, work, kinds, sums, s, token);
+    }
+    if is_a(family::NEW_DEVICE, token) {
+        return new_node(s);
+    }
+    if is_a(family::WIDEN, token) {
+        return Turned {
+            good: true,
+            stand: s,
+        };
+    }
+    close_node(s)
+}
+
+// What the highest token of a round makes of the rest.
+fn next_round(
+    rom: &[u8],
+    length: u32,
+    seen: &mut [u32],
+    work: &mut [u32],
+    kinds: &mut [u8; 2048],
+    sums: &mut [u64],
+    stand: Stand,
+    far: u32,
+) -> After
+    requires { ⌜ (length ≤ 16384) × Standing stand × Bounded 0x1000_0000 (now seen) ⌝ }
+    ensures { λ r. ⌜ AfterIs (now (rom .entry)) length (now (seen .entry)) (now (work .entry)) (now (kinds .entry)) (now (sums .entry)) stand far (now (seen .exit)) (now (work .exit)) (now (kinds .exit)) (now (sums .exit)) r ⌝ }
+{
+    match read_at(rom, length, stand.wide, false, far) {
+        Read::Refused(_) => After::Fails,
+        Read::Good(token) => {
+            if !fixes(token) {
+                return After::Ends;
+            }
+            let cell = cell_at(&*seen, far);
+            let t = advance(rom, length, seen, work, kinds, sums, stand, cell, token);
+            let s = t.stand;
+            if t.good { After::Goes(s) } else { After::Fails }
+        }
+    }
+}
+
+// All rounds from the first on. Each starts behind the one before, so that there are turns enough.
+pub fn all_rounds(
+    rom: &[u8],
+    length: u32,
+    seen: &mut [u32],
+    work: &mut [u32],
+    kinds: &mut [u8; 2048],
+    sums: &mut [u64],
+    first: Stand,
+) -> bool
+    requires { ⌜ (length ≤ 16384) × Standing first × (first .cell ≤ 65536) × Bounded 65536 (now seen) ⌝ }
+    ensures { λ r. ⌜ PassedIs (roundsOf (now (rom .entry)) length romMost (board (now (seen .entry)) (now (work .entry)) (now (kinds .entry)) (now (sums .entry)) first)) r (now (seen .exit)) ⌝ }
+{
+    let mut stand = first;
+    let mut left = ROM_MOST;
+    while 0 < left {
+        let w = walk_round(rom, length, &*kinds, &*sums, &mut *seen, &mut *work, stand);
+        if !w.good {
+            return false;
+        }
+        match next_round(
+            rom,
+            length,
+            &mut *seen,
+            &mut *work,
+            &mut *kinds,
+            &mut *sums,
+            stand,
+            w.far,
+        ) {
+            After::Fails => return false,
+            After::Ends => return true,
+            After::Goes(next) => {
+                stand = next;
+                left -= 1;
+            }
+        }
+    }
+    false
 }

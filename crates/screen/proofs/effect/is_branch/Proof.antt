@@ -1,0 +1,13 @@
+use borrow.Author.Tests.{ne-eqb}
+use borrow.Author.Needs.{needs}
+use Rattle.screen.proofs.effect.is_branch.Statement.{statement}
+use Rattle.screen.proofs.effect.is_branch.Tie as tie
+
+pub is-branch-spec : {M : Type 1} → statement M
+is-branch-spec =
+    tie.close
+    (tie.spec
+    (λ c κs. search needs)
+    (λ c. rw (← c .before .family-of .ensures, c .match .keys1))
+    (λ c. rw (← c .before .family-of .ensures, c .match .keys2))
+    (λ c. rw (← c .before .family-of .ensures, ne-eqb _ _ (c .match .rest .0 .1), ne-eqb _ _ (c .match .rest .1))))

@@ -1,0 +1,13 @@
+use borrow.Author.Needs.{needs}
+use Rattle.screen.proofs.rounds.enter.Statement.{statement}
+use Rattle.screen.proofs.rounds.enter.Tie as tie
+
+pub enter-spec : {M : Type 1} → statement M
+enter-spec =
+    tie.close
+    (tie.spec
+    (λ c κs. search needs)
+    (λ c κs. search needs)
+    (λ c κs. search needs)
+    (λ c. search needs)
+    (λ c. (c .before .before .before .before .before .set-kind .ensures, rw (← c .before .before .before .pack .ensures) (c .before .before .set-sum .ensures))))

@@ -1,0 +1,15 @@
+use borrow.Author.Tests.{le-ltb}
+use Rattle.screen.specs.RoundLaws.{node-fails, node-new}
+use borrow.Author.Needs.{needs}
+use Rattle.screen.proofs.rounds.new_node.Statement.{statement}
+use Rattle.screen.proofs.rounds.new_node.Tie as tie
+
+pub new-node-spec : {M : Type 1} → statement M
+new-node-spec =
+    tie.close
+    (tie.spec
+    (λ c κs. search needs)
+    (λ c. node-fails _ _ _ (λ b. le-ltb _ _ (c .before .if1 .taken)) (c .refused .ensures))
+    (λ c. search needs)
+    (λ c. search needs)
+    (λ c. node-new (c .before .before .before .before .args .stand) (c .before .before .if1 .left) (c .before .before .before .before .pre)))

@@ -1,0 +1,18 @@
+use mathlib.Core.Path.{sym, _∙_}
+use denote.Ref.{now}
+use Rattle.screen.specs.ScreenLaws.{screen-size, screen-header, screen-judged}
+use Rattle.screen.specs.Exactly.{promise-by}
+use borrow.Author.Needs.{needs}
+use Rattle.screen.proofs.screening.screen.Statement.{statement}
+use Rattle.screen.proofs.screening.screen.Tie as tie
+
+pub screen-spec : {M : Type 1} → statement M
+screen-spec =
+    tie.close
+    (tie.spec
+    (λ c. let a = c .before .before .before .args in promise-by _ _ _ _ (screen-size (now (a .rom)) (now (a .marks)) (c .if1 .taken)))
+    (λ c κs. search needs)
+    (λ c. let a = c .before .before .before .before .before .args in promise-by _ _ _ _ (screen-header (now (a .rom)) (now (a .marks)) _ (c .before .before .if1 .left) (c .before .check-header .ensures) (c .if2 .taken)))
+    (λ c κs. search needs)
+    (λ c. search needs)
+    (λ c. let a = c .before .before .before .before .before .before .before .before .before .args in promise-by _ _ _ _ (c .before .before .judge .ensures ∙ screen-judged (now (a .rom)) (now (a .marks)) (c .before .before .before .before .before .before .if1 .left) (sym (c .before .before .before .before .before .check-header .ensures) ∙ c .before .before .before .before .if2 .left))))

@@ -1,0 +1,158 @@
+-- What a walk keeps: no cell is above a bound, and no place past the longest ROM. So that no sum of the code wraps. Assumes nothing.
+use Prim.Native.Nat.{ℕ, zero, suc, _+_, _-_, _≤_}
+use mathlib.Core.Path.{_≡_, sym, ap, subst}
+use mathlib.Core.Bool.{Bool, true, false, _&&_, _||_}
+use mathlib.Core.List.{List, [], _∷_}
+use native.Mathlib.Omega.{arith}
+use lib.ListN.{getD, set}
+use lib.Seq.{getD-set-other}
+use lib.Dec.{ltb, leb, eqb, nleb→lt}
+use Rattle.cells.specs.Tests.{when-is}
+use Rattle.cells.specs.Facts.{neither, both-hold, is-true}
+use Rattle.rom.specs.Sizes.{romMost}
+use Rattle.tokens.specs.Place.{readOf}
+use Rattle.tokens.specs.Body.{unknownOf}
+use Rattle.tokens.specs.declared.decoding.Token.{Token}
+use Rattle.tokens.specs.declared.read.Read.{Read}
+use Rattle.tokens.specs.declared.read.Read.the-variants.{Refused, Good}
+use Rattle.screen.specs.Effect.{astray, effectOf}
+use Rattle.screen.specs.CodeLaws.{fitting}
+use Rattle.screen.specs.BodyLaws.{Bounded, Above}
+use Rattle.screen.specs.Model.{unmet, entered, sumAt, blankOf, fitsOf, soundOf, badVisit, tokenVisit, readVisit, visitOf}
+use Rattle.screen.specs.Model.{Path, path, bad, putOf, putsOf, topped, waiting, onward, stepOf, walking, walkOf, setOut, walkFrom}
+use Rattle.screen.specs.Model.{Marked, marked, startIn, startsOf, isMet, movedOf, shiftOf}
+use Rattle.screen.specs.declared.walking.Text.{Text as Scope}
+use Rattle.screen.specs.declared.walking.Walk.{Walk}
+use Rattle.screen.specs.declared.walking.Visit.{Visit}
+
+-- ---- a cell is written
+set-le : (l : List ℕ) (i j v b : ℕ) → ((k : ℕ) → getD l k 0 ≤ b) → v ≤ b → getD (set l i v) j 0 ≤ b
+set-le [] i j v b h e = h j
+set-le (x ∷ xs) zero zero v b h e = e
+set-le (x ∷ xs) zero (suc j) v b h e = h (suc j)
+set-le (x ∷ xs) (suc i) zero v b h e = h zero
+set-le (x ∷ xs) (suc i) (suc j) v b h e = set-le xs i j v b (λ k. h (suc k)) e
+
+pub bounded-set : (b : ℕ) (seen : List ℕ) (q v : ℕ) → v ≤ b → Bounded b seen → Bounded b (set seen q v)
+bounded-set b seen q v h k = record { each = λ p. set-le seen q p v b (k .each) h }
+
+pub bounded-more : (b d : ℕ) (seen : List ℕ) → b ≤ d → Bounded b seen → Bounded d seen
+bounded-more b d seen h k = record { each = λ p. let e = k .each p in omega arith }
+
+-- ---- token starts
+module _ (b : ℕ) (h : 65536 ≤ b) (kinds : List ℕ) where
+  bounded-start : (seen : List ℕ) (p : ℕ) (go : ℕ → List ℕ → Marked) → ((q : ℕ) (m : List ℕ) → Bounded b m → Bounded b (go q m .seen)) → Bounded b seen
+      → (r : Read) → Bounded b (startIn kinds seen p go r .seen)
+  bounded-start seen p go f k (Refused why) = k
+  bounded-start seen p go f k (Good t) =
+      let s = bounded-set b seen p unmet (omega arith) k in
+      when-is (λ (m : Marked). Bounded b (m .seen)) (astray t || unknownOf kinds t) (marked false p seen)
+      (elim (eqb (t .number) 0xC2) [ true ↦ marked true p (set seen p unmet) | false ↦ go (t .next) (set seen p unmet) ]) (λ u. k)
+      (λ u. when-is (λ (m : Marked). Bounded b (m .seen)) (eqb (t .number) 0xC2) (marked true p (set seen p unmet)) (go (t .next) (set seen p unmet)) (λ v. s)
+      (λ v. f (t .next) (set seen p unmet) s))
+
+  pub bounded-starts : (rom : List ℕ) (length : ℕ) (wide : Bool) (k p : ℕ) (seen : List ℕ) → Bounded b seen
+      → Bounded b (startsOf rom length wide kinds k p seen .seen)
+  unfolding startsOf
+  bounded-starts rom length wide zero p seen e = e
+  bounded-starts rom length wide (suc k) p seen e =
+      bounded-start seen p (λ q m. startsOf rom length wide kinds k q m) (λ q m d. bounded-starts rom length wide k q m d) e
+      (readOf rom length wide true p)
+
+-- ---- a walk
+pub record Kept (b : ℕ) (a : Path) : Type 0 where
+  pub far : a .walk .far ≤ 16384
+  pub seen : Bounded b (a .seen)
+
+token-cell : (x : Scope) (kinds sums : List ℕ) (cell : ℕ) (t : Token) → tokenVisit x kinds sums cell t .cell ≤ 8321
+unfolding tokenVisit
+token-cell x kinds sums cell t =
+    when-is (λ (v : Visit). v .cell ≤ 8321) (soundOf x kinds t cell && fitsOf (x .within) (effectOf (sumAt sums) t) cell) _ badVisit
+    (λ h. let f = fitting (x .within) (effectOf (sumAt sums) t) cell (is-true (fitsOf (x .within) (effectOf (sumAt sums) t) cell) (both-hold (soundOf x kinds t cell) (fitsOf (x .within) (effectOf (sumAt sums) t) cell) h .1)) in
+    let m = f .most in
+    let r = f .returnMost in
+    omega arith)
+    (λ h. omega arith)
+
+read-cell : (x : Scope) (kinds sums : List ℕ) (cell : ℕ) (r : Read) → readVisit x kinds sums cell r .cell ≤ 8321
+read-cell x kinds sums cell (Refused why) = omega arith
+read-cell x kinds sums cell (Good t) = token-cell x kinds sums cell t
+
+pub visit-cell : (rom : List ℕ) (x : Scope) (kinds sums : List ℕ) (p cell : ℕ) → visitOf rom x kinds sums p cell .cell ≤ 8321
+unfolding visitOf
+visit-cell rom x kinds sums p cell = read-cell x kinds sums cell (readOf rom (x .length) (x .wide) (x .within) p)
+
+module _ (b : ℕ) (x : Scope) (short : x .length ≤ 16384) where
+  kept-bad : (a : Path) → Kept b a → Kept b (bad a)
+  kept-bad a k = record { far = k .far; seen = k .seen }
+
+  kept-put : (a : Path) (q cell : ℕ) → cell ≤ b → Kept b a → Kept b (putOf x a q cell)
+  unfolding putOf
+  kept-put a q cell h k =
+      let f = k .far in
+      when-is (Kept b) (ltb q (x .low) || leb (x .length) q || leb romMost (a .walk .top)) (bad a) _ (λ u. kept-bad a k)
+      (λ u. let n = neither (ltb q (x .low)) (leb (x .length) q) (neither (ltb q (x .low) || leb (x .length) q) (leb romMost (a .walk .top)) u .0) .1 in
+      let l = nleb→lt (x .length) q n in
+      when-is (Kept b) (eqb (getD (a .seen) q 0) (blankOf (x .within))) _ _ (λ v. record { far = omega arith; seen = bounded-set b (a .seen) q cell h (k .seen) })
+      (λ v. when-is (Kept b) (eqb (getD (a .seen) q 0) cell) a (bad a) (λ w. k) (λ w. kept-bad a k)))
+
+  kept-puts : (a : Path) (q cell : ℕ) → cell ≤ b → Kept b a → Kept b (putsOf x a q cell)
+  unfolding putsOf
+  kept-puts a q cell h k = when-is (Kept b) (eqb q 0) a (putOf x a q cell) (λ u. k) (λ u. kept-put a q cell h k)
+
+  kept-onward : (a : Path) (v : Visit) → v .cell ≤ b → Kept b a → Kept b (onward x a v)
+  unfolding onward
+  kept-onward a v h k =
+      when-is (Kept b) (v .good) (putsOf x (putsOf x a (v .next) (v .cell)) (v .aim) (v .cell)) (bad a)
+      (λ u. kept-puts (putsOf x a (v .next) (v .cell)) (v .aim) (v .cell) h (kept-puts a (v .next) (v .cell) h k)) (λ u. kept-bad a k)
+
+  module _ (rom kinds sums : List ℕ) (high : 8321 ≤ b) where
+    kept-step : (a : Path) → Kept b a → Kept b (stepOf rom x kinds sums a)
+    unfolding stepOf
+    kept-step a k =
+        let v = visit-cell rom x kinds sums (waiting a) (getD (a .seen) (waiting a) 0) in
+        kept-onward (topped a) (visitOf rom x kinds sums (waiting a) (getD (a .seen) (waiting a) 0)) (omega arith)
+        (record { far = k .far; seen = k .seen })
+
+    kept-walk : (n : ℕ) (a : Path) → Kept b a → Kept b (walkOf rom x kinds sums n a)
+    unfolding walkOf
+    kept-walk zero a k = when-is (Kept b) (walking a) (bad a) a (λ u. kept-bad a k) (λ u. k)
+    kept-walk (suc n) a k =
+        when-is (Kept b) (walking a) (walkOf rom x kinds sums n (stepOf rom x kinds sums a)) a
+        (λ u. kept-walk n (stepOf rom x kinds sums a) (kept-step a k)) (λ u. k)
+
+    pub kept-from : (seen work : List ℕ) (start cell : ℕ) → start ≤ 16384 → cell ≤ b → Bounded b seen
+        → Kept b (walkFrom rom x kinds sums seen work start cell)
+    unfolding walkFrom
+    kept-from seen work start cell s h k =
+        kept-walk romMost (putOf x (path seen work (setOut start)) start cell)
+        (kept-put (path seen work (setOut start)) start cell h (record { far = s; seen = k }))
+
+-- ---- the shift
+moved-le : (need cell b : ℕ) → need ≤ 128 → cell ≤ b → movedOf need cell ≤ b + 64
+moved-le need cell b h l = when-is (λ n. n ≤ b + 64) (isMet cell) (cell + need - entered) 0 (λ u. omega arith) (λ u. omega arith)
+
+shift-le : (need b k p : ℕ) (seen : List ℕ) → need ≤ 128 → ((j : ℕ) → getD seen j 0 ≤ b + 64) → Above b p seen → (j : ℕ)
+    → getD (shiftOf need k p seen) j 0 ≤ b + 64
+unfolding shiftOf
+shift-le need b zero p seen n h a j = h j
+shift-le need b (suc k) p seen n h a j =
+    let m = moved-le need (getD seen p 0) b n (a p (omega arith)) in
+    shift-le need b k (suc p) (set seen p (movedOf need (getD seen p 0))) n (λ i. set-le seen p i (movedOf need (getD seen p 0)) (b + 64) h m)
+    (λ i l. let d : i ≡ p → ⊥ = λ q. omega arith in rw (getD-set-other seen p i (movedOf need (getD seen p 0)) 0 d) (a i (omega arith))) j
+
+pub bounded-shift : (need b k p : ℕ) (seen : List ℕ) → need ≤ 128 → Bounded b seen → Bounded (b + 64) (shiftOf need k p seen)
+bounded-shift need b k p seen n h =
+    record { each = λ j. shift-le need b k p seen n (λ i. let e = h .each i in omega arith) (λ i l. h .each i) j }
+
+-- ---- as the code tells it
+module _ (b : ℕ) (h : 65536 ≤ b) (rom : List ℕ) (kinds : List ℕ) where
+  pub marked-bounded : (length : ℕ) (wide : Bool) (entry : ℕ) (seen : List ℕ) (good : Bool) (end : ℕ) (seen₁ : List ℕ)
+      → marked good end seen₁ ≡ startsOf rom length wide kinds romMost entry seen → Bounded b seen → Bounded b seen₁
+  marked-bounded length wide entry seen good end seen₁ e k =
+      subst (λ (l : List ℕ). Bounded b l) (sym (ap (λ (m : Marked). m .seen) e)) (bounded-starts b h kinds rom length wide romMost entry seen k)
+
+  pub walked-kept : (x : Scope) (sums seen work : List ℕ) (start cell : ℕ) (seen₁ work₁ : List ℕ) (w : Walk) → x .length ≤ 16384 → start ≤ 16384
+      → cell ≤ b → path seen₁ work₁ w ≡ walkFrom rom x kinds sums seen work start cell → Bounded b seen → Kept b (path seen₁ work₁ w)
+  walked-kept x sums seen work start cell seen₁ work₁ w s t l e k =
+      rw e (kept-from b x s rom kinds sums (omega arith) seen work start cell t l k)
