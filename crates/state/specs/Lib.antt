@@ -20,7 +20,6 @@ pub mod KeepsParts
 pub mod Keeps
 pub mod KeepsRoot
 pub mod Laws
-pub mod Examples
 pub mod StackExamples
 pub mod Seeking
 pub mod Done
