@@ -26,10 +26,11 @@ import pathlib
 import sys
 import zlib
 
+import written
+
 TESTS = pathlib.Path(__file__).parent
 RUNS = TESTS.parent / "crates" / "runs"
 NOT_RUN = ("screen", "marks", "find")
-INPUT_MOST = 65536
 
 
 def with_header(program):
@@ -187,31 +188,10 @@ def orders():
     yield f"O {CALLS.hex().upper()} 14", lines
 
 
-def files():
-    asked, told = [], []
-    for cases in (worked_cases(), bench_roms(), calls_open(), damages(), orders()):
-        for line, lines in cases:
-            asked.append(line)
-            told += lines
-    return {"stdin": "\n".join(asked) + "\n", "stdout": "\n".join(told) + "\n"}
-
-
-def main():
-    good = True
-    for name, text in files().items():
-        path = RUNS / name
-        if name == "stdin" and len(text) > INPUT_MOST:
-            print(f"{len(text)} bytes of input, and {INPUT_MOST} are read")
-            return 1
-        if "--check" not in sys.argv:
-            path.write_text(text)
-        elif path.read_text() != text:
-            print(f"crates/runs/{name} is not what tests/runs.py makes of tests/cases.txt")
-            good = False
-        else:
-            print(f"crates/runs/{name}: {len(text.splitlines())} lines as expected")
-    return 0 if good else 1
+def cases():
+    for part in (worked_cases, bench_roms, calls_open, damages, orders):
+        yield from part()
 
 
 if __name__ == "__main__":
-    sys.exit(main())
+    sys.exit(written.main(RUNS, cases()))
