@@ -4,8 +4,8 @@ use native.Mathlib.Omega.{arith}
 use mathlib.Core.Path.{_≡_, refl, sym, ap, _∙_, subst}
 use mathlib.Core.Bool.{true, false, not, _&&_}
 use mathlib.Core.List.{List}
-use mathlib.Core.Logic.{_⊎_, inl, inr, _≢_}
-use lib.Dec.{T, leb, eqb, leb→le}
+use mathlib.Core.Logic.{_≢_}
+use lib.Dec.{leb, eqb, leb→le}
 use lib.ListN.{getD}
 use Rattle.cells.specs.Tests.{neqb→ne}
 use Rattle.cells.specs.Facts.{holds, is-true, both-hold, when-true}
@@ -17,15 +17,15 @@ use Rattle.screen.specs.Effect.{effectOf}
 use Rattle.screen.specs.Reach.{Setting, Reach, Starts}
 use Rattle.screen.specs.Visits.{Meets, height-in, back-in, is-met}
 use Rattle.screen.specs.Model.{Board, cellOf, heightIn, backIn, sumAt, movedOf, isMet, unmet, bodyText, passesOf}
-use Rattle.screen.specs.Walking.{At, walked-above}
-use Rattle.screen.specs.Marking.{Cell}
+use Rattle.screen.specs.Walking.{At}
+use Rattle.screen.specs.Marking.{walked-met, Cell}
 use Rattle.screen.specs.Tallying.{Among}
-use Rattle.screen.specs.Rounds.{ran, farOf, left, Chain}
+use Rattle.screen.specs.Rounds.{ran-above, ran, farOf, left, Chain}
 use Rattle.screen.specs.Boards.{BodyRan}
-use Rattle.screen.specs.Chains.{climbs, chain-kept}
+use Rattle.screen.specs.Chains.{chain-kept}
 use Rattle.screen.specs.Cover.{start, ready, rooted}
 use Rattle.screen.specs.Roots.{body-reach}
-use Rattle.screen.specs.AcceptSpots.{Bound, at-bound, Inside, bodyOf, body-fits}
+use Rattle.screen.specs.AcceptSpots.{inside-at, Bound, at-bound, Inside, bodyOf, body-fits}
 
 module _ (rom : List ℕ) (fits : lengthOf rom ≤ 16384) {last : Board} (passed : Chain rom (start rom fits) last) where
   module _ {d p : ℕ} {s : Setting} (i : Inside rom fits passed d s p) where
@@ -61,8 +61,7 @@ module _ (rom : List ℕ) (fits : lengthOf rom ≤ 16384) {last : Board} (passed
         above =
             let l = y .walked .inside (i .at) .0 in
             let n = ends in
-            let c = climbs rom fits (i .ran) in
-            walked-above rom _ _ _ _ _ (i .ran .walked) p (omega arith) ∙ ready rom fits (i .follows) .fresh p (omega arith)
+            ran-above rom (ready rom fits (i .follows)) (i .ran) p (omega arith)
 
         by : Cell rom (b .stand .wide) (i .ran .token .next) (ran rom b .seen) (y .marks .seen) p → Starts rom (b .stand .wide) (i .ran .token .next) p
         by (Cell.start s e) = s
@@ -155,65 +154,21 @@ module _ (rom : List ℕ) (fits : lengthOf rom ≤ 16384) {last : Board} (passed
   module _ {d p : ℕ} {s : Setting} (i : Inside rom fits passed d s p) where
     -- the body's first place
     abbrev pub at-entry : Inside rom fits passed d s (i .ran .token .next)
-    at-entry =
-        record {
-          board = i .board;
-          follows = i .follows;
-          ran = i .ran;
-          chain = i .chain;
-          then = i .then;
-          next = i .next;
-          does = i .does;
-          rest = i .rest;
-          place = i .place;
-          colon = i .colon;
-          setting = i .setting;
-          cell = cellOf 64 0;
-          at = At.begins;
-        }
+    at-entry = inside-at rom fits passed i (i .ran .token .next) (cellOf 64 0) At.begins
 
     -- a place that is met was walked to
     pub met-at : {q : ℕ} {u : Token}
         → Among rom (lengthOf rom) (i .board .stand .wide) (bodyOf rom fits passed i .path .seen) (i .ran .token .next) (suc (bodyOf rom fits passed i .marks .end)) q u
         → At rom (bodyText (lengthOf rom) (i .board .stand .wide) (i .ran .token .next)) (i .board .kinds) (i .board .sums) (i .ran .token .next) (cellOf 64 0) q (getD (bodyOf rom fits passed i .path .seen) q 0)
-    met-at {q} {u} a = by (bodyOf rom fits passed i .walked .kept q)
-      where
-        above : getD (ran rom (i .board) .seen) q 0 ≡ 0
-        above =
-            let l = a .low in
-            let n = next-ahead rom (lengthOf rom) (i .board .stand .wide) false (farOf rom (i .board)) (i .ran .token) (i .ran .is) in
-            let c = climbs rom fits (i .ran) in
-            walked-above rom _ _ _ _ _ (i .ran .walked) q (omega arith) ∙ ready rom fits (i .follows) .fresh q (omega arith)
-
-        plain : Cell rom (i .board .stand .wide) (i .ran .token .next) (ran rom (i .board) .seen) (bodyOf rom fits passed i .marks .seen) q
-            → isMet (getD (bodyOf rom fits passed i .marks .seen) q 0) ≡ false
-        plain (Cell.start s e) = ap isMet e
-        plain (Cell.other n e) = ap isMet (e ∙ above)
-
-        by : (getD (bodyOf rom fits passed i .path .seen) q 0 ≡ getD (bodyOf rom fits passed i .marks .seen) q 0) ⊎ At rom (bodyText (lengthOf rom) (i .board .stand .wide) (i .ran .token .next)) (i .board .kinds) (i .board .sums) (i .ran .token .next) (cellOf 64 0) q (getD (bodyOf rom fits passed i .path .seen) q 0)
-            → At rom (bodyText (lengthOf rom) (i .board .stand .wide) (i .ran .token .next)) (i .board .kinds) (i .board .sums) (i .ran .token .next) (cellOf 64 0) q (getD (bodyOf rom fits passed i .path .seen) q 0)
-        by (inl e) = absurd (subst T (sym (a .visited .met) ∙ ap isMet e ∙ plain (bodyOf rom fits passed i .marked .each q)) tt)
-        by (inr z) = z
+    met-at {q} {u} a =
+        let l = a .low in
+        let n = next-ahead rom (lengthOf rom) (i .board .stand .wide) false (farOf rom (i .board)) (i .ran .token) (i .ran .is) in
+        walked-met (bodyOf rom fits passed i .marked) (bodyOf rom fits passed i .walked) q (ran-above rom (ready rom fits (i .follows)) (i .ran) q (omega arith)) (a .visited .met)
 
     abbrev pub at-met : {q : ℕ} {u : Token}
         → Among rom (lengthOf rom) (i .board .stand .wide) (bodyOf rom fits passed i .path .seen) (i .ran .token .next) (suc (bodyOf rom fits passed i .marks .end)) q u
         → Inside rom fits passed d s q
-    at-met {q} a =
-        record {
-          board = i .board;
-          follows = i .follows;
-          ran = i .ran;
-          chain = i .chain;
-          then = i .then;
-          next = i .next;
-          does = i .does;
-          rest = i .rest;
-          place = i .place;
-          colon = i .colon;
-          setting = i .setting;
-          cell = getD (bodyOf rom fits passed i .path .seen) q 0;
-          at = met-at a;
-        }
+    at-met {q} a = inside-at rom fits passed i q (getD (bodyOf rom fits passed i .path .seen) q 0) (met-at a)
 
     -- what is inside is reachable
     pub inside-reach : Reach rom (suc d) s p

@@ -157,6 +157,27 @@ module _ (rom : List ℕ) (fits : lengthOf rom ≤ 16384) {last : Board} (passed
   abbrev pub bodyOf : {d p : ℕ} {s : Setting} → (i : Inside d s p) → BodyRan rom (left rom (i .board)) (i .ran .token) (i .board .stand .wide) (i .then)
   bodyOf i = i .does .body (i .colon)
 
+  -- another place of the same body
+  abbrev pub inside-at : {d p : ℕ} {s : Setting} → (i : Inside d s p) → (q cell : ℕ)
+      → At rom (bodyText (lengthOf rom) (i .board .stand .wide) (i .ran .token .next)) (i .board .kinds) (i .board .sums) (i .ran .token .next) (cellOf 64 0) q cell
+      → Inside d s q
+  inside-at i q cell at =
+      record {
+        board = i .board;
+        follows = i .follows;
+        ran = i .ran;
+        chain = i .chain;
+        then = i .then;
+        next = i .next;
+        does = i .does;
+        rest = i .rest;
+        place = i .place;
+        colon = i .colon;
+        setting = i .setting;
+        cell = cell;
+        at = at;
+      }
+
   -- at the b(:) itself
   entered : {s : Setting} {d : ℕ} {t : Token} → Met rom 0 s d t → T (isColon t) → Inside d s (t .next)
   entered {s} {d} {t} m c =
@@ -198,22 +219,9 @@ module _ (rom : List ℕ) (fits : lengthOf rom ≤ 16384) {last : Board} (passed
 
     abbrev pub body-on : {q : ℕ} {t : Token} → tokenAt rom (suc d) (s .wide) p ≡ Good t → In q (leadsOf t) → Inside d s q
     body-on {q} {t} e l =
-        record {
-          board = i .board;
-          follows = i .follows;
-          ran = i .ran;
-          chain = i .chain;
-          then = i .then;
-          next = i .next;
-          does = i .does;
-          rest = i .rest;
-          place = i .place;
-          colon = i .colon;
-          setting = i .setting;
-          cell = visitOf rom scope (i .board .kinds) (i .board .sums) p (i .cell) .cell;
-          at = At.on (i .at) (bodyOf i .walked .fine (i .at))
-              (leads-way body-fits (subst (λ v. T (not (fixes v))) (sym (body-token e)) (body-free e)) (subst (λ v. In q (leadsOf v)) (sym (body-token e)) l));
-        }
+        inside-at i q (visitOf rom scope (i .board .kinds) (i .board .sums) p (i .cell) .cell)
+        (At.on (i .at) (bodyOf i .walked .fine (i .at))
+        (leads-way body-fits (subst (λ v. T (not (fixes v))) (sym (body-token e)) (body-free e)) (subst (λ v. In q (leadsOf v)) (sym (body-token e)) l)))
 
   pub inside : {d p : ℕ} {s : Setting} → Reach rom (suc d) s p → Inside d s p
   inside (Holds.body r e c l) = entered (record { reach = r; is = e }) c

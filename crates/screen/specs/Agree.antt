@@ -16,13 +16,13 @@ use Rattle.tokens.specs.Laws.{next-ahead}
 use Rattle.screen.specs.Effect.{fixes, isColon}
 use Rattle.screen.specs.Reach.{Setting, Reach}
 use Rattle.screen.specs.Rules.{Assignment}
-use Rattle.screen.specs.Model.{Board, cellOf, isMet, movedOf, bodyText}
-use Rattle.screen.specs.Walking.{At, walked-above, walked-below}
-use Rattle.screen.specs.Marking.{Cell, marks-kept}
+use Rattle.screen.specs.Model.{Board, cellOf, isMet}
+use Rattle.screen.specs.Walking.{walked-below}
+use Rattle.screen.specs.Marking.{walked-met, marks-kept}
 use Rattle.screen.specs.Advancing.{settingOf}
-use Rattle.screen.specs.Rounds.{ran, farOf, left, OutAt, Ran, Chain, ends, goes}
+use Rattle.screen.specs.Rounds.{ran-above, ran, farOf, left, OutAt, Ran, Chain, ends, goes}
 use Rattle.screen.specs.Boards.{BodyRan, Advanced, advanced}
-use Rattle.screen.specs.Chains.{chain-kept, chain-seen, climbs, then}
+use Rattle.screen.specs.Chains.{chain-kept, chain-seen, then}
 use Rattle.screen.specs.Roots.{at-reach, body-reach}
 use Rattle.screen.specs.Cover.{start, Follows, ready, rooted, colon-fixes}
 use Rattle.screen.specs.AcceptSpots.{outside, out-cell, Inside, inside, bodyOf}
@@ -90,7 +90,7 @@ module _ (rom : List ℕ) (fits : lengthOf rom ≤ 16384) where
       n = next-ahead rom (lengthOf rom) (b .stand .wide) false (farOf rom b) (r .token) (r .is)
 
       above : getD (ran rom b .seen) p 0 ≡ 0
-      above = let s = climbs rom fits r in walked-above rom _ _ _ _ _ (r .walked) p l ∙ ready rom fits h .fresh p (omega arith)
+      above = ran-above rom (ready rom fits h) r p l
 
       -- before its first token
       early : p < r .token .next → Reached rom p
@@ -98,20 +98,13 @@ module _ (rom : List ℕ) (fits : lengthOf rom ≤ 16384) where
           absurd (z (y .shifted .other p (λ i j. omega arith) ∙ walked-below rom _ _ _ _ _ (y .walked) p q ∙ marks-kept (y .marked) p (λ i j. omega arith) ∙ above))
 
       in-body : r .token .next ≤ p → Reached rom p
-      in-body q = by (y .walked .kept p)
+      in-body q = by (isMet (getD (y .path .seen) p 0)) refl
         where
-          moved : getD (c .seen) p 0 ≡ movedOf (y .tally .need) (getD (y .path .seen) p 0)
-          moved = y .shifted .moved p q (let e = y .start in omega arith)
-
-          plain : Cell rom (b .stand .wide) (r .token .next) (ran rom b .seen) (y .marks .seen) p → isMet (getD (y .marks .seen) p 0) ≡ false
-          plain (Cell.start s e) = ap isMet e
-          plain (Cell.other s e) = ap isMet (e ∙ above)
-
-          by : (getD (y .path .seen) p 0 ≡ getD (y .marks .seen) p 0)
-              ⊎ At rom (bodyText (lengthOf rom) (b .stand .wide) (r .token .next)) (b .kinds) (b .sums) (r .token .next) (cellOf 64 0) p (getD (y .path .seen) p 0)
-              → Reached rom p
-          by (inl e) = absurd (z (moved ∙ when-false (getD (y .path .seen) p 0 + y .tally .need - 64) 0 (isMet (getD (y .path .seen) p 0)) (ap isMet e ∙ plain (y .marked .each p))))
-          by (inr a) = record { text = suc (farOf rom b); setting = settingOf (b .stand); reach = body-reach rom fits r (rooted rom fits h) y k (n .1) (n .0) a }
+          by : (m : Bool) → isMet (getD (y .path .seen) p 0) ≡ m → Reached rom p
+          by true e =
+              record { text = suc (farOf rom b); setting = settingOf (b .stand); reach = body-reach rom fits r (rooted rom fits h) y k (n .1) (n .0) (walked-met (y .marked) (y .walked) p above e) }
+          by false e =
+              absurd (z (y .shifted .moved p q (let s = y .start in omega arith) ∙ when-false (getD (y .path .seen) p 0 + y .tally .need - 64) 0 (isMet (getD (y .path .seen) p 0)) e))
 
   pub only-reached : {b f : Board} → Follows rom fits b → Chain rom b f → (p : ℕ) → b .stand .start ≤ p → getD (f .seen) p 0 ≢ 0 → Reached rom p
   only-reached h (ends r n) p l z = ran-reached h r p l z

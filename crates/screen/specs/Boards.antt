@@ -27,11 +27,11 @@ use Rattle.screen.specs.Model.{Path, Board, Marked, cellOf, heightIn, ba
 use Rattle.screen.specs.Model.{startsOf, bodyWalked, bodyTally, shiftOf, board, entryOf, onStand, withCount, moved}
 use Rattle.screen.specs.Visits.{Meets, Fits, visit-fits, effect-own}
 use Rattle.screen.specs.Walking.{At, Given, Walked, walk-good}
-use Rattle.screen.specs.Marking.{Cell, start, other, Marks, marks-good, marks-kept}
+use Rattle.screen.specs.Marking.{walked-met, Cell, start, other, Marks, marks-good, marks-kept}
 use Rattle.screen.specs.Tallying.{Among, TallyIs, tally-is}
 use Rattle.screen.specs.Shifting.{Shifted, shift-is}
 use Rattle.screen.specs.Advancing.{settingOf, Did, advance-did, widens, plants, finishes, values, bodies}
-use Rattle.screen.specs.Rounds.{ran, farOf, left, OutAt, Fair, Ready, Ran, Next, on}
+use Rattle.screen.specs.Rounds.{ran-above, ran, farOf, left, Fair, Ready, Ran, Next, on}
 use Rattle.screen.specs.declared.effect.Sum.{Sum}
 use Rattle.screen.specs.declared.walking.Text.{Text as Scope}
 use Rattle.screen.specs.declared.rounds.Stand.{Stand}
@@ -162,11 +162,7 @@ module _ (rom : List ℕ) (fits : lengthOf rom ≤ 16384) (b : Board) (y : Ready
 
   -- above the highest place of the round nothing is marked
   above : (p : ℕ) → far < p → getD (ran rom b .seen) p 0 ≡ 0
-  above p l = by (r .walked .kept p)
-    where
-      by : (getD (ran rom b .seen) p 0 ≡ getD (b .seen) p 0) ⊎ OutAt rom b p (getD (ran rom b .seen) p 0) → getD (ran rom b .seen) p 0 ≡ 0
-      by (inl e) = e ∙ y .fresh p (let s = r .walked .inside (r .walked .highest .1) in omega arith)
-      by (inr a) = let s = r .walked .inside a in absurd (omega arith)
+  above p l = ran-above rom y r p l
 
   -- the token ends before the length
   ends : (far < t .next) × (t .next ≤ lengthOf rom)
@@ -224,15 +220,7 @@ module _ (rom : List ℕ) (fits : lengthOf rom ≤ 16384) (b : Board) (y : Ready
 
         -- a place of the body that is met was walked to, and its token's rules are met
         visited-at : (p : ℕ) → t .next ≤ p → isMet (getD (pathB .seen) p 0) ≡ true → BodyAt p (getD (pathB .seen) p 0)
-        visited-at p l m = by (walked-is .kept p)
-          where
-            unlike : {v w : ℕ} → isMet v ≡ true → v ≡ w → (w ≡ unmet) ⊎ (w ≡ 0) → ⊥
-            unlike m e (inl z) = subst T (sym m ∙ ap isMet (e ∙ z)) tt
-            unlike m e (inr z) = subst T (sym m ∙ ap isMet (e ∙ z)) tt
-
-            by : (getD (pathB .seen) p 0 ≡ getD (marksB .seen) p 0) ⊎ BodyAt p (getD (pathB .seen) p 0) → BodyAt p (getD (pathB .seen) p 0)
-            by (inl e) = absurd (unlike m e (cells p l))
-            by (inr a) = a
+        visited-at p l m = let e = ends in walked-met marked-is walked-is p (above p (omega arith)) m
 
         visited-fits : {p : ℕ} {u : Token} → Among rom (lengthOf rom) wide (pathB .seen) (t .next) (suc (marksB .end)) p u
             → Meets rom (bodyText (lengthOf rom) wide (t .next)) (b .kinds) (b .sums) p (getD (pathB .seen) p 0) u

@@ -26,12 +26,12 @@ use Rattle.screen.specs.Rules.{Assignment, Most}
 use Rattle.screen.specs.TokenFacts.{none-in, after-same, fixes-outside}
 use Rattle.screen.specs.TokenFacts.{end-is as last-is}
 use Rattle.screen.specs.Visits.{FallOrJump, fall-or-jump, height-in, back-in, is-met, Meets, visit-fits, fits-visit}
-use Rattle.screen.specs.Walking.{At, Fails, Walked, walked-above}
-use Rattle.screen.specs.Marking.{Cell, Marks, Fine, start-within, one-end}
+use Rattle.screen.specs.Walking.{At, Fails, Walked}
+use Rattle.screen.specs.Marking.{walked-met, Marks, Fine, start-within, one-end}
 use Rattle.screen.specs.Tallying.{Among, Greatest, Leaving, TallyIs, needAt, peakAt, backAt, framesAt}
 use Rattle.screen.specs.Advancing.{settingOf}
-use Rattle.screen.specs.Model.{Path, Board, Marked, cellOf, heightIn, backIn, heightAfter, backAfter, sumAt, isMet, outsideText, bodyText, sumOf, passesOf}
-use Rattle.screen.specs.Rounds.{ran, farOf, Ran}
+use Rattle.screen.specs.Model.{Path, Board, Marked, cellOf, heightIn, backIn, heightAfter, backAfter, sumAt, isMet, bodyText, sumOf, passesOf}
+use Rattle.screen.specs.Rounds.{ran-above, ran, farOf, Ran}
 use Rattle.screen.specs.Boards.{advanced}
 use Rattle.screen.specs.Chains.{steps-kept, climbs}
 use Rattle.screen.specs.Roots.{way-leads, far-met}
@@ -368,21 +368,8 @@ module _ (rom : List ℕ) (fits : lengthOf rom ≤ 16384) (a : Assignment rom) {
 
         -- a place with heights was come to
         among-at : (p : ℕ) → t .next ≤ p → isMet (cellAt p) ≡ true → BodyAt p (cellAt p)
-        among-at p l e = by (wk .kept p)
-          where
-            above : getD (ran rom b .seen) p 0 ≡ 0
-            above =
-                let z = next-ahead rom (lengthOf rom) wide false far t (r .is) in
-                walked-above rom (outsideText (lengthOf rom) (b .stand)) (b .kinds) (b .sums) (b .stand .start) (b .stand .cell) (r .walked) p (omega arith)
-                ∙ ready rom fits (g .follows) .fresh p (let y = climbs rom fits r in omega arith)
-
-            was : Cell rom wide (t .next) (ran rom b .seen) (m .seen) p → isMet (getD (m .seen) p 0) ≡ false
-            was (Cell.start s z) = ap isMet z
-            was (Cell.other s z) = ap isMet (z ∙ above)
-
-            by : (cellAt p ≡ getD (m .seen) p 0) ⊎ BodyAt p (cellAt p) → BodyAt p (cellAt p)
-            by (inl z) = absurd (subst T (sym e ∙ ap isMet z ∙ was (mk .each p)) tt)
-            by (inr i) = i
+        among-at p l e =
+            let z = next-ahead rom (lengthOf rom) wide false far t (r .is) in walked-met mk wk p (ran-above rom (ready rom fits (g .follows)) r p (omega arith)) e
 
         -- so that a place of the tally is that of a reachable token
         among-met : {p : ℕ} {u : Token} → Amid p u → Met rom (suc far) here p u

@@ -1,8 +1,8 @@
 -- The pass over a body's bytes marks its token starts, and finds its C2: exactly where the body ends with one, and no token before it is
 -- refused. Assumes nothing.
 use Prim.Native.Nat.{ℕ, zero, suc, _-_, _≤_, _<_}
-use mathlib.Core.Path.{_≡_, refl, sym, _∙_, subst}
-use mathlib.Core.Logic.{_≢_}
+use mathlib.Core.Path.{_≡_, refl, sym, ap, _∙_, subst}
+use mathlib.Core.Logic.{_⊎_, inl, inr, _≢_}
 use mathlib.Core.Bool.{Bool, true, false, _||_}
 use mathlib.Core.List.{List}
 use native.Mathlib.Omega.{arith}
@@ -21,7 +21,9 @@ use Rattle.tokens.specs.declared.read.Read.{Read}
 use Rattle.tokens.specs.declared.read.Read.the-variants.{Refused, Good}
 use Rattle.screen.specs.Effect.{astray}
 use Rattle.screen.specs.Reach.{tokenAt, Claim, Holds, Starts}
-use Rattle.screen.specs.Model.{unmet, Marked, marked, startIn, startsOf}
+use Rattle.screen.specs.Model.{Path, unmet, isMet, Marked, marked, startIn, startsOf}
+use Rattle.screen.specs.Walking.{At, Walked}
+use Rattle.screen.specs.declared.walking.Text.{Text as Scope}
 
 -- ---- the token starts of a body
 -- a start of a body is its first place, or a start of what is behind its first token
@@ -266,3 +268,21 @@ found-from {rom} {w} {p} {c} kinds (Holds.more {t = t} e n x r) fine (suc k) see
 pub marks-found : {rom : List ℕ} {w : Bool} {entry c : ℕ} (kinds seen : List ℕ) → lengthOf rom ≤ romMost → Holds rom (Claim.reads w entry c)
     → Fine rom w kinds entry → Found (startsOf rom (lengthOf rom) w kinds romMost entry seen) c
 marks-found {rom} {w} {entry} kinds seen l r fine = found-from kinds r fine romMost seen (omega arith)
+
+-- ---- a walk behind it
+-- of a place that was not marked before, a walk leaves a met token's cell where it was come to, and there alone
+module _ {rom : List ℕ} {w : Bool} {kinds : List ℕ} {entry : ℕ} {seen : List ℕ} {m : Marked} (y : Marks rom w kinds entry seen m) where
+  unmet-before : (p : ℕ) → getD seen p 0 ≡ 0 → isMet (getD (m .seen) p 0) ≡ false
+  unmet-before p z = by (y .each p)
+    where
+      by : Cell rom w entry seen (m .seen) p → isMet (getD (m .seen) p 0) ≡ false
+      by (start s e) = ap isMet e
+      by (other n e) = ap isMet (e ∙ z)
+
+  pub walked-met : {x : Scope} {sums : List ℕ} {first cell : ℕ} {a : Path} → Walked rom x kinds sums first cell (m .seen) a
+      → (p : ℕ) → getD seen p 0 ≡ 0 → isMet (getD (a .seen) p 0) ≡ true → At rom x kinds sums first cell p (getD (a .seen) p 0)
+  walked-met {x} {sums} {first} {cell} {a} k p z e = by (k .kept p)
+    where
+      by : (getD (a .seen) p 0 ≡ getD (m .seen) p 0) ⊎ At rom x kinds sums first cell p (getD (a .seen) p 0) → At rom x kinds sums first cell p (getD (a .seen) p 0)
+      by (inl q) = absurd (subst T (sym e ∙ ap isMet q ∙ unmet-before p z) tt)
+      by (inr q) = q

@@ -1,8 +1,8 @@
 -- The rounds of the model: what each finds, how one leads to the next, and that every reachable token outside bodies belongs to one. Assumes
 -- nothing.
-use Prim.Native.Nat.{ℕ, suc, _-_, _≤_}
+use Prim.Native.Nat.{ℕ, suc, _-_, _≤_, _<_}
 use native.Mathlib.Omega.{arith}
-use mathlib.Core.Path.{_≡_}
+use mathlib.Core.Path.{_≡_, _∙_}
 use mathlib.Core.Bool.{Bool, true, false, not}
 use mathlib.Core.List.{List}
 use mathlib.Core.Logic.{_≢_}
@@ -16,7 +16,7 @@ use Rattle.tokens.specs.declared.read.Read.the-variants.{Good}
 use Rattle.screen.specs.Effect.{fixes}
 use Rattle.screen.specs.Model.{Path, Board, Turn, cellOf, outsideText, onSeen, roundOf, roundGood, advanceOf, apartOf}
 use Rattle.screen.specs.Visits.{Fits, visit-fits}
-use Rattle.screen.specs.Walking.{At, Given, Walked, at-real, walk-good}
+use Rattle.screen.specs.Walking.{At, Given, Walked, at-real, walk-good, walked-above}
 use Rattle.screen.specs.Apart.{Apart, apart-good}
 use Rattle.screen.specs.declared.walking.Text.{Text as Scope}
 
@@ -61,6 +61,10 @@ module _ (rom : List ℕ) where
     pub apart : Apart rom (outsideText (lengthOf rom) (b .stand)) (ran b .seen) (b .stand .start) (farOf b)
     pub token : Token
     pub is : readOf rom (lengthOf rom) (b .stand .wide) false (farOf b) ≡ Good token
+
+  -- above the highest place of a round nothing is marked
+  pub ran-above : {b : Board} → Ready b → Ran b → (p : ℕ) → farOf b < p → getD (ran b .seen) p 0 ≡ 0
+  ran-above y r p l = let s = r .walked .inside (r .walked .highest .1) in walked-above rom _ _ _ _ _ (r .walked) p l ∙ y .fresh p (omega arith)
 
   -- one round leads to the next
   pub data Next (b : Board) : Board → Type 0 where
