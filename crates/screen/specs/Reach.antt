@@ -92,15 +92,21 @@ pub data Holds (rom : List ℕ) : Claim → Type 0 where
   -- "or from the first byte of a reachable b(:)'s body"
   body : {s : Setting} {d c : ℕ} {t : Token} → Holds rom (reached 0 s d) → tokenAt rom 0 (s .wide) d ≡ Good t → T (isColon t)
       → Holds rom (reads (s .wide) (t .next) c) → Holds rom (reached (suc d) s (t .next))
+  -- a token's successor is met in the setting that the token leaves
   next : {x : ℕ} {s : Setting} {p q : ℕ} {t : Token} → Holds rom (reached x s p) → tokenAt rom x (s .wide) p ≡ Good t
       → Holds rom (leads (s .wide) p t q) → Holds rom (reached x (after t s) q)
+  -- "by falling through, by bbranch's destination and by both ways of b?branch"; a token giving 12 has no successor
   by-itself : {w : Bool} {p q : ℕ} {t : Token} → Holds rom (known p t) → In q (leadsOf t) → Holds rom (leads w p t q)
+  -- a b(:) leads past its C2
   past-body : {w : Bool} {p q : ℕ} {t : Token} → T (isColon t) → Holds rom (extends w t q) → Holds rom (leads w p t q)
+  -- "each number used is defined by a reachable token that lies wholly before it"
   unnamed : {p : ℕ} {t : Token} → T (not (names t)) → Holds rom (known p t)
   named : {p : ℕ} {t : Token} {s : Setting} {d e : ℕ} {u : Token} → Holds rom (reached 0 s d) → tokenAt rom 0 (s .wide) d ≡ Good u → Named t u
       → Holds rom (extends (s .wide) u e) → e ≤ p → Holds rom (known p t)
+  -- a token reaches up to the place behind it, a b(:) through its C2
   to-next : {w : Bool} {t : Token} → T (not (isColon t)) → Holds rom (extends w t (t .next))
   through-body : {w : Bool} {t : Token} {c : ℕ} → T (isColon t) → Holds rom (reads w (t .next) c) → Holds rom (extends w t (suc c))
+  -- a body's tokens, up to the first C2 that starts one: text 1 stands for any body, whose tokens are read alike
   last : {w : Bool} {p : ℕ} {t : Token} → tokenAt rom 1 w p ≡ Good t → t .number ≡ 0xC2 → Holds rom (reads w p p)
   more : {w : Bool} {p c : ℕ} {t : Token} → tokenAt rom 1 w p ≡ Good t → (t .number ≡ 0xC2 → ⊥) → Holds rom (known p t)
       → Holds rom (reads w (t .next) c) → Holds rom (reads w p c)
