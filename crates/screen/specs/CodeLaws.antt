@@ -58,7 +58,7 @@ effect-small sums t =
     })
 
 -- what a token that fits has: its cells, and room
-pub record Fits (within : Bool) (e : Effect) (cell : ℕ) : Type 0 where
+pub record Room (within : Bool) (e : Effect) (cell : ℕ) : Type 0 where
   pub takes : e .takes ≤ heightIn cell
   pub most : heightAfter e cell ≤ capOf within
   pub rise : heightIn cell - e .takes + e .rise ≤ capOf within
@@ -67,7 +67,7 @@ pub record Fits (within : Bool) (e : Effect) (cell : ℕ) : Type 0 where
   pub returnRise : backIn cell + e .«return_rise» ≤ 32
   pub frames : ownOf within + e .frames ≤ 16
 
-pub fits-known : (within : Bool) (e : Effect) (cell : ℕ) → T (fitsOf within e cell) → Fits within e cell
+pub fits-known : (within : Bool) (e : Effect) (cell : ℕ) → T (fitsOf within e cell) → Room within e cell
 unfolding fitsOf
 fits-known within e cell f =
     let a = leb (e .takes) (heightIn cell) in
@@ -94,7 +94,7 @@ fits-known within e cell f =
     }
 
 -- a token that does not fit, by any of the tests
-pub unfit : (within : Bool) (e : Effect) (cell : ℕ) → (Fits within e cell → ⊥) → false ≡ fitsOf within e cell
+pub unfit : (within : Bool) (e : Effect) (cell : ℕ) → (Room within e cell → ⊥) → false ≡ fitsOf within e cell
 unfit within e cell f = sym (never-true (fitsOf within e cell) (λ t. f (fits-known within e cell t)))
 
 -- the last test decides where the others hold

@@ -8,25 +8,21 @@ use native.Mathlib.Numerals.{add-one}
 use borrow.Author.Tests.{lt-ltb, le-leb, lt-leb, eq-eqb, ne-eqb}
 use lib.ListN.{getD, set}
 use lib.Dec.{T, ltb, leb, eqb, leb→le, ltb→lt}
-use Rattle.cells.specs.Choice.{pick}
-use Rattle.cells.specs.Tests.{pick-is}
 use Rattle.cells.specs.Facts.{holds, both-hold, when-true, when-false}
 use Rattle.rom.specs.Sizes.{numbersMost, nodesMost}
 use Rattle.tokens.specs.Family.{widen, define, newDevice}
 use Rattle.tokens.specs.Table.{isProgram}
-use Rattle.tokens.specs.Decode.{formed, isKind, listed, tokenOf, wholeOf, decodeOf}
+use Rattle.tokens.specs.Decode.{formed, isKind}
 use Rattle.tokens.specs.Body.{kindOf}
-use Rattle.tokens.specs.Place.{misplacedOf, judged, readOf}
+use Rattle.tokens.specs.Place.{readOf}
 use Rattle.tokens.specs.Laws.{next-ahead}
 use Rattle.tokens.specs.Definition.{newNumber, kindIn, takesHere}
 use Rattle.tokens.specs.declared.decoding.Operand.{Operand}
 use Rattle.tokens.specs.declared.decoding.Operand.the-variants.{Nothing, Literal, Text, Branch, Number, Definition}
 use Rattle.tokens.specs.declared.decoding.Token.{Token}
-use Rattle.tokens.specs.declared.decoding.Decoded.{Decoded}
-use Rattle.tokens.specs.declared.decoding.Decoded.the-variants.{Cut, Unlisted, Whole}
-use Rattle.tokens.specs.declared.read.Read.{Read}
 use Rattle.tokens.specs.declared.read.Read.the-variants.{Refused, Good}
 use Rattle.screen.specs.Effect.{isA, fixes, valueSum}
+use Rattle.screen.specs.TokenFacts.{stands}
 use Rattle.screen.specs.BodyLaws.{Bounded, SurveyIs, off-on}
 use Rattle.screen.specs.KeepLaws.{bounded-more, bounded-shift, walked-kept}
 use Rattle.screen.specs.Model.{sumOf, shiftOf, places}
@@ -159,33 +155,9 @@ formed-so (Definition n k) f =
     let v = leb→le k 0xBA (r .1) in
     (omega arith, omega arith)
 
-abbrev FormedAt : Decoded → Type 0
-FormedAt Cut = Unit {0}
-FormedAt (Unlisted code) = Unit {0}
-FormedAt (Whole t) = Formed (t .operand)
-
-abbrev FormedRead : Read → Type 0
-FormedRead (Refused why) = Unit {0}
-FormedRead (Good t) = Formed (t .operand)
-
-whole-formed : (length n code : ℕ) (o : Operand) (next : ℕ) → FormedAt (wholeOf length n code o next)
-unfolding wholeOf
-whole-formed length n code o next =
-    pick-is FormedAt (ltb length next) Cut (pick (listed code o) (Whole (tokenOf n code o next)) (Unlisted code)) (λ t. tt)
-    (λ t. pick-is FormedAt (listed code o) (Whole (tokenOf n code o next)) (Unlisted code) (λ u. formed-so o (both-hold (not (eqb code 0)) (formed o) u .1)) (λ u. tt))
-
-judged-formed : (within : Bool) (d : Decoded) → FormedAt d → FormedRead (judged within d)
-judged-formed within Cut a = tt
-judged-formed within (Unlisted code) a = tt
-judged-formed within (Whole t) a = pick-is FormedRead (misplacedOf (t .code) within) (Refused 18) (Good t) (λ m. tt) (λ m. a)
-
-read-formed : (rom : List ℕ) (length : ℕ) (wide within : Bool) (p : ℕ) → FormedRead (readOf rom length wide within p)
-unfolding readOf decodeOf
-read-formed rom length wide within p = judged-formed within (decodeOf rom length wide p) (whole-formed length _ _ _ _)
-
 pub defining : (rom : List ℕ) (length : ℕ) (wide within : Bool) (p : ℕ) (t : Token) → readOf rom length wide within p ≡ Good t → Defining length t
 defining rom length wide within p t e =
-    let f = subst FormedRead e (read-formed rom length wide within p) in
+    let f = formed-so (t .operand) (stands rom length wide within p t e .formed) in
     record { number = f .0; kind = f .1; next = next-ahead rom length wide within p t e .1 }
 
 -- ---- a token that ended a round

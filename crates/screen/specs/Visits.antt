@@ -6,7 +6,7 @@ use mathlib.Core.Path.{_≡_, refl, sym, _∙_, ap, subst}
 use mathlib.Core.Bool.{Bool, true, false, not, _&&_, _||_}
 use mathlib.Core.List.{List, [], _∷_}
 use mathlib.Core.Logic.{_≢_}
-use lib.Dec.{T, leb, eqb, leb→le, le→leb, eqb→eq}
+use lib.Dec.{T, leb, eqb, le→leb, eqb→eq}
 use borrow.Author.Tests.{ne-eqb, eq-eqb}
 use Rattle.cells.specs.Tests.{when-is, neqb→ne}
 use Rattle.cells.specs.Facts.{holds, fails, is-true, is-false, both-hold, join-hold, four-hold, join-four, follows, neither, not-both, not-on, when-true, when-false}
@@ -25,6 +25,7 @@ use Rattle.tokens.specs.declared.read.Read.{Read}
 use Rattle.tokens.specs.declared.read.Read.the-variants.{Refused, Good}
 use Rattle.screen.specs.Effect.{isA, allowed, fixes, isColon, isBranch, aims, none, astray, bothWays, leadsOf, called, ownEffect, effectOf, names}
 use Rattle.screen.specs.Reach.{In, here, there}
+use Rattle.screen.specs.CodeLaws.{fits-known}
 use Rattle.screen.specs.Model.{cellOf, heightIn, backIn, unmet, isMet, sumAt, capOf, ownOf, heightAfter, backAfter, fitsOf, soundOf}
 use Rattle.screen.specs.Model.{aimIn, stops, nextIn, branchIn, badVisit, tokenVisit, readVisit, visitOf}
 use Rattle.screen.specs.TokenFacts.{either, or-first, or-second, clash, none-in, fixes-no-branch, fixes-no-end, fixes-no-name, aims-fit, stops-quiet}
@@ -395,13 +396,6 @@ five-hold a b c d e t =
 join-five : (a b c d e : Bool) → T a → T b → T c → T d → T e → T (a && b && c && d && e)
 join-five a b c d e s t u v w = join-hold (a && b && c && d) e (join-four a b c d s t u v) w
 
-seven-hold : (a b c d e f g : Bool) → T (a && b && c && d && e && f && g) → T a × T b × T c × T d × T e × T f × T g
-seven-hold a b c d e f g t =
-    let p = both-hold (a && b && c && d && e && f) g t in
-    let q = both-hold (a && b && c && d && e) f (p .0) in
-    let r = five-hold a b c d e (q .0) in
-    (r .0, r .1, r .2, r .3, r .4, q .1, p .1)
-
 join-seven : (a b c d e f g : Bool) → T a → T b → T c → T d → T e → T f → T g → T (a && b && c && d && e && f && g)
 join-seven a b c d e f g s t u v w y z =
     join-hold (a && b && c && d && e && f) g (join-hold (a && b && c && d && e) f (join-five a b c d e s t u v w) y) z
@@ -432,17 +426,13 @@ module _ (rom : List ℕ) (x : Scope) (kinds sums : List ℕ) (p c : ℕ) where
 
     -- the tests say what is asked
     passed-meets : readOf rom (x .length) (x .wide) (x .within) p ≡ Good t → T passed → Meets rom x kinds sums p c t
-    unfolding soundOf fitsOf
+    unfolding soundOf
     passed-meets e h =
         let b = both-hold (soundOf x kinds t c) (fitsOf (x .within) effect c) h in
         let r =
         five-hold (allowed t) (not (unknownOf kinds t)) (not (astray t)) (not (isA finish t) || eqb (x .children) 0)
         (not (isA leave t) || eqb (backIn c) 0) (b .0) in
-        let l =
-        seven-hold (leb (effect .takes) (heightIn c)) (leb (heightAfter effect c) (capOf (x .within)))
-        (leb (heightIn c - effect .takes + effect .rise) (capOf (x .within))) (leb (effect .«return_takes») (backIn c))
-        (leb (backAfter effect c) returnMost) (leb (backIn c + effect .«return_rise») returnMost)
-        (leb (ownOf (x .within) + effect .frames) framesMost) (b .1) in
+        let l = fits-known (x .within) effect c (b .1) in
         record {
           is = e;
           allowed = r .0;
@@ -450,13 +440,13 @@ module _ (rom : List ℕ) (x : Scope) (kinds sums : List ℕ) (p c : ℕ) where
           aimed = r .2;
           childless = λ f. eqb→eq (x .children) 0 (follows (isA finish t) (eqb (x .children) 0) (r .3) f);
           based = λ f. eqb→eq (backIn c) 0 (follows (isA leave t) (eqb (backIn c) 0) (r .4) f);
-          takes = leb→le (effect .takes) (heightIn c) (l .0);
-          high = leb→le (heightAfter effect c) (capOf (x .within)) (l .1);
-          rise = leb→le (heightIn c - effect .takes + effect .rise) (capOf (x .within)) (l .2);
-          returnTakes = leb→le (effect .«return_takes») (backIn c) (l .3);
-          returnHigh = leb→le (backAfter effect c) returnMost (l .4);
-          returnRise = leb→le (backIn c + effect .«return_rise») returnMost (l .5);
-          frames = leb→le (ownOf (x .within) + effect .frames) framesMost (l .6);
+          takes = l .takes;
+          high = l .most;
+          rise = l .rise;
+          returnTakes = l .returnTakes;
+          returnHigh = l .returnMost;
+          returnRise = l .returnRise;
+          frames = l .frames;
         }
 
     -- and back
