@@ -1,5 +1,6 @@
 pub mod Sizes
 pub mod Bytes
+pub mod Words
 pub mod Branch
 pub mod BranchLaws
 pub mod Sum

@@ -41,6 +41,10 @@ storeSize = 16384
 abbrev pub marksSize : ℕ
 marksSize = 16384
 
+-- the buffer that the listing's text is written to, which document 01 leaves open
+abbrev pub textSize : ℕ
+textSize = 65536
+
 -- all of them, as the code has them
 abbrev pub house : House
 house =
@@ -57,4 +61,5 @@ house =
       «work_size» = workSize;
       «store_size» = storeSize;
       «marks_size» = marksSize;
+      «text_size» = textSize;
     }

@@ -1,4 +1,4 @@
-// The house sizes of document 01, and the first place of a program, which stands behind the header. specs/Sizes.antt has the same names for
+// The house sizes of document 01, the first place of a program, which stands behind the header, and the size of the listing's text. specs/Sizes.antt has the same names for
 // the definitions, and `house_sizes` shows that the two agree.
 ghost use mathlib.Core.Path.{_≡_};
 ghost use Rattle.rom.specs.Sizes.{house as Sizes·house};
@@ -27,6 +27,8 @@ pub const STORE_SIZE: usize = 16384;
 
 pub const MARKS_SIZE: usize = 16384;
 
+pub const TEXT_SIZE: usize = 65536;
+
 pub struct House {
     pub rom_least: usize,
     pub rom_most: usize,
@@ -40,6 +42,7 @@ pub struct House {
     pub work_size: usize,
     pub store_size: usize,
     pub marks_size: usize,
+    pub text_size: usize,
 }
 
 pub fn house_sizes() -> House
@@ -58,5 +61,6 @@ pub fn house_sizes() -> House
         work_size: WORK_SIZE,
         store_size: STORE_SIZE,
         marks_size: MARKS_SIZE,
+        text_size: TEXT_SIZE,
     }
 }

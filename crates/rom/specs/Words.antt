@@ -1,0 +1,9 @@
+-- A text as the bytes of its letters. Assumes nothing.
+use Prim.Native.Nat.{ℕ}
+use Prim.Native.Char.{code}
+use Prim.Native.String.{String, [], _∷_}
+use mathlib.Core.List.{List, [] as none, _∷_ as first}
+
+unfoldable pub bytesOf : String → List ℕ
+bytesOf [] = none
+bytesOf (c ∷ s) = first (code c) (bytesOf s)
