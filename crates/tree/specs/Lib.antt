@@ -3,8 +3,13 @@ pub mod Whole
 pub mod Node
 pub mod Property
 pub mod Steps
+pub mod Path
+pub mod Rows
+pub mod PathExamples
 pub mod Laws
 pub mod Layout
+pub mod PathLaws
+pub mod RowLaws
 pub mod Puts
 pub mod Kept
 pub mod Lives

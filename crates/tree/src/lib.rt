@@ -1,13 +1,22 @@
 // The nodes and their properties. The tree is a value; the bytes of names and values lie in a store that is lent. Every call is total.
+mod lookup;
 mod node;
 mod property;
+mod rows;
 mod tree;
 
+pub use lookup::NodeSought;
+pub use lookup::ValueSought;
+pub use lookup::find_node;
+pub use lookup::find_property;
+pub use lookup::property_value;
 pub use node::finish_device;
 pub use node::fresh_tree;
 pub use node::new_device;
 pub use node::no_tree;
 pub use property::put_property;
+pub use rows::Row;
+pub use rows::node_table;
 pub use tree::Outcome;
 pub use tree::Tree;
 pub use tree::Written;

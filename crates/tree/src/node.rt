@@ -52,7 +52,7 @@ pub fn new_device(tree: Tree) -> Written
     }
 }
 
-fn parent(tree: Tree, k: usize) -> u32
+pub fn parent(tree: Tree, k: usize) -> u32
     ensures { λ r. ⌜ r ≡ parentOf tree k ⌝ }
 {
     if k < NODES_MOST { tree.parents[k] } else { 0 }

@@ -9,7 +9,7 @@ ghost use Rattle.memory.specs.Writing.{writtenOf};
 ghost use Rattle.tree.specs.Held.{sameBytes, nameSize, valueSize, liveOf};
 ghost use Rattle.tree.specs.Node.{refusedOf};
 ghost use Rattle.tree.specs.Property.{valueOf, allPrinted, badName, recordedOf, putOf, storeOf};
-ghost use Rattle.tree.specs.Steps.{foundOf, sizeOf, fullWith, appendedOf, replacedOf, laidWith, Placed};
+ghost use Rattle.tree.specs.Steps.{foundFrom, sizeOf, fullWith, appendedOf, replacedOf, laidWith, Placed};
 use crate::tree::NAME_MOST;
 use crate::tree::Outcome;
 use crate::tree::Tree;
@@ -30,7 +30,7 @@ pub struct Found {
     pub at: usize,
 }
 
-fn same_bytes(a: &[u8], b: &[u8]) -> bool
+pub fn same_bytes(a: &[u8], b: &[u8]) -> bool
     ensures { λ r. ⌜ r ≡ sameBytes (now (a .entry)) (now (b .entry)) ⌝ }
 {
     if a.len() != b.len() {
@@ -85,16 +85,16 @@ fn is_named(store: &[u8], owner: u32, start: usize, end: usize, node: u32, name:
     same_bytes(&store[start..end], name)
 }
 
-// The record of the active node with this name, the oldest first.
-fn find(store: &[u8], tree: Tree, name: &[u8]) -> Found
+// The record of a node with this name, the oldest first.
+pub fn find(store: &[u8], tree: Tree, node: u32, name: &[u8]) -> Found
     requires { ⌜ (tree .held ≤ 128) × (liveOf tree ≤ length (now store)) ⌝ }
-    ensures { λ r. ⌜ r ≡ foundOf tree (now (store .entry)) (now (name .entry)) ⌝ }
+    ensures { λ r. ⌜ r ≡ foundFrom tree (now (store .entry)) node (now (name .entry)) (tree .held) 0 0 ⌝ }
 {
     let mut i = 0;
     let mut at = 0;
     while i < tree.held {
         let end = at + wide(tree.names[i]);
-        if is_named(store, tree.owners[i], at, end, tree.active, name) {
+        if is_named(store, tree.owners[i], at, end, node, name) {
             return Found { index: i, at: at };
         }
         at = end + wide(tree.values[i]);
@@ -166,10 +166,10 @@ fn too_full(tree: Tree, live: usize, index: usize, name: usize, value: usize) ->
         }
         return STORE_SIZE < live + name + value;
     }
-    STORE_SIZE + old_size(tree, index) < live + value
+    STORE_SIZE + value_size(tree, index) < live + value
 }
 
-fn old_size(tree: Tree, index: usize) -> usize
+pub fn value_size(tree: Tree, index: usize) -> usize
     ensures { λ r. ⌜ (r ≡ valueSize tree index) × (r < 4294967296) ⌝ }
 {
     if index < PROPERTIES_MOST {
@@ -179,7 +179,7 @@ fn old_size(tree: Tree, index: usize) -> usize
     }
 }
 
-fn name_size(tree: Tree, index: usize) -> usize
+pub fn name_size(tree: Tree, index: usize) -> usize
     ensures { λ r. ⌜ r ≡ nameSize tree index ⌝ }
 {
     if index < PROPERTIES_MOST {
@@ -235,7 +235,7 @@ fn lay_property(
         store,
         live,
         at + name_size(tree, index),
-        old_size(tree, index),
+        value_size(tree, index),
         value,
         null,
     );
@@ -259,7 +259,7 @@ pub fn put_property(store: &mut [u8], tree: Tree, name: &[u8], value: &[u8], nul
         return refused(27, tree);
     }
     let size = size_of(value.len(), null);
-    let found = find(&*store, tree, name);
+    let found = find(&*store, tree, tree.active, name);
     let live = live_of(tree);
     let index = found.index;
     let at = found.at;

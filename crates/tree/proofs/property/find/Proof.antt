@@ -3,7 +3,7 @@ use mathlib.Core.Path.{_≡_, refl, sym, _∙_}
 use native.Mathlib.Omega.{arith}
 use denote.Ref.{now}
 use Rattle.tree.specs.Held.{liveOf, liveFrom, matches, propertyAt}
-use Rattle.tree.specs.Steps.{foundFrom, foundOf}
+use Rattle.tree.specs.Steps.{foundFrom}
 use Rattle.tree.specs.Laws.{live-more, found-here, found-next, found-none}
 use borrow.Author.Needs.{needs}
 use Rattle.tree.proofs.property.find.Statement.{statement}
@@ -11,18 +11,18 @@ use Rattle.tree.proofs.property.find.Tie as tie
 
 -- what is found from here on is what is found
 abbrev Inv-loop : tie.InvT-loop
-Inv-loop store name tree i₀ at₀ i at =
+Inv-loop store node name tree i₀ at₀ i at =
     (i ≤ tree .held) × (at + liveFrom tree (tree .held - i) i ≡ liveOf tree)
-    × (foundFrom tree store (tree .active) name (tree .held - i) i at ≡ foundOf tree store name)
+    × (foundFrom tree store node name (tree .held - i) i at ≡ foundFrom tree store node name (tree .held) 0 0)
 
 abbrev μ-loop : tie.MeasureT-loop
-μ-loop store name tree i₀ at₀ i at = tree .held - i
+μ-loop store node name tree i₀ at₀ i at = tree .held - i
 
 -- what the test of a record says is said of its property
 named : (c : tie.After-is-named Inv-loop μ-loop)
     → let l = c .before .before .before .before .before .loop in
     let a = c .before .before .before .before .before .before .before .before .args in
-    c .is-named .result ≡ matches (propertyAt (a .t2) (now (a .store)) (l .i) (l .at)) (a .t2 .active) (now (a .name))
+    c .is-named .result ≡ matches (propertyAt (a .t2) (now (a .store)) (l .i) (l .at)) (a .node) (now (a .name))
 named c =
     let l = c .before .before .before .before .before .loop in
     let w = c .before .before .wide .result in
@@ -57,7 +57,7 @@ find-spec =
     (λ c.
     let l = c .before .before .before .before .before .before .loop in
     let a = c .before .before .before .before .before .before .before .before .before .args in
-    sym (found-here (a .t2) (now (a .store)) (a .t2 .active) (now (a .name)) (a .t2 .held - l .i) (l .i) (l .at) (a .t2 .held) (search needs) refl (sym (named (c .before)) ∙ c .if1 .taken))
+    sym (found-here (a .t2) (now (a .store)) (a .node) (now (a .name)) (a .t2 .held - l .i) (l .i) (l .at) (a .t2 .held) (search needs) refl (sym (named (c .before)) ∙ c .if1 .taken))
     ∙ l .inv .2)
     (λ c. search needs)
     (λ c. search needs)
@@ -77,9 +77,9 @@ find-spec =
     let x = c .wide2 .ensures .0 in (
       search needs,
       omega arith,
-      rw (w, x) (sym (found-next (a .t2) (now (a .store)) (a .t2 .active) (now (a .name)) (a .t2 .held - l .i) (l .i) (l .at) (a .t2 .held) (search needs) refl (sym (named (c .before .before .before)) ∙ c .before .before .if1 .left)) ∙ l .inv .2),
+      rw (w, x) (sym (found-next (a .t2) (now (a .store)) (a .node) (now (a .name)) (a .t2 .held - l .i) (l .i) (l .at) (a .t2 .held) (search needs) refl (sym (named (c .before .before .before)) ∙ c .before .before .if1 .left)) ∙ l .inv .2),
     ))
     (λ c.
     let l = c .before .loop in
     let a = c .before .before .before .before .args in
-    sym (found-none (a .t2) (now (a .store)) (a .t2 .active) (now (a .name)) (a .t2 .held - l .i) (l .i) (l .at) (a .t2 .held) (search needs)) ∙ l .inv .2))
+    sym (found-none (a .t2) (now (a .store)) (a .node) (now (a .name)) (a .t2 .held - l .i) (l .i) (l .at) (a .t2 .held) (search needs)) ∙ l .inv .2))

@@ -26,4 +26,4 @@ lay-property-spec =
     (λ c.
     let o = c .before .before .before in
     let n = o .before in
-    c .before .before .replace .ensures ∙ rw (ne-eqb _ _ (n .before .before .if1 .left), o .old-size .ensures .0, n .name-size .ensures)))
+    c .before .before .replace .ensures ∙ rw (ne-eqb _ _ (n .before .before .if1 .left), o .value-size .ensures .0, n .name-size .ensures)))

@@ -15,4 +15,4 @@ too-full-spec =
     (λ c κs. search needs)
     (λ c. search needs)
     (λ c. search needs)
-    (λ c. rw (ne-eqb _ _ (c .before .if1 .left), c .old-size .ensures .0)))
+    (λ c. rw (ne-eqb _ _ (c .before .if1 .left), c .value-size .ensures .0)))

@@ -3,11 +3,11 @@ use mathlib.Core.Path.{_≡_}
 use lib.ListN.{length}
 use lib.ListN.{List·getD-eq-default}
 use borrow.Author.Needs.{needs}
-use Rattle.tree.proofs.property.old_size.Statement.{statement}
-use Rattle.tree.proofs.property.old_size.Tie as tie
+use Rattle.tree.proofs.property.value_size.Statement.{statement}
+use Rattle.tree.proofs.property.value_size.Tie as tie
 
-pub old-size-spec : {M : Type 1} → statement M
-old-size-spec =
+pub value-size-spec : {M : Type 1} → statement M
+value-size-spec =
     tie.close
     (tie.spec
     (λ c. search needs)
