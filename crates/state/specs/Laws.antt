@@ -2,9 +2,10 @@
 -- of a state once. Assumes nothing.
 use Prim.Native.Nat.{ℕ, zero, suc, _+_}
 use native.Mathlib.Omega.{arith}
-use mathlib.Core.Path.{_≡_, refl, subst, _∙_, sym}
+use mathlib.Core.Path.{_≡_, refl, ap, subst, _∙_, sym}
 use mathlib.Core.Bool.{Bool, true, false}
 use mathlib.Core.List.{List, [], _∷_}
+use lib.ListN.{length}
 use lib.Dec.{eqb}
 use Rattle.cells.specs.Tests.{when-is}
 use Rattle.tokens.specs.Code.{familyIn}
@@ -17,7 +18,7 @@ use Rattle.tree.specs.Kept.{whole-is as tree-whole}
 use Rattle.tokens.specs.Definition.{colon, kindIn, value, variable}
 use Rattle.state.specs.State.{isOpen}
 use Rattle.state.specs.Numbers.{isBody, seekOf}
-use Rattle.state.specs.Scene.{Scene, Turn, turn, refuse}
+use Rattle.state.specs.Scene.{Scene, Turn, refuse}
 use Rattle.state.specs.Refusals.{refusalOf}
 use Rattle.state.specs.Effects.{effects, nothing, actOf, defines, colons, values, variables, calls}
 use Rattle.state.specs.Step.{readyOf, doneOf, readTurn, tokenOf, knownTurn, stepOf}
@@ -26,6 +27,7 @@ use Rattle.state.specs.KeepsWhole.{whole-facts, ready-facts, not-going, 
 use Rattle.state.specs.KeepsWhole.{ready-is, facts-ready, Rooted}
 use Rattle.state.specs.Keeps.{token-keeps}
 use Rattle.state.specs.KeepsOpen.{opened, opened-ready, fresh-rooted}
+use Rattle.rom.specs.Sizes.{storeSize}
 use Rattle.rom.specs.Header.{headerOf}
 use Rattle.state.specs.Sized.{Sized, fresh-sized}
 use Rattle.state.specs.Run.{Outcome, ended, then, after, unless, runFrom, runOf, tokensFrom}
@@ -38,12 +40,15 @@ use Rattle.state.specs.declared.answer.Answer.{Answer}
 use Rattle.state.specs.declared.answer.Answer.the-variants.{Going, Finished, Refused, Spent}
 
 -- ---- "A refused step leaves state, work memory and store as before it."
--- what a turn is by its answer: a refused one has everything as it was
+-- what a turn is by its answer: a refused one has everything as it was, and one that ends a run else its tree and its store
+abbrev Same : Scene → Turn → Type 0
+Same s r = (r .state .tree ≡ s .state .tree) × (r .store ≡ s .store)
+
 abbrev Fair : Scene → Turn → Answer → Type 0
 Fair s r Going = Unit {0}
-Fair s r Finished = Unit {0}
+Fair s r Finished = Same s r
 Fair s r (Refused why) = r ≡ refuse why s
-Fair s r (Spent n) = Unit {0}
+Fair s r (Spent n) = Same s r
 
 abbrev FairTurn : Scene → Turn → Type 0
 FairTurn s r = Fair s r (r .answer)
@@ -52,7 +57,7 @@ act-fair : (s : Scene) (t : Token) → FairTurn s (actOf s t)
 unfolding actOf effects
 act-fair s t =
     find-at (λ e. FairTurn s (e s t)) effects nothing (familyIn (t .code))
-    (go ▸ go ▸ go ▸ go ▸ go ▸ go ▸ go ▸ go ▸ go ▸ go ▸ go ▸ go ▸ go ▸ (λ k. kinds) ▸ go ▸ (λ k. body bodyHere refl) ▸ go ▸ go ▸ go ▸ go ▸ go ▸ go ▸ go ▸ tt)
+    (go ▸ (λ k. (refl, refl)) ▸ go ▸ go ▸ go ▸ go ▸ go ▸ go ▸ go ▸ go ▸ go ▸ go ▸ go ▸ (λ k. kinds) ▸ go ▸ (λ k. body bodyHere refl) ▸ go ▸ go ▸ go ▸ go ▸ go ▸ go ▸ go ▸ tt)
     refl
   where
     go : {m n : ℕ} → m ≡ n → Unit {0}
@@ -104,9 +109,9 @@ step-spent s n e = rw (e, stepOf)
 
 step-fair : (s : Scene) (a : Answer) → readyOf s ≡ a → FairTurn s (stepOf s)
 step-fair s Going e = rw (step-going s e) (token-fair s)
-step-fair s Finished e = rw (finished-stays s e) tt
+step-fair s Finished e = rw (finished-stays s e) (refl, refl)
 step-fair s (Refused why) e = rw (step-refused s why e) refl
-step-fair s (Spent n) e = rw (step-spent s n e) tt
+step-fair s (Spent n) e = rw (step-spent s n e) (refl, refl)
 
 pub refused-step-keeps : (s : Scene) (why : ℕ) → stepOf s .answer ≡ Refused why → stepOf s ≡ refuse why s
 refused-step-keeps s why e = subst (Fair s (stepOf s)) e (step-fair s (readyOf s) refl)
@@ -211,3 +216,36 @@ run-once k n s z = by (readyOf s) refl
 -- of an opened ROM it is its tokens alone
 pub run-opened : (budget : ℕ) (rom : List ℕ) → headerOf rom ≡ 0 → runOf budget (opened rom) ≡ tokensFrom budget 0 (opened rom)
 run-opened budget rom e = run-tokens budget 0 (opened rom) (fresh-sized rom) fresh-rooted (opened-ready rom e)
+
+-- ---- what the run of an opened ROM leaves, however it ends: a tree that is whole, and a store of its size
+pub record Left (o : Outcome) : Type 0 where
+  pub tree : wholeTree (o .state .tree) ≡ true
+  pub store : length (o .store) ≡ storeSize
+
+ready-left : (a : Answer) (n : ℕ) (s : Scene) → readyOf s ≡ Going → Left (ended a n s)
+ready-left a n s e =
+    let f = ready-facts s e in
+    let w = whole-facts (s .state) (f .1) in
+    record { tree = tree-whole (s .state .tree) (record { nodes = w .0 .tree; active-least = w .1 }); store = f .0 .store }
+
+same-left : (a : Answer) (n : ℕ) (s : Scene) (r : Turn) → readyOf s ≡ Going → Same s r → Left (ended a n (then s r))
+same-left a n s r e k =
+    let l = ready-left a n s e in
+    record { tree = ap wholeTree (k .0) ∙ l .tree; store = ap length (k .1) ∙ l .store }
+
+tokens-left : (k n : ℕ) (s : Scene) → Sized (s .state) → Rooted (s .state .tree) → readyOf s ≡ Going → Left (tokensFrom k n s)
+unfolding tokensFrom
+tokens-left zero n s z r e = ready-left (Spent n) n s e
+tokens-left (suc k) n s z r e = by (tokenOf s .answer) refl (λ to y q f. tokens-left k (n + 1) to y q f)
+  where
+    by : (a : Answer) → tokenOf s .answer ≡ a → ((to : Scene) → Sized (to .state) → Rooted (to .state .tree) → readyOf to ≡ Going → Left (tokensFrom k (n + 1) to))
+        → Left (tokensFrom (suc k) n s)
+    by Going g f = let h = keeps s z r e g in rw (g, tokensFrom) (f (then s (tokenOf s)) (h .1) (h .2) (h .0))
+    by Finished g f = rw (g, tokensFrom) (same-left Finished (n + 1) s (tokenOf s) e (subst (Fair s (tokenOf s)) g (token-fair s)))
+    by (Refused why) g f =
+        let q = refused-keeps s why g in
+        rw (g, tokensFrom) (same-left (Refused why) n s (tokenOf s) e (ap (λ (x : Turn). x .state .tree) q, ap (λ (x : Turn). x .store) q))
+    by (Spent m) g f = rw (g, tokensFrom) (same-left (Spent m) n s (tokenOf s) e (subst (Fair s (tokenOf s)) g (token-fair s)))
+
+pub run-left : (budget : ℕ) (rom : List ℕ) → headerOf rom ≡ 0 → Left (runOf budget (opened rom))
+run-left budget rom e = rw (run-opened budget rom e) (tokens-left budget 0 (opened rom) (fresh-sized rom) fresh-rooted (opened-ready rom e))

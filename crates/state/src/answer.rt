@@ -1,4 +1,6 @@
 // What a step or a run answers.
+ghost use mathlib.Core.Path.{_≡_};
+ghost use Rattle.state.specs.Scene.{numberOf};
 use crate::state::State;
 
 // Going on, finished, refused with a number, or the budget spent with the count of tokens carried out.
@@ -26,4 +28,16 @@ pub struct Ran {
     pub answer: Answer,
     pub count: u32,
     pub state: State,
+}
+
+// Document 01's number of an answer: 0 going on or finished, a refusal's own, 28 for a spent budget.
+pub fn number_of(answer: Answer) -> u32
+    ensures { λ r. ⌜ r ≡ numberOf answer ⌝ }
+{
+    match answer {
+        Answer::Going => 0,
+        Answer::Finished => 0,
+        Answer::Refused(why) => why,
+        Answer::Spent(count) => 28,
+    }
 }

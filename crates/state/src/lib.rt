@@ -11,6 +11,7 @@ pub use answer::Answer;
 pub use answer::Popped;
 pub use answer::Ran;
 pub use answer::Stepped;
+pub use answer::number_of;
 pub use moves::base;
 pub use moves::call;
 pub use moves::entry;
