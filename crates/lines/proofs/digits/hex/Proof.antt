@@ -1,0 +1,39 @@
+use Prim.Native.Nat.{_+_, _-_, _≤_}
+use native.Mathlib.Omega.{arith}
+use lib.ListN.{length, getD, drop, length-drop}
+use denote.Ref.{now}
+use borrow.Author.Needs.{needs}
+use Rattle.lines.specs.Digits.{hexOf}
+use Rattle.lines.specs.Laws.{hexPair, hex-more, hex-none, length-hex}
+use Rattle.lines.specs.Wrote.{Ahead, ahead-all, ahead-on, ahead-none}
+use Rattle.lines.proofs.digits.hex.Statement.{statement}
+use Rattle.lines.proofs.digits.hex.Tie as tie
+
+abbrev Inv-loop : tie.InvT-loop
+Inv-loop text₀ at value end₀ k₀ text end k = (k ≤ length value) × Ahead text₀ at (hexOf value) text end (hexOf (drop k value))
+
+abbrev μ-loop : tie.MeasureT-loop
+μ-loop text₀ at value end₀ k₀ text end k = length value - k
+
+pub hex-spec : {M : Type 1} → statement M
+hex-spec =
+    tie.close
+    (tie.spec
+    Inv-loop
+    μ-loop
+    (λ c. (search needs, ahead-all))
+    (λ c. search needs)
+    (λ c κs.
+    let value = now (c .before .before .before .before .before .before .args .value) in
+    let k = c .before .before .before .loop .k in
+    let l = length-hex (drop k value) in
+    let d = length-drop k value in
+    omega arith)
+    (λ c. search needs)
+    (λ c. search needs)
+    (λ c.
+    let value = now (c .before .before .before .before .before .before .before .before .before .args .value) in
+    let l = c .before .before .before .before .before .before .loop in
+    (search needs, ahead-on (hexPair (getD value (l .k) 0)) (hexOf (drop (l .k + 1) value)) (rw (hex-more value (l .k) (search needs)) at (l .inv .1)) (c .before .before .hex-byte .ensures)))
+    (λ c. c .before .loop .inv .1 .size)
+    (λ c. let l = c .before .loop in ahead-none (rw (hex-none (now (c .before .before .before .before .args .value)) (l .k) (search needs)) at (l .inv .1))))

@@ -1,0 +1,19 @@
+use native.Mathlib.Omega.{arith}
+use borrow.Author.Needs.{needs}
+use borrow.Author.Tests.{eq-eqb, ne-eqb}
+use Rattle.rom.specs.Words.{bytesOf}
+use Rattle.lines.proofs.lines.closing_line.Statement.{statement}
+use Rattle.lines.proofs.lines.closing_line.Tie as tie
+
+pub closing-line-spec : {M : Type 1} → statement M
+unfolding bytesOf
+closing-line-spec =
+    tie.close
+    (tie.spec
+    (λ c. search needs)
+    (λ c κs. rw (eq-eqb (c .before .before .before .before .args .number) 0 (omega arith)) at (c .before .before .before .before .pre))
+    (λ c. search needs)
+    (λ c. rw (eq-eqb (c .before .before .before .before .before .before .before .args .number) 0 (omega arith)) (c .before .before .say .ensures))
+    (λ c κs. rw (ne-eqb (c .before .before .before .args .number) 0 (λ e. omega arith)) at (c .before .before .before .pre))
+    (λ c. search needs)
+    (λ c. rw (ne-eqb (c .before .before .before .before .before .before .args .number) 0 (λ e. omega arith)) (c .before .before .refused-line .ensures)))

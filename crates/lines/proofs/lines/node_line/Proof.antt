@@ -1,0 +1,26 @@
+use borrow.Author.Needs.{needs}
+use native.Mathlib.Omega.{arith}
+use Rattle.rom.specs.Words.{bytesOf}
+use Rattle.lines.specs.Lines.{nodeLine}
+use Rattle.lines.specs.Fits.{length-node-line}
+use Rattle.lines.specs.Wrote.{wrote-then}
+use Rattle.lines.proofs.lines.node_line.Statement.{statement}
+use Rattle.lines.proofs.lines.node_line.Tie as tie
+
+pub node-line-spec : {M : Type 1} → statement M
+unfolding nodeLine bytesOf
+node-line-spec =
+    tie.close
+    (tie.spec
+    (λ c. search needs)
+    (λ c κs. let a = c .before .before .before .args in let l = length-node-line (a .k) (a .parent) in omega arith)
+    (λ c κs. let a = c .before .before .before .before .before .before .before .args in let l = length-node-line (a .k) (a .parent) in omega arith)
+    (λ c. search needs)
+    (λ c κs. let a = c .before .before .before .before .before .before .before .before .before .before .before .before .args in let l = length-node-line (a .k) (a .parent) in omega arith)
+    (λ c κs. let a = c .before .before .before .before .before .before .before .before .before .before .before .before .before .before .before .before .args in let l = length-node-line (a .k) (a .parent) in omega arith)
+    (λ c κs. let a = c .before .before .before .before .before .before .before .before .before .before .before .before .before .before .before .before .before .before .before .before .args in let l = length-node-line (a .k) (a .parent) in omega arith)
+    (λ c. search needs)
+    (λ c.
+    wrote-then (c .before .before .before .before .before .before .before .before .before .before .before .before .before .before .before .before .before .before .before .say .ensures)
+    (wrote-then (c .before .before .before .before .before .before .before .before .before .before .before .before .before .before .before .decimal .ensures)
+    (wrote-then (c .before .before .before .before .before .before .before .before .before .before .say2 .ensures) (wrote-then (c .before .before .before .before .before .before .decimal2 .ensures) (c .before .before .letter .ensures))))))

@@ -1,0 +1,15 @@
+use native.Mathlib.Omega.{arith}
+use borrow.Author.Needs.{needs}
+use borrow.Author.Tests.{eq-eqb, ne-eqb}
+use Rattle.lines.specs.Wrote.{wrote-none}
+use Rattle.lines.proofs.lines.own_line.Statement.{statement}
+use Rattle.lines.proofs.lines.own_line.Tie as tie
+
+pub own-line-spec : {M : Type 1} → statement M
+own-line-spec =
+    tie.close
+    (tie.spec
+    (λ c. let a = c .before .before .before .before .args in rw (ne-eqb (a .owner) (a .node) (λ e. omega arith)) wrote-none)
+    (λ c κs. let a = c .before .before .before .before .before .args in rw (eq-eqb (a .owner) (a .node) (omega arith)) at (c .before .before .before .before .before .pre))
+    (λ c. search needs)
+    (λ c. let a = c .before .before .before .before .before .before .before .before .args in rw (eq-eqb (a .owner) (a .node) (omega arith)) (c .before .before .property-line .ensures)))

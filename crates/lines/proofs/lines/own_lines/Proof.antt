@@ -1,0 +1,92 @@
+use Prim.Native.Nat.{_+_, _-_, _≤_}
+use mathlib.Core.Path.{_≡_, refl}
+use native.Mathlib.Omega.{arith}
+use denote.Ref.{now}
+use borrow.Author.Needs.{needs}
+use Rattle.tree.specs.Held.{nameSize, valueSize, heldFrom, heldOf, liveFrom, liveOf}
+use Rattle.tree.specs.Laws.{live-more}
+use Rattle.lines.specs.Lines.{ownLines}
+use Rattle.lines.specs.Laws.{ownLine, line-at, own-more, own-none}
+use Rattle.lines.specs.Wrote.{Ahead, ahead-all, ahead-on, ahead-fits, ahead-none}
+use Rattle.lines.proofs.lines.own_lines.Statement.{statement}
+use Rattle.lines.proofs.lines.own_lines.Tie as tie
+
+abbrev Inv-loop : tie.InvT-loop
+Inv-loop text₀ at store node tree end₀ i₀ name₀ text end i name =
+    (i ≤ tree .held) × (name + liveFrom tree (tree .held - i) i ≡ liveOf tree)
+    × Ahead text₀ at (ownLines (heldOf tree store) node) text end (ownLines (heldFrom tree store (tree .held - i) i name) node)
+
+abbrev μ-loop : tie.MeasureT-loop
+μ-loop text₀ at store node tree end₀ i₀ name₀ text end i name = tree .held - i
+
+-- a record's bytes lie among the live ones
+within : (c : tie.In-loop Inv-loop μ-loop)
+    → let l = c .before .loop in
+    let a = c .before .before .before .before .args in
+    l .name + nameSize (a .t4) (l .i) + valueSize (a .t4) (l .i) + liveFrom (a .t4) (a .t4 .held - (l .i + 1)) (l .i + 1) ≡ liveOf (a .t4)
+within c =
+    let l = c .before .loop in
+    let a = c .before .before .before .before .args in
+    let e = live-more (a .t4 .names) (a .t4 .values) (a .t4 .held - l .i) (l .i) (a .t4 .held) (search needs) refl in
+    omega arith
+
+pub own-lines-spec : {M : Type 1} → statement M
+own-lines-spec =
+    tie.close
+    (tie.spec
+    Inv-loop
+    μ-loop
+    (λ c.
+    let a = c .before .before .args in
+    let e : a .t4 .held - 0 ≡ a .t4 .held = omega arith in
+    (search needs, rw e (omega arith), rw e ahead-all))
+    (λ c. search needs)
+    (λ c. search needs)
+    (λ c κs. search needs)
+    (λ c. let w = within (c .before .before) in search needs)
+    (λ c. search needs)
+    (λ c. search needs)
+    (λ c κs. search needs)
+    (λ c. let w = within (c .before .before .before .before) in search needs)
+    (λ c. search needs)
+    (λ c. search needs)
+    (λ c. search needs)
+    (λ c. search needs)
+    (λ c. let w = within (c .before .before .before .before .before .before) in search needs)
+    (λ c. search needs)
+    (λ c. search needs)
+    (λ c. let w = within (c .before .before .before .before .before .before .before) in search needs)
+    (λ c κs.
+    let l = c .before .before .before .before .before .before .before .before .before .loop in
+    let a = c .before .before .before .before .before .before .before .before .before .before .before .before .args in
+    let s = now (a .store) in
+    let n = nameSize (a .t4) (l .i) in
+    let v = valueSize (a .t4) (l .i) in
+    rw (line-at (a .t4) s (l .i) (l .name) (a .node) (c .before .before .before .before .before .before .wide .result) (c .before .before .before .before .wide2 .result) (c .before .before .before .before .before .before .wide .ensures) (c .before .before .before .before .wide2 .ensures))
+    (ahead-fits (ownLine (a .t4) s (l .i) (l .name) (a .node))
+    (ownLines (heldFrom (a .t4) s (a .t4 .held - (l .i + 1)) (l .i + 1) (l .name + n + v)) (a .node))
+    (rw (own-more (a .t4) s (a .t4 .held - l .i) (l .i) (l .name) (a .node) (a .t4 .held) (search needs) refl) at (l .inv .2)) (c .before .before .before .before .before .before .before .before .before .before .before .before .pre .0)))
+    (λ c. search needs)
+    (λ c. search needs)
+    (λ c.
+    let l = c .before .before .before .before .before .before .before .before .before .before .before .before .loop in
+    let a = c .before .before .before .before .before .before .before .before .before .before .before .before .before .before .before .args in
+    let s = now (a .store) in
+    let n = nameSize (a .t4) (l .i) in
+    let v = valueSize (a .t4) (l .i) in
+    let w = within (c .before .before .before .before .before .before .before .before .before .before .before) in
+    let e = c .before .before .before .before .before .before .before .before .before .wide .ensures in
+    let f = c .before .before .before .before .before .before .before .wide2 .ensures in (
+      search needs,
+      omega arith,
+      rw (e, f)
+          (ahead-on (ownLine (a .t4) s (l .i) (l .name) (a .node))
+          (ownLines (heldFrom (a .t4) s (a .t4 .held - (l .i + 1)) (l .i + 1) (l .name + n + v)) (a .node))
+          (rw (own-more (a .t4) s (a .t4 .held - l .i) (l .i) (l .name) (a .node) (a .t4 .held) (search needs) refl) at (l .inv .2))
+          (rw (line-at (a .t4) s (l .i) (l .name) (a .node) (c .before .before .before .before .before .before .before .before .before .wide .result) (c .before .before .before .before .before .before .before .wide2 .result) e f) at (c .before .before .own-line .ensures))),
+    ))
+    (λ c. c .before .loop .inv .2 .size)
+    (λ c.
+    let l = c .before .loop in
+    let a = c .before .before .before .before .args in
+    ahead-none (rw (own-none (a .t4) (now (a .store)) (a .t4 .held - l .i) (l .i) (l .name) (a .node) (search needs)) at (l .inv .2))))

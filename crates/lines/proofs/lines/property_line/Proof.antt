@@ -1,0 +1,19 @@
+use native.Mathlib.Omega.{arith}
+use denote.Ref.{now}
+use borrow.Author.Needs.{needs}
+use Rattle.lines.specs.Lines.{propertyLine}
+use Rattle.lines.specs.Fits.{length-property-line}
+use Rattle.lines.specs.Wrote.{wrote-then}
+use Rattle.lines.proofs.lines.property_line.Statement.{statement}
+use Rattle.lines.proofs.lines.property_line.Tie as tie
+
+pub property-line-spec : {M : Type 1} → statement M
+unfolding propertyLine
+property-line-spec =
+    tie.close
+    (tie.spec
+    (λ c κs. let a = c .before .before .before .before .args in let l = length-property-line (now (a .name)) (now (a .value)) in omega arith)
+    (λ c κs. let a = c .before .before .before .before .before .before .before .before .args in let l = length-property-line (now (a .name)) (now (a .value)) in omega arith)
+    (λ c κs. let a = c .before .before .before .before .before .before .before .before .before .before .before .before .args in let l = length-property-line (now (a .name)) (now (a .value)) in omega arith)
+    (λ c. search needs)
+    (λ c. wrote-then (c .before .before .before .before .before .before .before .before .before .before .say .ensures) (wrote-then (c .before .before .before .before .before .before .shown .ensures) (c .before .before .letter .ensures))))

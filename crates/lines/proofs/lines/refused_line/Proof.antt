@@ -1,0 +1,20 @@
+use borrow.Author.Needs.{needs}
+use native.Mathlib.Omega.{arith}
+use Rattle.rom.specs.Words.{bytesOf}
+use Rattle.lines.specs.Lines.{refusedLine}
+use Rattle.lines.specs.Fits.{length-refused-line}
+use Rattle.lines.specs.Wrote.{wrote-then}
+use Rattle.lines.proofs.lines.refused_line.Statement.{statement}
+use Rattle.lines.proofs.lines.refused_line.Tie as tie
+
+pub refused-line-spec : {M : Type 1} → statement M
+unfolding refusedLine bytesOf
+refused-line-spec =
+    tie.close
+    (tie.spec
+    (λ c. search needs)
+    (λ c κs. let l = length-refused-line (c .before .before .before .args .number) in omega arith)
+    (λ c κs. let l = length-refused-line (c .before .before .before .before .before .before .before .args .number) in omega arith)
+    (λ c κs. let l = length-refused-line (c .before .before .before .before .before .before .before .before .before .before .before .args .number) in omega arith)
+    (λ c. search needs)
+    (λ c. wrote-then (c .before .before .before .before .before .before .before .before .before .before .say .ensures) (wrote-then (c .before .before .before .before .before .before .decimal .ensures) (c .before .before .letter .ensures))))

@@ -1,0 +1,20 @@
+use borrow.Author.Needs.{needs}
+use native.Mathlib.Omega.{arith}
+use Rattle.rom.specs.Words.{bytesOf}
+use Rattle.lines.specs.Lines.{stepsLine}
+use Rattle.lines.specs.Fits.{length-steps-line}
+use Rattle.lines.specs.Wrote.{wrote-then}
+use Rattle.lines.proofs.lines.steps_line.Statement.{statement}
+use Rattle.lines.proofs.lines.steps_line.Tie as tie
+
+pub steps-line-spec : {M : Type 1} → statement M
+unfolding stepsLine bytesOf
+steps-line-spec =
+    tie.close
+    (tie.spec
+    (λ c. search needs)
+    (λ c κs. let l = length-steps-line (c .before .before .before .args .steps) in omega arith)
+    (λ c κs. let l = length-steps-line (c .before .before .before .before .before .before .before .args .steps) in omega arith)
+    (λ c κs. let l = length-steps-line (c .before .before .before .before .before .before .before .before .before .before .before .args .steps) in omega arith)
+    (λ c. search needs)
+    (λ c. wrote-then (c .before .before .before .before .before .before .before .before .before .before .say .ensures) (wrote-then (c .before .before .before .before .before .before .decimal .ensures) (c .before .before .letter .ensures))))

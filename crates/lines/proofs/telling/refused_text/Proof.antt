@@ -1,0 +1,22 @@
+use native.Mathlib.Omega.{arith}
+use borrow.Author.Needs.{needs}
+use borrow.Author.Tests.{eq-eqb, ne-eqb}
+use Rattle.lines.specs.Told.{refusedTold}
+use Rattle.lines.specs.Fits.{refused-fits}
+use Rattle.lines.specs.Laws.{told-whole}
+use Rattle.lines.proofs.telling.refused_text.Statement.{statement}
+use Rattle.lines.proofs.telling.refused_text.Tie as tie
+
+pub refused-text-spec : {M : Type 1} → statement M
+unfolding refusedTold
+refused-text-spec =
+    tie.close
+    (tie.spec
+    (λ c. rw (ne-eqb _ _ (c .if1 .taken)))
+    (λ c κs. let f = refused-fits (c .before .before .before .args .number) in omega arith)
+    (λ c. let f = refused-fits (c .before .before .before .before .before .before .before .args .number) in omega arith)
+    (λ c κs. search needs)
+    (λ c. search needs)
+    (λ c.
+    let s = c .before .before .before .before .before .before .before .before .if1 .left in
+    rw (eq-eqb _ _ s) (told-whole s (refused-fits (c .before .before .before .before .before .before .before .before .before .before .args .number)) (c .before .before .before .before .before .before .refused-line .ensures) (c .before .before .clear-from .ensures))))

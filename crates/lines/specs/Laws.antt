@@ -1,0 +1,177 @@
+-- What the proofs need of numbers, lines and texts, and that a decimal reads back as its number. Assumes nothing.
+use Prim.Native.Nat.{ℕ, zero, suc, _+_, _*_, _-_, _/_, _%_, _^_, _≤_, _<_}
+use native.Mathlib.Nat.{pow-suc, zero-add}
+use native.Mathlib.Numerals.{add-one}
+use native.Mathlib.Decide.{decLt}
+use native.Mathlib.Omega.{arith}
+use mathlib.Core.List.{List, [], _∷_, _++_, append-nil}
+use mathlib.Core.Path.{_≡_, refl, sym, ap, _∙_}
+use lib.ListN.{length, getD, drop, replicate, length-append, length-replicate, drop-of-length-le}
+use lib.Seq.{drop-cons}
+use lib.Dec.{ltb, eqb}
+use Rattle.cells.specs.Choice.{pick}
+use Rattle.cells.specs.Tests.{when-is, chosen-below, chosen-from, tests}
+use Rattle.rom.specs.Sizes.{textSize}
+use Rattle.memory.specs.Window.{partOf}
+use Rattle.memory.specs.Writing.{writtenOf, clearedOf}
+use Rattle.memory.specs.Laws.{written-append, written-is, length-written}
+use Rattle.tree.specs.Held.{Property, ownerOf, nameSize, valueSize, heldFrom}
+use Rattle.tree.specs.Whole.{parentOf}
+use Rattle.tree.specs.declared.tree.Tree.{Tree}
+use Rattle.lines.specs.Digits.{digit, decimalFrom, decimalOf, hexDigit, hexOf}
+use Rattle.lines.specs.Lines.{shown, nodeLine, propertyLine, ownLines, nodeLines}
+use Rattle.lines.specs.Told.{told, filled, toldAs}
+use Rattle.lines.specs.Wrote.{Wrote}
+
+-- a number of one digit, and the last digit of another
+pub decimal-one : (k n : ℕ) → n < 10 → decimalFrom (suc k) n ≡ digit n ∷ []
+unfolding decimalFrom
+decimal-one k n h = chosen-below (digit n ∷ []) (decimalFrom k (n / 10) ++ (digit (n % 10) ∷ [])) n 10 h
+
+pub decimal-last : (k n : ℕ) → 10 ≤ n → decimalFrom (suc k) n ≡ decimalFrom k (n / 10) ++ (digit (n % 10) ∷ [])
+unfolding decimalFrom
+decimal-last k n h = chosen-from (digit n ∷ []) (decimalFrom k (n / 10) ++ (digit (n % 10) ∷ [])) n 10 h
+
+pub length-decimal : (k n : ℕ) → length (decimalFrom k n) ≤ k
+unfolding decimalFrom
+length-decimal zero n = omega arith
+length-decimal (suc k) n =
+    when-is (λ z. length z ≤ suc k) (ltb n 10) (digit n ∷ []) (decimalFrom k (n / 10) ++ (digit (n % 10) ∷ [])) (λ t. omega arith)
+    (λ t.
+    let l = length-append (decimalFrom k (n / 10)) (digit (n % 10) ∷ []) in
+    let i = length-decimal k (n / 10) in
+    omega arith)
+
+-- a number that has at most so many digits is written the same where more were allowed
+decimal-wider : (k n : ℕ) → n < 10 ^ suc k → decimalFrom (suc (suc k)) n ≡ decimalFrom (suc k) n
+decimal-wider zero n h = decimal-one 1 n h ∙ sym (decimal-one 0 n h)
+decimal-wider (suc k) n h =
+    elim (decLt n 10) [
+      | yes l ↦ decimal-one (suc (suc k)) n l ∙ sym (decimal-one (suc k) n l)
+      | no l ↦ let p = pow-suc 10 (suc k) in
+          decimal-last (suc (suc k)) n (omega arith) ∙ rw (decimal-wider k (n / 10) (omega arith)) (sym (decimal-last (suc k) n (omega arith)))
+    ]
+
+-- so a number of 32 bits is its tenth's digits, and its last
+pub decimal-more : (n : ℕ) → 10 ≤ n → n < 4294967296 → decimalOf n ≡ decimalOf (n / 10) ++ (digit (n % 10) ∷ [])
+decimal-more n h g = decimal-last 9 n h ∙ rw (decimal-wider 8 (n / 10) (omega arith))
+
+pub length-more : (n : ℕ) → 10 ≤ n → n < 4294967296 → length (decimalOf n) ≡ length (decimalOf (n / 10)) + 1
+length-more n h g = ap length (decimal-more n h g) ∙ length-append (decimalOf (n / 10)) (digit (n % 10) ∷ [])
+
+-- what a reader makes of decimal digits
+unfoldable pub readFrom : ℕ → List ℕ → ℕ
+readFrom so [] = so
+readFrom so (d ∷ ds) = readFrom (so * 10 + (d - 0x30)) ds
+
+read-append : (so : ℕ) (xs ys : List ℕ) → readFrom so (xs ++ ys) ≡ readFrom (readFrom so xs) ys
+unfolding readFrom
+read-append so [] ys = refl
+read-append so (x ∷ xs) ys = read-append (so * 10 + (x - 0x30)) xs ys
+
+-- the digits of a number read back as the number
+pub reads-back : (k n : ℕ) → n < 10 ^ k → readFrom 0 (decimalFrom k n) ≡ n
+unfolding decimalFrom readFrom
+reads-back zero n h = omega arith
+reads-back (suc k) n h =
+    when-is (λ z. readFrom 0 z ≡ n) (ltb n 10) (digit n ∷ []) (decimalFrom k (n / 10) ++ (digit (n % 10) ∷ [])) (λ t. omega arith)
+    (λ t.
+    let p = pow-suc 10 k in
+    read-append 0 (decimalFrom k (n / 10)) (digit (n % 10) ∷ []) ∙ rw (reads-back k (n / 10) (omega arith)) (omega arith))
+
+pub decimal-reads : (n : ℕ) → n < 4294967296 → readFrom 0 (decimalOf n) ≡ n
+decimal-reads n h = reads-back 10 n (omega arith)
+
+first-of : (xs ys : List ℕ) (n : ℕ) → n < getD xs 0 0 → getD (xs ++ ys) 0 0 ≡ getD xs 0 0
+first-of [] ys n h = absurd (omega arith)
+first-of (x ∷ xs) ys n h = refl
+
+-- and have no zero in front, but for the number 0
+pub no-zero-first : (k n : ℕ) → 0 < n → n < 10 ^ k → 0x30 < getD (decimalFrom k n) 0 0
+unfolding decimalFrom
+no-zero-first zero n z h = absurd (omega arith)
+no-zero-first (suc k) n z h =
+    when-is (λ x. 0x30 < getD x 0 0) (ltb n 10) (digit n ∷ []) (decimalFrom k (n / 10) ++ (digit (n % 10) ∷ [])) (λ t. omega arith)
+    (λ t.
+    let p = pow-suc 10 k in
+    let i = no-zero-first k (n / 10) (omega (arith, tests)) (omega arith) in
+    rw (first-of (decimalFrom k (n / 10)) (digit (n % 10) ∷ []) 0x30 i) i)
+
+-- hexadecimal digits, a byte more
+abbrev pub hexPair : ℕ → List ℕ
+hexPair b = hexDigit (b / 16) ∷ hexDigit (b % 16) ∷ []
+
+pub hex-more : (value : List ℕ) (k : ℕ) → k < length value → hexOf (drop k value) ≡ hexPair (getD value k 0) ++ hexOf (drop (k + 1) value)
+unfolding hexOf
+hex-more value k h = rw (drop-cons value k 0 h, add-one k)
+
+pub hex-none : (value : List ℕ) (k : ℕ) → length value ≤ k → hexOf (drop k value) ≡ []
+unfolding hexOf
+hex-none value k h = rw (drop-of-length-le value {i = k} h)
+
+pub length-hex : (value : List ℕ) → length (hexOf value) ≡ 2 * length value
+unfolding hexOf
+length-hex [] = refl
+length-hex (b ∷ bs) = let i = length-hex bs in omega arith
+
+-- a value that is empty, and one that is not
+pub shown-none : (value : List ℕ) → length value ≡ 0 → shown value ≡ []
+shown-none [] e = refl
+shown-none (b ∷ bs) e = absurd (omega arith)
+
+pub shown-some : (value : List ℕ) → (length value ≡ 0 → ⊥) → shown value ≡ 0x20 ∷ hexOf value
+shown-some [] n = absurd (n refl)
+shown-some (b ∷ bs) n = refl
+
+-- what is left of a walk over the records, and over the nodes
+module _ (t : Tree) (store : List ℕ) where
+  -- what a record adds to the lines of a node
+  abbrev pub ownLine : ℕ → ℕ → ℕ → List ℕ
+  ownLine i at node = pick (eqb (ownerOf t i) node) (propertyLine (partOf store at (nameSize t i)) (partOf store (at + nameSize t i) (valueSize t i))) []
+
+  -- the same, of lengths that were read and parts between places
+  pub line-at : (i at node n v : ℕ) → n ≡ nameSize t i → v ≡ valueSize t i
+      → pick (eqb (ownerOf t i) node) (propertyLine (partOf store at (at + n - at)) (partOf store (at + n) (at + n + v - (at + n)))) [] ≡ ownLine i at node
+  line-at i at node n v e f =
+      let x : at + n - at ≡ n = omega arith in
+      let y : at + n + v - (at + n) ≡ v = omega arith in
+      rw (x, y, e, f)
+
+  pub own-more : (k i at node n : ℕ) → i < n → k ≡ n - i
+      → ownLines (heldFrom t store k i at) node
+      ≡ ownLine i at node ++ ownLines (heldFrom t store (n - (i + 1)) (i + 1) (at + nameSize t i + valueSize t i)) node
+  unfolding heldFrom ownLines
+  own-more k i at node n h e = let f : k ≡ suc (n - (i + 1)) = omega arith in rw f
+
+  pub own-none : (k i at node : ℕ) → k ≡ 0 → ownLines (heldFrom t store k i at) node ≡ []
+  unfolding heldFrom ownLines
+  own-none k i at node e = rw e
+
+module _ (t : Tree) (ps : List Property) where
+  pub nodes-more : (m k n : ℕ) → k < n → m ≡ n - k
+      → nodeLines t ps m k ≡ nodeLine k (parentOf t k) ++ (ownLines ps k ++ nodeLines t ps (n - (k + 1)) (k + 1))
+  unfolding nodeLines
+  nodes-more m k n h e = let f : m ≡ suc (n - (k + 1)) = omega arith in rw f
+
+  pub nodes-none : (m k : ℕ) → m ≡ 0 → nodeLines t ps m k ≡ []
+  unfolding nodeLines
+  nodes-none m k e = rw e
+
+-- a text from the start, and zeros behind it
+pub cleared-text : (m words : List ℕ) → length m ≡ textSize → length words ≤ textSize → clearedOf (writtenOf m 0 words) (length words) ≡ filled words
+cleared-text m words e h =
+    let n = textSize - length words in
+    let z : List ℕ = replicate n 0 in
+    let l = length-append words z in
+    let r : length z ≡ n = length-replicate n 0 in
+    let f : length (words ++ z) ≡ textSize = omega arith in
+    let w = rw (zero-add (length words)) at (written-append m 0 words z) in
+    let d : drop (0 + length (words ++ z)) m ≡ [] = drop-of-length-le m {i = 0 + length (words ++ z)} (omega arith) in
+    rw (length-written m 0 words, e) (sym w ∙ written-is m 0 (words ++ z) (omega arith) ∙ rw d (append-nil (words ++ z)))
+
+-- so a text that was written whole, and cleared behind, is told
+pub told-whole : {m n k : List ℕ} {end : ℕ} {words : List ℕ} → length m ≡ textSize → length words ≤ textSize → Wrote m n 0 end words → k ≡ clearedOf n end
+    → told end k ≡ toldAs words
+told-whole {m} {words = words} s f w e =
+    let p : _ ≡ length words = w .place ∙ zero-add (length words) in
+    rw (e, w .text, p) (ap (λ (t : List ℕ). told (length words) t) (cleared-text m words s f))

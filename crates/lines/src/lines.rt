@@ -1,0 +1,134 @@
+// The listing's lines, each written into a text from a place on; the place behind is given.
+ghost use Prim.Native.Nat.{_≤_};
+ghost use mathlib.Core.Path.{_≡_};
+ghost use lib.Dec.{eqb};
+ghost use lib.ListN.{length};
+ghost use mathlib.Core.List.{[]};
+ghost use Rattle.cells.specs.Choice.{pick};
+ghost use Rattle.tree.specs.Held.{heldOf, liveOf};
+ghost use Rattle.lines.specs.Lines.{shown as Lines·shown, nodeLine, propertyLine, ownLines, nodeLines, stepsLine, refusedLine, closingLine};
+ghost use Rattle.lines.specs.Wrote.{Fits, Wrote};
+use crate::digits::decimal;
+use crate::digits::hex;
+use crate::words::letter;
+use crate::words::say;
+use tree::Tree;
+
+fn wide(x: u32) -> usize
+    ensures { λ r. ⌜ r ≡ x ⌝ }
+{
+    x as usize
+}
+
+fn node_line(text: &mut [u8], at: usize, k: u32, parent: u32) -> usize
+    requires { ⌜ Fits at (nodeLine k parent) ⌝ }
+    ensures { λ r. ⌜ Wrote (now (text .entry)) (now (text .exit)) at r (nodeLine k parent) ⌝ }
+{
+    let at = say(text, at, b"node ");
+    let at = decimal(text, at, k);
+    let at = say(text, at, b" parent ");
+    let at = decimal(text, at, parent);
+    letter(text, at, b'\n')
+}
+
+// A value behind its name; an empty one shows nothing, not even the space.
+fn shown(text: &mut [u8], at: usize, value: &[u8]) -> usize
+    requires { ⌜ Fits at (Lines·shown (now value)) ⌝ }
+    ensures { λ r. ⌜ Wrote (now (text .entry)) (now (text .exit)) at r (Lines·shown (now (value .entry))) ⌝ }
+{
+    if value.len() == 0 {
+        return at;
+    }
+    let at = letter(text, at, b' ');
+    hex(text, at, value)
+}
+
+fn property_line(text: &mut [u8], at: usize, name: &[u8], value: &[u8]) -> usize
+    requires { ⌜ Fits at (propertyLine (now name) (now value)) ⌝ }
+    ensures { λ r. ⌜ Wrote (now (text .entry)) (now (text .exit)) at r (propertyLine (now (name .entry)) (now (value .entry))) ⌝ }
+{
+    let at = say(text, at, name);
+    let at = shown(text, at, value);
+    letter(text, at, b'\n')
+}
+
+// A property's line where its owner is the node, else nothing.
+fn own_line(text: &mut [u8], at: usize, owner: u32, node: u32, name: &[u8], value: &[u8]) -> usize
+    requires { ⌜ Fits at (pick (eqb owner node) (propertyLine (now name) (now value)) []) ⌝ }
+    ensures { λ r. ⌜ Wrote (now (text .entry)) (now (text .exit)) at r
+        (pick (eqb owner node) (propertyLine (now (name .entry)) (now (value .entry))) []) ⌝ }
+{
+    if owner != node {
+        return at;
+    }
+    property_line(text, at, name, value)
+}
+
+// The properties of a node, in store order: a record's name and value stand behind those of the record before it.
+fn own_lines(text: &mut [u8], at: usize, store: &[u8], tree: Tree, node: u32) -> usize
+    requires { ⌜ Fits at (ownLines (heldOf tree (now store)) node) × (tree .held ≤ 128) × (liveOf tree ≤ length (now store)) ⌝ }
+    ensures { λ r. ⌜ Wrote (now (text .entry)) (now (text .exit)) at r (ownLines (heldOf tree (now (store .entry))) node) ⌝ }
+{
+    let mut end = at;
+    let mut i = 0;
+    let mut name = 0;
+    while i < tree.held {
+        let value = name + wide(tree.names[i]);
+        let next = value + wide(tree.values[i]);
+        end = own_line(
+            text,
+            end,
+            tree.owners[i],
+            node,
+            &store[name..value],
+            &store[value..next],
+        );
+        name = next;
+        i += 1;
+    }
+    end
+}
+
+pub fn node_lines(text: &mut [u8], at: usize, store: &[u8], tree: Tree) -> usize
+    requires { ⌜ Fits at (nodeLines tree (heldOf tree (now store)) (tree .nodes) 0) × (tree .nodes ≤ 32) × (tree .held ≤ 128)
+        × (liveOf tree ≤ length (now store)) ⌝ }
+    ensures { λ r. ⌜ Wrote (now (text .entry)) (now (text .exit)) at r (nodeLines tree (heldOf tree (now (store .entry))) (tree .nodes) 0) ⌝ }
+{
+    let mut end = at;
+    let mut k = 0;
+    while k < tree.nodes {
+        let own = node_line(text, end, k as u32, tree.parents[k]);
+        end = own_lines(text, own, store, tree, k as u32);
+        k += 1;
+    }
+    end
+}
+
+pub fn steps_line(text: &mut [u8], at: usize, steps: u32) -> usize
+    requires { ⌜ Fits at (stepsLine steps) ⌝ }
+    ensures { λ r. ⌜ Wrote (now (text .entry)) (now (text .exit)) at r (stepsLine steps) ⌝ }
+{
+    let at = say(text, at, b"steps ");
+    let at = decimal(text, at, steps);
+    letter(text, at, b'\n')
+}
+
+pub fn refused_line(text: &mut [u8], at: usize, number: u32) -> usize
+    requires { ⌜ Fits at (refusedLine number) ⌝ }
+    ensures { λ r. ⌜ Wrote (now (text .entry)) (now (text .exit)) at r (refusedLine number) ⌝ }
+{
+    let at = say(text, at, b"refused ");
+    let at = decimal(text, at, number);
+    letter(text, at, b'\n')
+}
+
+// How a run ended: 0 is a finish.
+pub fn closing_line(text: &mut [u8], at: usize, number: u32) -> usize
+    requires { ⌜ Fits at (closingLine number) ⌝ }
+    ensures { λ r. ⌜ Wrote (now (text .entry)) (now (text .exit)) at r (closingLine number) ⌝ }
+{
+    if number == 0 {
+        return say(text, at, b"done\n");
+    }
+    refused_line(text, at, number)
+}
