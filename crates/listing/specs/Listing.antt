@@ -1,0 +1,65 @@
+-- The listing of a ROM: "A refused run ends with "refused" and its number in place of "done"; .. a refused ROM prints only that line, 31 included." The
+-- sizes of the buffers are tested first, then the header and the height rules, and then the ROM is opened and run. Work memory and store are as they
+-- were wherever the ROM is not run. Assumes nothing.
+use Prim.Native.Nat.{ℕ}
+use mathlib.Core.Bool.{Bool, not, _||_}
+use mathlib.Core.List.{List}
+use mathlib.Core.Path.{_≡_}
+use lib.ListN.{length}
+use lib.Dec.{eqb}
+use Rattle.cells.specs.Choice.{pick}
+use Rattle.rom.specs.Sizes.{marksSize}
+use Rattle.state.specs.Scene.{scene, Turn, numberOf}
+use Rattle.state.specs.Step.{wrongSize}
+use Rattle.state.specs.Open.{openOf}
+use Rattle.state.specs.Run.{Outcome, runOf}
+use Rattle.screen.specs.Screen.{screenedOf}
+use Rattle.screen.specs.declared.screening.Verdict.{Verdict}
+use Rattle.screen.specs.declared.screening.Verdict.the-variants.{Passes, Refused}
+use Rattle.lines.specs.Lines.{refusedLine, runText}
+use Rattle.lines.specs.Told.{filled, wrongText}
+
+-- the text's length, and what each lent buffer holds then
+pub record Listed : Type 0 where
+  pub size : ℕ
+  pub marks : List ℕ
+  pub work : List ℕ
+  pub store : List ℕ
+  pub text : List ℕ
+
+abbrev pub listed : ℕ → List ℕ → List ℕ → List ℕ → List ℕ → Listed
+listed size marks work store text = record { size = size; marks = marks; work = work; store = store; text = text }
+
+-- a text in its buffer, zeros behind it
+abbrev pub listedAs : List ℕ → List ℕ → List ℕ → List ℕ → Listed
+listedAs words marks work store = listed (length words) marks work store (filled words)
+
+-- 6: "a lent buffer has the wrong size"
+abbrev pub wrongBuffer : List ℕ → List ℕ → List ℕ → Bool
+wrongBuffer marks work store = not (eqb (length marks) marksSize) || wrongSize work store
+
+-- the run of a ROM from its opening on
+abbrev pub startedOf : List ℕ → Turn → ℕ → Outcome
+startedOf rom opened budget = runOf budget (scene rom (opened .work) (opened .store) (opened .state))
+
+abbrev pub runWords : Outcome → List ℕ
+runWords o = runText (o .state .tree) (o .store) (o .count) (numberOf (o .answer))
+
+-- the part of it that the run leaves
+abbrev pub ListedRun : Outcome → ℕ → List ℕ → List ℕ → List ℕ → Type 0
+ListedRun o size work store text = (size ≡ length (runWords o)) × (work ≡ o .work) × (store ≡ o .store) × (text ≡ filled (runWords o))
+
+abbrev pub ranAs : List ℕ → Outcome → Listed
+ranAs marks o = listedAs (runWords o) marks (o .work) (o .store)
+
+-- by the screen's verdict, with the marks that it left
+abbrev pub judgedAs : Verdict → List ℕ → List ℕ → List ℕ → List ℕ → ℕ → Listed
+judgedAs (Refused why) marks rom work store budget = listedAs (refusedLine why) marks work store
+judgedAs Passes marks rom work store budget = ranAs marks (startedOf rom (openOf rom work store) budget)
+
+-- a text buffer of the wrong size gets nothing written, here and anywhere else
+unfoldable pub listOf : List ℕ → List ℕ → List ℕ → List ℕ → ℕ → List ℕ → Listed
+listOf rom marks work store budget text =
+    pick (wrongText text) (listed 0 marks work store text)
+    (pick (wrongBuffer marks work store) (listedAs (refusedLine 6) marks work store)
+    (judgedAs (screenedOf rom marks .verdict) (screenedOf rom marks .marks) rom work store budget))
