@@ -1,0 +1,29 @@
+-- What the C host is handed back: numbers and bytes alone. 0 stands for a ROM that passes and for a run that finishes, 28 for a spent budget, and every
+-- other number for the refusal that document 01 gives it. Assumes nothing.
+use Prim.Native.Nat.{ℕ}
+use mathlib.Core.List.{List}
+use lib.Dec.{eqb}
+use Rattle.cells.specs.Choice.{pick}
+use Rattle.state.specs.Scene.{numberOf}
+use Rattle.state.specs.Open.{openRefusal, openOf}
+use Rattle.state.specs.Run.{Outcome}
+use Rattle.listing.specs.Listing.{startedOf}
+
+-- a run that the host asked for: its number, the tokens carried out, and the two memories then
+pub record HostRun : Type 0 where
+  pub number : ℕ
+  pub steps : ℕ
+  pub work : List ℕ
+  pub store : List ℕ
+
+abbrev pub hostRun : ℕ → ℕ → List ℕ → List ℕ → HostRun
+hostRun number steps work store = record { number = number; steps = steps; work = work; store = store }
+
+abbrev pub ranAs : Outcome → HostRun
+ranAs o = hostRun (numberOf (o .answer)) (o .count) (o .work) (o .store)
+
+-- opened, and run from there; a refused opening carries nothing out and leaves the memories as they were
+unfoldable pub hostRunOf : List ℕ → List ℕ → List ℕ → ℕ → HostRun
+hostRunOf rom work store budget =
+    pick (eqb (openRefusal rom work store) 0) (ranAs (startedOf rom (openOf rom work store) budget))
+    (hostRun (openRefusal rom work store) 0 work store)

@@ -1,0 +1,337 @@
+/* A C program over include/fcode.h: each of the four calls with good ROMs, bad ROMs, buffers of the wrong size and no ROM at all, and the listing of every worked
+ * case. Every answer is compared, and so is every byte of every buffer: what a refused call must leave as it was, and what stands before and behind a buffer,
+ * which no call may touch. */
+#include "fcode.h"
+
+#include <stdio.h>
+#include <stdlib.h>
+#include <string.h>
+
+#define GUARD 64
+#define ROOM (FCODE_TEXT_SIZE + 1)
+
+/* a buffer to lend, inside bytes that are not lent */
+struct lent {
+    uint8_t bytes[GUARD + ROOM + GUARD];
+    size_t size;
+};
+
+static struct lent marks, work, store, text;
+static uint8_t rom[16385];
+static size_t rom_len;
+static uint32_t steps;
+static unsigned good, bad;
+
+static void expect(int holds, int line, const char *what) {
+    if (holds) {
+        good++;
+        return;
+    }
+    bad++;
+    printf("host.c:%d: not so: %s\n", line, what);
+}
+#define EXPECT(fact) expect((fact), __LINE__, #fact)
+
+/* bytes that no call would write by chance */
+static uint8_t filler(size_t i) { return (uint8_t)(i * 7 + 0x5B); }
+
+static void lend(struct lent *b, size_t size) {
+    b->size = size;
+    for (size_t i = 0; i < sizeof b->bytes; i++) b->bytes[i] = filler(i);
+}
+
+static uint8_t *at(struct lent *b) { return b->bytes + GUARD; }
+
+/* nothing was written, or nothing outside what was lent */
+static int untouched(const struct lent *b) {
+    for (size_t i = 0; i < sizeof b->bytes; i++)
+        if (b->bytes[i] != filler(i)) return 0;
+    return 1;
+}
+
+static int within(const struct lent *b) {
+    for (size_t i = 0; i < sizeof b->bytes; i++)
+        if ((i < GUARD || GUARD + b->size <= i) && b->bytes[i] != filler(i)) return 0;
+    return 1;
+}
+
+/* the bytes given, and zeros behind them to the buffer's end, and nothing outside it */
+static int holds(const struct lent *b, const void *bytes, size_t n) {
+    if (b->size < n || memcmp(b->bytes + GUARD, bytes, n) != 0) return 0;
+    for (size_t i = n; i < b->size; i++)
+        if (b->bytes[GUARD + i] != 0) return 0;
+    return within(b);
+}
+
+static void lend_all(size_t m, size_t w, size_t s, size_t t) {
+    lend(&marks, m);
+    lend(&work, w);
+    lend(&store, s);
+    lend(&text, t);
+    steps = 0xDEADBEEF;
+}
+
+static void lend_right(void) { lend_all(FCODE_MARKS_SIZE, FCODE_WORK_SIZE, FCODE_STORE_SIZE, FCODE_TEXT_SIZE); }
+
+/* a ROM with a good header around these bytes */
+static void burn(const void *body, size_t n) {
+    uint32_t sum = 0;
+    memcpy(rom + 8, body, n);
+    for (size_t i = 0; i < n; i++) sum += rom[8 + i];
+    rom_len = 8 + n;
+    rom[0] = 0xFD;
+    rom[1] = 0x08;
+    rom[2] = (uint8_t)(sum >> 8);
+    rom[3] = (uint8_t)sum;
+    rom[4] = 0;
+    rom[5] = 0;
+    rom[6] = (uint8_t)(rom_len >> 8);
+    rom[7] = (uint8_t)rom_len;
+}
+#define BURN(body) burn((body), sizeof(body) - 1)
+
+static uint32_t check(void) { return fcode_check(rom, rom_len); }
+
+static uint32_t screen(void) { return fcode_screen(rom, rom_len, at(&marks), marks.size); }
+
+static uint32_t run(uint32_t budget) {
+    return fcode_run(rom, rom_len, at(&work), work.size, at(&store), store.size, budget, &steps);
+}
+
+static size_t list(uint32_t budget) {
+    return fcode_list(rom, rom_len, at(&marks), marks.size, at(&work), work.size, at(&store), store.size, budget, at(&text), text.size);
+}
+
+/* the listing is these lines */
+static int prints(uint32_t budget, const char *lines) { return list(budget) == strlen(lines) && holds(&text, lines, strlen(lines)); }
+
+/* document 01's scale board, and others of its bench */
+#define SCALE "\x12\x05scale\x02\x01\xA8\x01\x11\x12\x05lanes\x01\x10\x00"
+#define EMPTIES "\x46\x00"
+#define DIVIDES "\xA6\xA5\x2B\x00"
+#define CIRCLES "\x13\xFF\x00"
+#define NODES "screen pass\nnode 0 parent 0\nnode 1 parent 0\n"
+
+static void checks(void) {
+    BURN(SCALE);
+    EXPECT(rom[2] == 0x05 && rom[3] == 0x17 && rom_len == 0x1E);
+    EXPECT(check() == 0);
+    rom[2] = rom[3] = 0;
+    EXPECT(check() == 5);
+    rom[7] = 0x1F;
+    EXPECT(check() == 4);
+    rom[7] = 0x08;
+    EXPECT(check() == 4);
+    rom[1] = 0x09;
+    EXPECT(check() == 3);
+    rom[0] = 0xF0;
+    EXPECT(check() == 2);
+    EXPECT(fcode_check(rom, 7) == 1);
+    EXPECT(fcode_check(rom, sizeof rom) == 1);
+    EXPECT(fcode_check(rom, 0) == 1);
+    EXPECT(fcode_check(NULL, 0) == 1);
+}
+
+static void screens(void) {
+    uint8_t heights[30] = {0};
+    heights[8] = 1;
+    heights[15] = 3;
+    heights[17] = 1;
+    heights[18] = 2;
+    heights[20] = 3;
+    heights[27] = 5;
+    heights[29] = 1;
+
+    BURN(SCALE);
+    lend_right();
+    EXPECT(screen() == 0);
+    EXPECT(holds(&marks, heights, sizeof heights));
+
+    BURN(EMPTIES);
+    lend_right();
+    EXPECT(screen() == 31);
+    EXPECT(holds(&marks, "", 0));
+
+    /* the header's refusals leave the marks as they were */
+    rom[3] ^= 1;
+    lend_right();
+    EXPECT(screen() == 5);
+    EXPECT(untouched(&marks));
+    EXPECT(fcode_screen(NULL, 0, at(&marks), marks.size) == 1);
+    EXPECT(untouched(&marks));
+
+    /* a wrong size comes before them */
+    for (size_t size = FCODE_MARKS_SIZE - 1; size <= FCODE_MARKS_SIZE + 1; size += 2) {
+        lend_all(size, 0, 0, 0);
+        EXPECT(screen() == 6);
+        EXPECT(untouched(&marks));
+    }
+    EXPECT(fcode_screen(NULL, 0, NULL, 0) == 6);
+}
+
+static void runs(void) {
+    static const char properties[] = "namescale\0lanes\0\0\0\3";
+
+    BURN(SCALE);
+    lend_right();
+    EXPECT(run(100000) == 0);
+    EXPECT(steps == 7);
+    EXPECT(holds(&work, "\0\0\0\3", 4));
+    EXPECT(holds(&store, properties, sizeof properties - 1));
+
+    lend_right();
+    EXPECT(run(7) == 0);
+    EXPECT(steps == 7);
+
+    lend_right();
+    EXPECT(run(3) == 28);
+    EXPECT(steps == 3);
+    EXPECT(holds(&work, "", 0));
+    EXPECT(holds(&store, properties, 10));
+
+    /* opened, and no token carried out */
+    lend_right();
+    EXPECT(run(0) == 28);
+    EXPECT(steps == 0);
+    EXPECT(holds(&work, "", 0));
+    EXPECT(holds(&store, "", 0));
+
+    BURN(EMPTIES);
+    lend_right();
+    EXPECT(run(100000) == 14);
+    EXPECT(steps == 0);
+
+    BURN(DIVIDES);
+    lend_right();
+    EXPECT(run(100000) == 21);
+    EXPECT(steps == 2);
+
+    BURN(CIRCLES);
+    lend_right();
+    EXPECT(run(1000) == 28);
+    EXPECT(steps == 1000);
+
+    /* a refused opening leaves both memories as they were, and carries nothing out */
+    rom[3] ^= 1;
+    lend_right();
+    EXPECT(run(1000) == 5);
+    EXPECT(steps == 0);
+    EXPECT(untouched(&work) && untouched(&store));
+    steps = 1;
+    EXPECT(fcode_run(NULL, 0, at(&work), work.size, at(&store), store.size, 1000, &steps) == 1);
+    EXPECT(steps == 0);
+    EXPECT(untouched(&work) && untouched(&store));
+
+    for (size_t off = 0; off <= 2; off += 2) {
+        lend_all(0, FCODE_WORK_SIZE - 1 + off, FCODE_STORE_SIZE, 0);
+        EXPECT(run(1000) == 6);
+        EXPECT(steps == 0);
+        EXPECT(untouched(&work) && untouched(&store));
+        lend_all(0, FCODE_WORK_SIZE, FCODE_STORE_SIZE - 1 + off, 0);
+        EXPECT(run(1000) == 6);
+        EXPECT(steps == 0);
+        EXPECT(untouched(&work) && untouched(&store));
+    }
+}
+
+static void lists(void) {
+    BURN(SCALE);
+    lend_right();
+    EXPECT(prints(100000, NODES "name 7363616C6500\nlanes 00000003\nsteps 7\ndone\n"));
+    EXPECT(at(&marks)[8] == 1 && at(&marks)[9] == 0 && within(&marks));
+    EXPECT(holds(&work, "\0\0\0\3", 4));
+    EXPECT(at(&store)[0] == 'n' && within(&store));
+    lend_right();
+    EXPECT(prints(3, NODES "name 7363616C6500\nsteps 3\nrefused 28\n"));
+
+    /* a value of no bytes; a node below node 1 */
+    BURN("\x12\x00\x12\x06ranges\x01\x10\x00");
+    lend_right();
+    EXPECT(prints(100000, NODES "ranges\nsteps 4\ndone\n"));
+    BURN("\x01\x1F\x12\x03pan\x02\x01\x01\x27\x00");
+    lend_right();
+    EXPECT(prints(100000, NODES "node 2 parent 1\nname 70616E00\nsteps 5\ndone\n"));
+
+    /* a run that is refused; one that would not end */
+    BURN(DIVIDES);
+    lend_right();
+    EXPECT(prints(100000, NODES "steps 2\nrefused 21\n"));
+    BURN(CIRCLES);
+    lend_right();
+    EXPECT(prints(100000, NODES "steps 100000\nrefused 28\n"));
+
+    /* a ROM that is refused is not run */
+    BURN(EMPTIES);
+    lend_right();
+    EXPECT(prints(100000, "refused 31\n"));
+    EXPECT(holds(&marks, "", 0));
+    EXPECT(untouched(&work) && untouched(&store));
+    rom[3] ^= 1;
+    lend_right();
+    EXPECT(prints(100000, "refused 5\n"));
+    EXPECT(untouched(&marks) && untouched(&work) && untouched(&store));
+    rom_len = 0;
+    lend_right();
+    EXPECT(prints(100000, "refused 1\n"));
+    EXPECT(untouched(&marks) && untouched(&work) && untouched(&store));
+    lend_right();
+    EXPECT(fcode_list(NULL, 0, at(&marks), marks.size, at(&work), work.size, at(&store), store.size, 1, at(&text), text.size) == 10);
+    EXPECT(holds(&text, "refused 1\n", 10));
+
+    /* buffers of the wrong size, each alone, before anything else is said of the ROM */
+    for (size_t off = 0; off <= 2; off += 2) {
+        size_t size = FCODE_MARKS_SIZE - 1 + off;
+        for (int which = 0; which < 3; which++) {
+            lend_all(which == 0 ? size : FCODE_MARKS_SIZE, which == 1 ? size : FCODE_WORK_SIZE, which == 2 ? size : FCODE_STORE_SIZE, FCODE_TEXT_SIZE);
+            EXPECT(prints(100000, "refused 6\n"));
+            EXPECT(untouched(&marks) && untouched(&work) && untouched(&store));
+        }
+        BURN(SCALE);
+        lend_all(FCODE_MARKS_SIZE, FCODE_WORK_SIZE, FCODE_STORE_SIZE, FCODE_TEXT_SIZE - 1 + off);
+        EXPECT(list(100000) == 0);
+        EXPECT(untouched(&marks) && untouched(&work) && untouched(&store) && untouched(&text));
+    }
+    EXPECT(fcode_list(NULL, 0, NULL, 0, NULL, 0, NULL, 0, 0, NULL, 0) == 0);
+}
+
+/* two hexadecimal digits as a byte, or -1 */
+static int byte_at(const char *p) {
+    unsigned byte;
+    return strspn(p, "0123456789ABCDEF") >= 2 && sscanf(p, "%2x", &byte) == 1 ? (int)byte : -1;
+}
+
+/* the worked cases as tests/listings.py prints them: a ROM and a budget, the listing's lines, a dot */
+static void cases(const char *name) {
+    static char line[80000], lines[FCODE_TEXT_SIZE + 1];
+    FILE *file = fopen(name, "r");
+    unsigned count = 0;
+    EXPECT(file != NULL);
+    while (file != NULL && fgets(line, sizeof line, file) != NULL) {
+        const char *p = line + (line[0] == '-');
+        for (rom_len = 0; byte_at(p) >= 0 && rom_len < sizeof rom; p += 2) rom[rom_len++] = (uint8_t)byte_at(p);
+        uint32_t budget = (uint32_t)strtoul(p, NULL, 10);
+        lines[0] = 0;
+        while (fgets(line, sizeof line, file) != NULL && strcmp(line, ".\n") != 0) strncat(lines, line, sizeof lines - 1 - strlen(lines));
+        lend_right();
+        int good_case = prints(budget, lines);
+        if (!good_case) printf("worked case %u prints \"%s\"\n", count, (const char *)at(&text));
+        EXPECT(good_case);
+        EXPECT(within(&marks) && within(&work) && within(&store));
+        count++;
+    }
+    EXPECT(count > 0);
+}
+
+int main(int words, char **word) {
+    if (words != 2) {
+        fprintf(stderr, "usage: host CASES, which tests/listings.py prints\n");
+        return 2;
+    }
+    checks();
+    screens();
+    runs();
+    lists();
+    cases(word[1]);
+    printf("tests/host.c: %u as expected, %u not\n", good, bad);
+    return bad != 0;
+}

@@ -1,0 +1,53 @@
+#!/usr/bin/env python3
+"""The listing that each worked case of tests/cases.txt must have, for tests/host.c to compare: a line with the ROM in hex ('-': no bytes) and the budget, the
+listing's lines, and a line with a dot. It is put together here from what the case says of screen, run, steps, nodes and properties.
+
+    python3 tests/listings.py       prints them
+"""
+import pathlib
+
+CASES = pathlib.Path(__file__).parent / "cases.txt"
+
+
+def worked_cases():
+    """Each case: its ROM and budget, and its lines by their first word."""
+    for line in CASES.read_text().splitlines():
+        word, *rest = line.split(" ")
+        if word == "case":
+            rom, budget, told = rest[0], rest[1], {}
+        elif word == ".":
+            yield rom, budget, told
+        else:
+            told.setdefault(word, []).append(rest)
+
+
+def shown(prop):
+    """A property's line: its name, and its value behind it unless that is empty."""
+    _, name, value = prop
+    return bytes.fromhex(name).decode("ascii") + ("" if value == "-" else " " + value)
+
+
+def ending(how):
+    return {"finished": "done", "budget": "refused 28"}.get(how[0]) or " ".join(how)
+
+
+def listing(told):
+    verdict = told["screen"][0][0]
+    if verdict != "0":
+        return [f"refused {verdict}"]
+    lines = ["screen pass"]
+    for node, parent in enumerate(told["nodes"][0][1:]):
+        lines.append(f"node {node} parent {parent}")
+        lines += [shown(prop) for prop in told.get("prop", []) if prop[0] == str(node)]
+    return lines + [f"steps {told['steps'][0][0]}", ending(told["run"][0])]
+
+
+def main():
+    for rom, budget, told in worked_cases():
+        lines = listing(told)
+        assert "." not in lines
+        print(f"{rom} {budget}", *lines, ".", sep="\n")
+
+
+if __name__ == "__main__":
+    main()
