@@ -1,6 +1,6 @@
 #!/bin/sh
-# Runs ./lamp as a person would: good ROMs, refused ones, and files that are no ROM at all. Each line of the list below says what the file
-# holds, what must be printed, what must be said on standard error, and the exit status.
+# Runs ./lamp as a person would: good ROMs, refused ones, budgets, and files that are no ROM at all. Each line of the list below says what is asked,
+# what must be printed, what must be said on standard error, and the exit status.
 set -u
 here=$(cd "$(dirname "$0")/.." && pwd -P)
 room=$(mktemp -d)
@@ -8,16 +8,20 @@ trap 'rm -rf "$room"' EXIT
 passed=0
 failed=0
 
-# expect NAME STATUS STDOUT STDERR: of the file NAME in the room
+# expect STATUS STDOUT STDERR WORD..: of ./lamp with these words, in the room
 expect() {
-    out=$(cd "$room" && "$here/lamp" "$1" 2>"$room/said")
-    status=$?
+    status=$1
+    print=$2
+    say=$3
+    shift 3
+    out=$(cd "$room" && "$here/lamp" "$@" 2>"$room/said")
+    ended=$?
     said=$(sed "s|$room/||" "$room/said")
-    if [ "$status" = "$2" ] && [ "$out" = "$3" ] && [ "$said" = "$4" ]; then
+    if [ "$ended" = "$status" ] && [ "$out" = "$print" ] && [ "$said" = "$say" ]; then
         passed=$((passed + 1))
     else
         failed=$((failed + 1))
-        printf 'lamp %s: status %s, printed "%s", said "%s"\n' "$1" "$status" "$out" "$said"
+        printf 'lamp %s: status %s, printed "%s", said "%s"\n' "$*" "$ended" "$out" "$said"
     fi
 }
 
@@ -37,25 +41,66 @@ bytes "F00805170000001E$scale" >"$room/start.rom"
 bytes "FD0905170000001E$scale" >"$room/format.rom"
 bytes "FD0805170000001F$scale" >"$room/length.rom"
 bytes "FD0805" >"$room/short.rom"
+bytes FD0800460000000A4600 >"$room/empties.rom"
+bytes FD0801760000000CA6A52B00 >"$room/divides.rom"
+bytes FD0801120000000B13FF00 >"$room/circles.rom"
 : >"$room/empty.rom"
 head -c 16385 /dev/zero >"$room/long.rom"
 mkdir "$room/folder.rom"
 
-expect scale.rom 0 'header good' ''
-expect longer.rom 0 'header good' ''
-expect zeroed.rom 1 'refused 5' ''
-expect start.rom 1 'refused 2' ''
-expect format.rom 1 'refused 3' ''
-expect length.rom 1 'refused 4' ''
-expect short.rom 1 'refused 1' ''
-expect empty.rom 2 '' 'empty.rom: empty, no ROM'
-expect long.rom 2 '' 'long.rom: over 16,384 bytes, no ROM'
-expect folder.rom 2 '' 'folder.rom: Is a directory'
-expect missing.rom 2 '' 'missing.rom: No such file or directory'
-expect '' 2 '' 'usage: ./lamp [FILE]'
+nodes='screen pass
+node 0 parent 0
+node 1 parent 0'
+board="$nodes
+name 7363616C6500
+lanes 00000003
+steps 7
+done"
+no_budget=': no budget, which is a number from 0 to 4,294,967,295'
+usage='usage: ./lamp [FILE [BUDGET]]'
 
-out=$("$here/lamp")
-if [ "$out" = 'header good' ]; then passed=$((passed + 1)); else failed=$((failed + 1)); fi
+expect 0 "$board" ''
+expect 0 "$board" '' scale.rom
+expect 0 "$board" '' longer.rom
+expect 0 "$board" '' scale.rom 7
+expect 0 "$board" '' scale.rom 4294967295
+expect 1 "$nodes
+steps 0
+refused 28" '' scale.rom 0
+expect 1 "$nodes
+name 7363616C6500
+lanes 00000003
+steps 6
+refused 28" '' scale.rom 006
+expect 1 "$nodes
+steps 2
+refused 21" '' divides.rom
+expect 1 "$nodes
+steps 100000
+refused 28" '' circles.rom
+expect 1 'refused 31' '' empties.rom
+expect 1 'refused 5' '' zeroed.rom
+expect 1 'refused 2' '' start.rom
+expect 1 'refused 3' '' format.rom
+expect 1 'refused 4' '' length.rom
+expect 1 'refused 1' '' short.rom
+expect 0 "$board" '' - <"$room/scale.rom"
+expect 1 "$nodes
+steps 0
+refused 28" '' - 0 <"$room/scale.rom"
+expect 2 '' 'standard input: empty, no ROM' - </dev/null
+expect 2 '' 'standard input: over 16,384 bytes, no ROM' - <"$room/long.rom"
+expect 2 '' 'empty.rom: empty, no ROM' empty.rom
+expect 2 '' 'long.rom: over 16,384 bytes, no ROM' long.rom
+expect 2 '' 'folder.rom: Is a directory' folder.rom
+expect 2 '' 'missing.rom: No such file or directory' missing.rom
+expect 2 '' "many$no_budget" scale.rom many
+expect 2 '' "-1$no_budget" scale.rom -1
+expect 2 '' "1000x$no_budget" scale.rom 1000x
+expect 2 '' "4294967296$no_budget" scale.rom 4294967296
+expect 2 '' "$usage" ''
+expect 2 '' "$usage" scale.rom ''
+expect 2 '' "$usage" scale.rom 7 7
 
 printf 'tests/lamp.sh: %s as expected, %s not\n' "$passed" "$failed"
 [ "$failed" = 0 ]

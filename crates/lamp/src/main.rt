@@ -1,27 +1,37 @@
-// Reads a ROM from the file that the first argument names, or from standard input where there is none, and prints what the header test
-// says of it: `header good`, or `refused` with its number. What is no ROM to judge gets a line on standard error, and nothing is printed.
+// Reads a ROM from the file that the first argument names, or from standard input where there is none, and prints its listing. The second argument is the
+// budget, 100,000 steps where there is none. What is no ROM to judge, or no budget, gets a line on standard error, and nothing is printed.
+mod budget;
+
+use budget::Budget;
+use budget::budget_of;
 use libc::STDERR_FILENO;
 use libc::STDIN_FILENO;
 use libc::STDOUT_FILENO;
+use listing::list;
+use rom::sizes::MARKS_SIZE;
 use rom::sizes::ROM_MOST;
+use rom::sizes::STORE_SIZE;
+use rom::sizes::TEXT_SIZE;
+use rom::sizes::WORK_SIZE;
 
-fn say(text: &[u8]) {
-    io::write_all(STDOUT_FILENO, text);
-}
+const USUAL_BUDGET: u32 = 100_000;
+
+// One byte more than a ROM may have, so that a longer file is seen to be one.
+const SPACE: usize = ROM_MOST + 1;
 
 fn complain(name: &[u8], why: &[u8]) {
     io::write_all(STDERR_FILENO, name);
     io::write_all(STDERR_FILENO, why);
 }
 
-fn judge(rom: &[u8]) {
-    let verdict = rom::check_header(rom);
-    if verdict == 0 {
-        say(b"header good\n");
-    } else {
-        say(b"refused ");
-        io::print_decimal(STDOUT_FILENO, verdict as u64);
-        say(b"\n");
+fn show(rom: &[u8], budget: u32) {
+    let mut marks = [0u8; MARKS_SIZE];
+    let mut work = [0u8; WORK_SIZE];
+    let mut store = [0u8; STORE_SIZE];
+    let mut text = [0u8; TEXT_SIZE];
+    let n = list(rom, &mut marks, &mut work, &mut store, budget, &mut text);
+    if !io::write_all(STDOUT_FILENO, &text[..n]) {
+        os::fail(b"standard output");
     }
 }
 
@@ -31,10 +41,7 @@ fn ended(fd: i32) -> bool {
     libc::read(fd, &mut more) == 0
 }
 
-// One byte more than a ROM may have, so that a longer file is seen to be one.
-const SPACE: usize = ROM_MOST + 1;
-
-fn run(fd: i32, name: &[u8]) {
+fn judge(fd: i32, name: &[u8], budget: u32) {
     let mut space = [0u8; SPACE];
     let n = io::read_full(fd, &mut space);
     if ROM_MOST < n {
@@ -49,21 +56,46 @@ fn run(fd: i32, name: &[u8]) {
         complain(name, b": empty, no ROM\n");
         return;
     }
-    judge(&space[..n]);
+    show(&space[..n], budget);
+}
+
+fn judge_file(name: &[u8], budget: u32) {
+    let fd = os::open_read(name);
+    if fd < 0 {
+        os::fail(name);
+        return;
+    }
+    judge(fd, name, budget);
+    libc::close(fd);
+}
+
+fn judge_argument(budget: u32) {
+    let mut name = io::buffer();
+    let n = os::arg(1, &mut name);
+    judge_file(&name[..n], budget);
 }
 
 fn main() {
-    if os::arg_count() < 2 {
-        run(STDIN_FILENO, b"standard input");
+    let count = os::arg_count();
+    if count < 2 {
+        judge(STDIN_FILENO, b"standard input", USUAL_BUDGET);
         return;
     }
-    let mut name = io::buffer();
-    let n = os::arg(1, &mut name);
-    let fd = os::open_read(&name[..n]);
-    if fd < 0 {
-        os::fail(&name[..n]);
+    if count < 3 {
+        judge_argument(USUAL_BUDGET);
         return;
     }
-    run(fd, &name[..n]);
-    libc::close(fd);
+    if 3 < count {
+        complain(b"lamp", b": at most a file and a budget\n");
+        return;
+    }
+    let mut word = io::buffer();
+    let n = os::arg(2, &mut word);
+    match budget_of(&word[..n]) {
+        Budget::Steps(steps) => judge_argument(steps),
+        Budget::Unclear => complain(
+            &word[..n],
+            b": no budget, which is a number from 0 to 4,294,967,295\n",
+        ),
+    }
 }
