@@ -1,6 +1,6 @@
 #!/usr/bin/env python3
 """What crates/runs is run on and must print: the worked cases of tests/cases.txt, the bench ROMs of document 01 that only run, every condition of
-refusal 7, and the order of the tests. The worked cases were worked out from document 01 apart from the Rattle code, the rest by hand here.
+refusal 7, the order of the tests, and lookups. The worked cases were worked out from document 01 apart from the Rattle code, the rest by hand here.
 
     python3 tests/runs.py           writes crates/runs/stdin and crates/runs/stdout
     python3 tests/runs.py --check   compares them with what it would write, and exits 1 where they differ
@@ -19,8 +19,12 @@ A case starts with 'case HEXROM BUDGET' ('-': no bytes; paths may stand behind) 
     prop NODE NAME VALUE   a line each, in store order; hex, '-' where empty
     work N SUM             the work place, CRC-32 of the 16,384 work bytes
     store SUM              CRC-32 of the 16,384 store bytes
+    find PATH N            N the refusal; or 'node K'; or 'value HEX'; the path in hex, with ':' and a property's name behind it the property
 
-The lines screen, marks and find belong to calls that crates/runs does not make.
+The lines screen and marks belong to calls that crates/runs does not make. Before the lookups it prints the node table, which is worked out here from the
+lines nodes and prop:
+
+    rows P:C ...           each node's parent and count of properties
 """
 import pathlib
 import sys
@@ -30,7 +34,7 @@ import written
 
 TESTS = pathlib.Path(__file__).parent
 RUNS = TESTS.parent / "crates" / "runs"
-NOT_RUN = ("screen", "marks", "find")
+NOT_RUN = ("screen", "marks")
 
 
 def with_header(program):
@@ -48,12 +52,21 @@ def worked_cases():
     for line in (TESTS / "cases.txt").read_text().splitlines():
         word = line.split(" ")[0]
         if word == "case":
-            rom, budget = line.split(" ")[1:3]
-            asked, told = f"R {rom.replace('-', '')} {budget}", []
+            rom, *rest = line.split(" ")[1:]
+            asked, told = " ".join(["R", rom.replace("-", ""), *rest]), []
         elif word == ".":
             yield asked, told
         elif word not in NOT_RUN:
             told.append(line)
+            if word == "store":
+                told.append(rows(told))
+
+
+def rows(told):
+    """The node table, by the lines nodes and prop."""
+    parents = next(line for line in told if line.startswith("nodes ")).split(" ")[2:]
+    owners = [line.split(" ")[1] for line in told if line.startswith("prop ")]
+    return " ".join(["rows", *(f"{parent}:{owners.count(str(node))}" for node, parent in enumerate(parents))])
 
 
 def left(answer, steps, place, data=(), back=(), frames="", numbers="", nodes="1 0 0", props=(), work_place=0, work=b"", store=b""):
@@ -65,7 +78,8 @@ def left(answer, steps, place, data=(), back=(), frames="", numbers="", nodes="1
     lines.append(f"numbers {numbers}".rstrip())
     lines.append(f"nodes {nodes}")
     lines += [f"prop {prop}" for prop in props]
-    return lines + [f"work {work_place} {crc(work)}", f"store {crc(store)}"]
+    lines += [f"work {work_place} {crc(work)}", f"store {crc(store)}"]
+    return lines + [rows(lines)]
 
 
 SCALE = bytes.fromhex("FD0805170000001E12057363616C650201A8011112056C616E6573011000")
@@ -145,8 +159,14 @@ WHOLE = 99
 OF_A_FINISHED = (0, 1, 2, 3, 4, 5, 6, 7, 8, 9, 10, 13, 14, 21, 22, 23, 25, 26, 27)
 
 
+# Those in the tree are what a lookup, of a node and of a property, and the node table refuse too, and the table's columns are then as they were.
+IN_THE_TREE = (5, 6, 7, 8, 9, 10, 21, 22, 23, 24, 25, 26, 27)
+NOT_FOUND = "lookups 30 30 0"
+REFUSED_LOOKUPS = "lookups 7 7 7 kept kept"
+
+
 def refused_state(k):
-    return [f"damaged {k} step refused 7 run refused 7 steps 0 unchanged"]
+    return [REFUSED_LOOKUPS if k in IN_THE_TREE else NOT_FOUND, f"damaged {k} step refused 7 run refused 7 steps 0 unchanged"]
 
 
 def damages():
@@ -155,8 +175,8 @@ def damages():
         yield f"D {k:02} {calls} 14", refused_state(k)
     for k in OF_A_FINISHED:
         yield f"D {k:02} {scale} 100000", refused_state(k)
-    yield f"D {WHOLE} {calls} 14", [f"damaged {WHOLE} step going run finished steps 10 changed"]
-    yield f"D {WHOLE} {scale} 100000", [f"damaged {WHOLE} step finished run finished steps 0 unchanged"]
+    yield f"D {WHOLE} {calls} 14", [NOT_FOUND, f"damaged {WHOLE} step going run finished steps 10 changed"]
+    yield f"D {WHOLE} {scale} 100000", [NOT_FOUND, f"damaged {WHOLE} step finished run finished steps 0 unchanged"]
 
 
 # States and buffers with more than one thing wrong, in the order in which crates/runs offers them, and what the step and the run say: each of 6, 1,
@@ -185,11 +205,91 @@ OPENINGS = (
 def orders():
     lines = [f"order {k} {told}" for k, (_, told) in enumerate(ORDERS)]
     lines += [f"opening {told}" for _, told in OPENINGS]
+    # a store one byte short and one byte long, a damaged tree, a bad path, a good one: a node and a property each
+    lines.append("lookup order 6 6 6 6 7 7 29 29 30 30")
+    # 31 parents, 33 counts, a damaged tree: each column as it was
+    lines.append("table order 6 kept kept 6 kept kept 7 kept kept")
     yield f"O {CALLS.hex().upper()} 14", lines
 
 
+NEW, FINISH = bytes.fromhex("011F"), bytes.fromhex("0127")
+
+
+def text(content):
+    return bytes([0x12, len(content)]) + content
+
+
+def device_name(name):
+    return text(name) + bytes.fromhex("0201")
+
+
+def put(name, value):
+    return text(value) + text(name) + bytes.fromhex("0110")
+
+
+# Node 1 is "a" and has the children 2 "b", 3 "b" again with a child 4 "c", 5 "d" by a name without a null, 6 "x" and two nulls, 7 with the name of
+# no bytes, 8 without a name, and 9 "a/b"; node 1 has the properties "empty" and "v" beside its name.
+FAMILY = (
+    (device_name(b"a"), ("1", b"name", b"a\0")),
+    (put(b"empty", b""), ("1", b"empty", b"")),
+    (put(b"v", b"\x12\x34"), ("1", b"v", b"\x12\x34")),
+    (NEW + device_name(b"b") + FINISH, ("2", b"name", b"b\0")),
+    (NEW + device_name(b"b"), ("3", b"name", b"b\0")),
+    (NEW + device_name(b"c") + FINISH + FINISH, ("4", b"name", b"c\0")),
+    (NEW + put(b"name", b"d") + FINISH, ("5", b"name", b"d")),
+    (NEW + put(b"name", b"x\0\0") + FINISH, ("6", b"name", b"x\0\0")),
+    (NEW + device_name(b"") + FINISH, ("7", b"name", b"\0")),
+    (NEW + FINISH, None),
+    (NEW + device_name(b"a/b") + FINISH, ("9", b"name", b"a/b\0")),
+)
+FINDS = (
+    (b"/", None, "node 0"),
+    (b"/a", None, "node 1"),
+    (b"/a/b", None, "node 2"),
+    (b"/a/b/c", None, "30"),  # the older "b" has no child, and there is no going back
+    (b"/a/d", None, "node 5"),
+    (b"/a/d\0", None, "30"),
+    (b"/a/x", None, "30"),
+    (b"/a/x\0", None, "node 6"),
+    (b"/a/\0", None, "30"),
+    (b"/a/a", None, "30"),
+    (b"/b", None, "30"),
+    (b"", None, "29"),
+    (b"a", None, "29"),
+    (b"a/b", None, "29"),
+    (b"//", None, "29"),
+    (b"/a/", None, "29"),
+    (b"//a", None, "29"),
+    (b"/a//b", None, "29"),
+    (b"/q//b", None, "29"),  # the form is judged before anything is looked for
+    (b"/a", b"v", "value 1234"),
+    (b"/a", b"empty", "value -"),
+    (b"/a", b"name", "value 6100"),
+    (b"/a/b", b"name", "value 6200"),
+    (b"/a/d", b"name", "value 64"),
+    (b"/a", b"w", "30"),
+    (b"/a", b"", "30"),
+    (b"/a", b"v" * 32, "30"),
+    (b"/a/q", b"v", "30"),
+    (b"/", b"name", "30"),
+    (b"/a/", b"v", "29"),
+)
+
+
+def lookups():
+    """A tree in which names are alike, and lookups by every form of a path."""
+    rom = with_header(b"".join(tokens for tokens, _ in FAMILY) + b"\0")
+    asked = [path.hex().upper() + ("" if name is None else ":" + name.hex().upper()) for path, name, _ in FINDS]
+    held = [made for _, made in FAMILY if made]
+    props = [f"{node} {name.hex().upper()} {value.hex().upper() or '-'}" for node, name, value in held]
+    steps = 1 + sum(tokens.count(NEW) + tokens.count(FINISH) for tokens, _ in FAMILY) + sum(2 if b"\x02\x01" in tokens else 3 for tokens, made in FAMILY if made)
+    told = left("finished", steps, len(rom), nodes="1 0 0 1 1 3 1 1 1 1 1", props=props, store=b"".join(name + value for _, name, value in held))
+    told += [f"find {word} {found}" for word, (_, _, found) in zip(asked, FINDS)]
+    yield " ".join([f"R {rom.hex().upper()} 1000", *asked]), told
+
+
 def cases():
-    for part in (worked_cases, bench_roms, calls_open, damages, orders):
+    for part in (worked_cases, bench_roms, calls_open, damages, orders, lookups):
         yield from part()
 
 

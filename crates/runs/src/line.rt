@@ -3,14 +3,14 @@ ghost use Prim.Native.Nat.{_+_, _<_, _≤_, _^_};
 ghost use lib.ListN.{length};
 ghost use Rattle.io.specs.Counts.{Counts};
 
-// Where the line from a place on ends.
-pub fn end_of(text: &[u8], from: usize) -> usize
+// Where a mark stands next, from a place on; where the text ends if it does not.
+pub fn mark_from(text: &[u8], from: usize, mark: u8) -> usize
     requires { ⌜ from ≤ length (now text) ⌝ }
     ensures { λ r. ⌜ (from ≤ r) × (r ≤ length (now (text .entry))) ⌝ }
 {
     let mut at = from;
     while at < text.len() {
-        if text[at] == b'\n' {
+        if text[at] == mark {
             return at;
         }
         at += 1;

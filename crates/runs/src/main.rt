@@ -1,8 +1,9 @@
-// Opens ROMs, runs them, and shows all that is left: a line of standard input each, by its first letter. Behind R stand a ROM in hex and a budget,
-// behind Z how many zero bytes a ROM has, behind D a number of two digits, a ROM and a budget: the state then is damaged in the way that has this
+// Opens ROMs, runs them, and shows all that is left: a line of standard input each, by its first letter. Behind R stand a ROM in hex and a budget, and then words for lookups in what
+// the run left, behind Z how many zero bytes a ROM has, behind D a number of two digits, a ROM and a budget: the state then is damaged in the way that has this
 // number, and offered again. Behind O stand a ROM and a budget, for the order in which the tests of a step and a run come.
 mod damage;
 mod evaluator;
+mod finds;
 mod line;
 mod orders;
 mod same;
@@ -15,25 +16,35 @@ ghost use Prim.Native.Nat.{_≤_, _<_};
 ghost use lib.ListN.{length};
 use crate::line::bytes_from;
 use crate::line::digits_at;
-use crate::line::end_of;
+use crate::line::mark_from;
 use crate::orders::show_orders;
 use crate::say::say;
 use crate::trial::show_damaged;
 use crate::trial::show_run;
 use libc::STDIN_FILENO;
 
-// R: a ROM and a budget.
+// R: a ROM and a budget, and the lookups to make then.
 fn one_run(line: &[u8]) {
     let mut space = [0u8; 2048];
     let n = bytes_from(line, 2, &mut space);
-    show_run(&space[..n], digits_at(line, n + n + 3));
+    let budget = digits_at(line, n + n + 3);
+    show_run(&space[..n], budget, words_from(line, n + n + 3));
+}
+
+// What stands behind the word at a place, from its space on.
+fn words_from(line: &[u8], from: usize) -> &[u8] {
+    if line.len() < from {
+        return &line[..0];
+    }
+    let space = mark_from(line, from, b' ');
+    &line[space..]
 }
 
 // Z: a ROM of zeros.
 fn one_long(line: &[u8]) {
     let space = [0u8; 16400];
     let n = io::count(digits_at(line, 2) as isize, &space);
-    show_run(&space[..n], 0);
+    show_run(&space[..n], 0, b"");
 }
 
 // D: a damaged state.
@@ -65,7 +76,7 @@ fn all_lines(text: &[u8])
 {
     let mut at = 0;
     while at < text.len() {
-        let end = end_of(text, at);
+        let end = mark_from(text, at, b'\n');
         one_line(&text[at..end]);
         at = end + 1;
     }

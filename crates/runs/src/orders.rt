@@ -2,6 +2,7 @@
 use crate::damage::damaged;
 use crate::evaluator::open;
 use crate::evaluator::run;
+use crate::finds::show_lookup_orders;
 use crate::same::same_states;
 use crate::say::say;
 use crate::say::say_number;
@@ -122,4 +123,5 @@ pub fn show_orders(rom: &[u8], budget: u32) {
     show_ends(rom, state, ran.state);
     show_opening(&rom[..0]);
     show_opening(rom);
+    show_lookup_orders(state);
 }

@@ -3,6 +3,9 @@ use crate::damage::damaged;
 use crate::evaluator::open;
 use crate::evaluator::run;
 use crate::evaluator::step;
+use crate::finds::show_damaged_finds;
+use crate::finds::show_finds;
+use crate::finds::show_rows;
 use crate::same::same_states;
 use crate::say::say;
 use crate::say::say_number;
@@ -36,11 +39,21 @@ fn show_counted(answer: Answer, count: u32) {
     say_one(b'\n');
 }
 
-fn show_opened(rom: &[u8], work: &mut [u8], store: &mut [u8], state: State, budget: u32) {
+fn show_opened(
+    rom: &[u8],
+    work: &mut [u8],
+    store: &mut [u8],
+    state: State,
+    budget: u32,
+    words: &[u8],
+) {
     let ran = run(rom, &mut *work, &mut *store, state, budget);
     let answer = ran.answer;
+    let left = ran.state;
     show_counted(answer, ran.count);
-    show_state(ran.state, &*work, &*store);
+    show_state(left, &*work, &*store);
+    show_rows(left.tree);
+    show_finds(&*store, left.tree, words);
 }
 
 fn show_unopened(answer: Answer) {
@@ -54,15 +67,15 @@ fn show_unopened(answer: Answer) {
     }
 }
 
-// Opens and runs. The buffers are not zero before: opening zeroes them.
-pub fn show_run(rom: &[u8], budget: u32) {
+// Opens and runs, and looks up what the words say. The buffers are not zero before: opening zeroes them.
+pub fn show_run(rom: &[u8], budget: u32, words: &[u8]) {
     let mut work = [0xA5u8; 16384];
     let mut store = [0x5Au8; 16384];
     let opened = open(rom, &mut work, &mut store);
     let answer = opened.answer;
     let state = opened.state;
     match answer {
-        Answer::Going => show_opened(rom, &mut work, &mut store, state, budget),
+        Answer::Going => show_opened(rom, &mut work, &mut store, state, budget, words),
         _ => show_unopened(answer),
     }
 }
@@ -120,7 +133,9 @@ pub fn show_damaged(k: u32, rom: &[u8], budget: u32) {
     let mut work = [0u8; 16384];
     let mut store = [0u8; 16384];
     let state = state_after(rom, &mut work, &mut store, budget);
+    let bad = damaged(k, state);
+    show_damaged_finds(&store, bad.tree);
     say(b"damaged");
     say_number(k as u64);
-    show_tried(rom, &mut work, &mut store, damaged(k, state), 1000);
+    show_tried(rom, &mut work, &mut store, bad, 1000);
 }

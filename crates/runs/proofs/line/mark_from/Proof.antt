@@ -2,17 +2,17 @@
 use Prim.Native.Nat.{_-_, _≤_}
 use lib.ListN.{length}
 use borrow.Author.Needs.{needs}
-use Rattle.runs.proofs.line.end_of.Statement.{statement}
-use Rattle.runs.proofs.line.end_of.Tie as tie
+use Rattle.runs.proofs.line.mark_from.Statement.{statement}
+use Rattle.runs.proofs.line.mark_from.Tie as tie
 
 abbrev Inv-loop : tie.InvT-loop
-Inv-loop text from at₀ at = (from ≤ at) × (at ≤ length text)
+Inv-loop text from mark at₀ at = (from ≤ at) × (at ≤ length text)
 
 abbrev μ-loop : tie.MeasureT-loop
-μ-loop text from at₀ at = length text - at
+μ-loop text from mark at₀ at = length text - at
 
-pub end-of-spec : {M : Type 1} → statement M
-end-of-spec =
+pub mark-from-spec : {M : Type 1} → statement M
+mark-from-spec =
     tie.close
     (tie.spec
     Inv-loop
