@@ -9,7 +9,7 @@ use Rattle.state.specs.Scene.{scene, Turn, told, numberOf}
 use Rattle.state.specs.Open.{openRefusal, openOf}
 use Rattle.state.specs.Run.{runOf, toldRan}
 use Rattle.listing.specs.Listing.{startedOf}
-use Rattle.host.specs.Host.{hostRun, ranAs, hostRunOf}
+use Rattle.host.specs.Host.{hostRun, hostRan, hostRunOf}
 use Rattle.state.specs.declared.answer.Stepped.{Stepped}
 use Rattle.state.specs.declared.answer.Ran.{Ran}
 
@@ -47,4 +47,4 @@ module _ (rom work store : List ℕ) (budget : ℕ) (r : Stepped) (w s : List �
   unfolding hostRunOf
   host-ran z x v u f m q =
       let p : openRefusal rom work store ≡ 0 = sym opened-number ∙ sym answer-is ∙ z in
-      rw (eq-eqb (openRefusal rom work store) 0 p, q) (ap ranAs f ∙ ap (λ (t : Turn). ranAs (startedOf rom t budget)) e)
+      rw (eq-eqb (openRefusal rom work store) 0 p, q) (ap hostRan f ∙ ap (λ (t : Turn). hostRan (startedOf rom t budget)) e)

@@ -19,11 +19,11 @@ pub record HostRun : Type 0 where
 abbrev pub hostRun : ℕ → ℕ → List ℕ → List ℕ → HostRun
 hostRun number steps work store = record { number = number; steps = steps; work = work; store = store }
 
-abbrev pub ranAs : Outcome → HostRun
-ranAs o = hostRun (numberOf (o .answer)) (o .count) (o .work) (o .store)
+abbrev pub hostRan : Outcome → HostRun
+hostRan o = hostRun (numberOf (o .answer)) (o .count) (o .work) (o .store)
 
 -- opened, and run from there; a refused opening carries nothing out and leaves the memories as they were
 unfoldable pub hostRunOf : List ℕ → List ℕ → List ℕ → ℕ → HostRun
 hostRunOf rom work store budget =
-    pick (eqb (openRefusal rom work store) 0) (ranAs (startedOf rom (openOf rom work store) budget))
+    pick (eqb (openRefusal rom work store) 0) (hostRan (startedOf rom (openOf rom work store) budget))
     (hostRun (openRefusal rom work store) 0 work store)

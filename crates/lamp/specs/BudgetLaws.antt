@@ -7,7 +7,7 @@ use mathlib.Core.Path.{_≡_, refl}
 use lib.ListN.{length, getD, drop, drop-of-length-le}
 use lib.Seq.{drop-cons}
 use borrow.Author.Tests.{le-leb, lt-leb, lt-ltb, le-ltb}
-use Rattle.rom.specs.Words.{bytesOf}
+use Rattle.rom.specs.Words.{lettersOf}
 use Rattle.lamp.specs.Budget.{most, stepsFrom, budgetOf}
 use Rattle.lamp.specs.declared.budget.Budget.the-variants.{Steps, Unclear}
 
@@ -44,22 +44,22 @@ budget-some [] n = absurd (n refl)
 budget-some (b ∷ bs) n = refl
 
 -- words of every kind, run
-usual : budgetOf (bytesOf "100000") ≡ Steps 100000
-unfolding stepsFrom bytesOf
+usual : budgetOf (lettersOf "100000") ≡ Steps 100000
+unfolding stepsFrom lettersOf
 usual = refl
 
-zeros-in-front : budgetOf (bytesOf "007") ≡ Steps 7
-unfolding stepsFrom bytesOf
+zeros-in-front : budgetOf (lettersOf "007") ≡ Steps 7
+unfolding stepsFrom lettersOf
 zeros-in-front = refl
 
-the-most : budgetOf (bytesOf "4294967295") ≡ Steps 4294967295
-unfolding stepsFrom bytesOf
+the-most : budgetOf (lettersOf "4294967295") ≡ Steps 4294967295
+unfolding stepsFrom lettersOf
 the-most = refl
 
-one-more : budgetOf (bytesOf "4294967296") ≡ Unclear
-unfolding stepsFrom bytesOf
+one-more : budgetOf (lettersOf "4294967296") ≡ Unclear
+unfolding stepsFrom lettersOf
 one-more = refl
 
-a-sign : budgetOf (bytesOf "-1") ≡ Unclear
-unfolding stepsFrom bytesOf
+a-sign : budgetOf (lettersOf "-1") ≡ Unclear
+unfolding stepsFrom lettersOf
 a-sign = refl

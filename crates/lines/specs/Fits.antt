@@ -10,7 +10,7 @@ use lib.Dec.{eqb}
 use borrow.Author.Tests.{ne-eqb}
 use Rattle.cells.specs.Tests.{pick-is, tests}
 use Rattle.rom.specs.Sizes.{textSize}
-use Rattle.rom.specs.Words.{bytesOf}
+use Rattle.rom.specs.Words.{lettersOf}
 use Rattle.memory.specs.Window.{partOf}
 use Rattle.tree.specs.Held.{Property, heldFrom, heldOf, liveAmong, liveFrom, nameSize, valueSize}
 use Rattle.tree.specs.Whole.{wholeTree, parentOf}
@@ -22,18 +22,18 @@ use Rattle.lines.specs.Laws.{length-decimal, length-hex}
 
 -- the lines that are made of words and numbers
 pub length-node-line : (k parent : ℕ) → length (nodeLine k parent) ≡ 14 + length (decimalOf k) + length (decimalOf parent)
-unfolding nodeLine bytesOf
+unfolding nodeLine lettersOf
 length-node-line k parent =
-    let a = length-append (decimalOf k) (bytesOf " parent " ++ (decimalOf parent ++ lineEnd)) in
+    let a = length-append (decimalOf k) (lettersOf " parent " ++ (decimalOf parent ++ lineEnd)) in
     let b = length-append (decimalOf parent) lineEnd in
     omega arith
 
 pub length-steps-line : (n : ℕ) → length (stepsLine n) ≡ 7 + length (decimalOf n)
-unfolding stepsLine bytesOf
+unfolding stepsLine lettersOf
 length-steps-line n = let a = length-append (decimalOf n) lineEnd in omega arith
 
 pub length-refused-line : (n : ℕ) → length (refusedLine n) ≡ 9 + length (decimalOf n)
-unfolding refusedLine bytesOf
+unfolding refusedLine lettersOf
 length-refused-line n = let a = length-append (decimalOf n) lineEnd in omega arith
 
 pub refused-fits : (number : ℕ) → length (refusedLine number) ≤ textSize
@@ -43,7 +43,7 @@ refused-fits number =
     omega arith
 
 closing-fits : (number : ℕ) → length (closingLine number) ≤ 19
-unfolding bytesOf
+unfolding lettersOf
 closing-fits number =
     let a = length-refused-line number in
     let d = length-decimal 10 number in
@@ -130,14 +130,14 @@ nodes-fit t ps (suc n) k =
 pub length-run-text : (t : Tree) (store : List ℕ) (steps number : ℕ)
     → length (runText t store steps number)
     ≡ 12 + length (nodeLines t (heldOf t store) (t .nodes) 0) + length (stepsLine steps) + length (closingLine number)
-unfolding runText bytesOf
+unfolding runText lettersOf
 length-run-text t store steps number =
     let a = length-append (nodeLines t (heldOf t store) (t .nodes) 0) (stepsLine steps ++ closingLine number) in
     let b = length-append (stepsLine steps) (closingLine number) in
     omega arith
 
-pub fits : (t : Tree) (store : List ℕ) (steps number : ℕ) → wholeTree t ≡ true → length (runText t store steps number) ≤ textSize
-fits t store steps number w =
+pub text-most : (t : Tree) (store : List ℕ) (steps number : ℕ) → wholeTree t ≡ true → length (runText t store steps number) ≤ 34160
+text-most t store steps number w =
     let f = whole-facts t w .nodes in
     let ps = heldOf t store in
     let a = length-run-text t store steps number in
@@ -148,3 +148,6 @@ fits t store steps number w =
     let g = length-decimal 10 steps in
     let h = closing-fits number in
     omega (arith, f .nodes-most, f .held-most, f .live-most)
+
+pub fits : (t : Tree) (store : List ℕ) (steps number : ℕ) → wholeTree t ≡ true → length (runText t store steps number) ≤ textSize
+fits t store steps number w = let m = text-most t store steps number w in omega arith

@@ -5,7 +5,7 @@ use Prim.Native.Nat.{ℕ, zero, suc, _+_}
 use mathlib.Core.List.{List, [], _∷_, _++_}
 use lib.Dec.{eqb}
 use Rattle.cells.specs.Choice.{pick}
-use Rattle.rom.specs.Words.{bytesOf}
+use Rattle.rom.specs.Words.{lettersOf}
 use Rattle.tree.specs.Held.{Property, heldOf}
 use Rattle.tree.specs.Whole.{parentOf}
 use Rattle.tree.specs.declared.tree.Tree.{Tree}
@@ -16,7 +16,7 @@ lineEnd = 10 ∷ []
 
 -- "node 1 parent 0"
 unfoldable pub nodeLine : ℕ → ℕ → List ℕ
-nodeLine k parent = bytesOf "node " ++ (decimalOf k ++ (bytesOf " parent " ++ (decimalOf parent ++ lineEnd)))
+nodeLine k parent = lettersOf "node " ++ (decimalOf k ++ (lettersOf " parent " ++ (decimalOf parent ++ lineEnd)))
 
 -- a value behind its name
 abbrev pub shown : List ℕ → List ℕ
@@ -39,21 +39,21 @@ nodeLines t ps (suc n) k = nodeLine k (parentOf t k) ++ (ownLines ps k ++ nodeLi
 
 -- "steps 7"
 unfoldable pub stepsLine : ℕ → List ℕ
-stepsLine n = bytesOf "steps " ++ (decimalOf n ++ lineEnd)
+stepsLine n = lettersOf "steps " ++ (decimalOf n ++ lineEnd)
 
 -- "refused 31"
 unfoldable pub refusedLine : ℕ → List ℕ
-refusedLine number = bytesOf "refused " ++ (decimalOf number ++ lineEnd)
+refusedLine number = lettersOf "refused " ++ (decimalOf number ++ lineEnd)
 
 abbrev pub doneLine : List ℕ
-doneLine = bytesOf "done" ++ lineEnd
+doneLine = lettersOf "done" ++ lineEnd
 
 -- how a run ended, by document 01's number for it: 0 is a finish
 abbrev pub closingLine : ℕ → List ℕ
 closingLine number = pick (eqb number 0) doneLine (refusedLine number)
 
 abbrev pub passLine : List ℕ
-passLine = bytesOf "screen pass" ++ lineEnd
+passLine = lettersOf "screen pass" ++ lineEnd
 
 -- all of it, for a ROM that passed and whose run left this tree and store, carried out so many tokens and ended so
 unfoldable pub runText : Tree → List ℕ → ℕ → ℕ → List ℕ

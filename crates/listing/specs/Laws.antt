@@ -55,7 +55,6 @@ module _ (rom work store : List ℕ) (budget : ℕ) (h : headerOf rom ≡ 0) (a 
       → ListedRun ran n v u then
   listed-run o w s e x v u f m q text then n z g =
       let r : toldRan x v u ≡ ran = f ∙ ap (λ (t : Turn). startedOf rom t budget) e in
-      let k : toldRan x v u .answer ≡ ran .answer = ap (λ (y : Outcome). y .answer) r in
       let l : Left (toldRan x v u) = subst Left (sym r) left in
       let t : told n then ≡ toldAs (runWords (toldRan x v u)) = g ∙ run-told text (toldRan x v u) m z l ∙ ap (λ (j : ℕ). toldAs (runText (x .state .tree) u (x .count) j)) q in
       let d : told n then ≡ toldAs (runWords ran) = t ∙ ap (λ (y : Outcome). toldAs (runWords y)) r in

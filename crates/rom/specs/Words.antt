@@ -4,6 +4,6 @@ use Prim.Native.Char.{code}
 use Prim.Native.String.{String, [], _∷_}
 use mathlib.Core.List.{List, [] as none, _∷_ as first}
 
-unfoldable pub bytesOf : String → List ℕ
-bytesOf [] = none
-bytesOf (c ∷ s) = first (code c) (bytesOf s)
+unfoldable pub lettersOf : String → List ℕ
+lettersOf [] = none
+lettersOf (c ∷ s) = first (code c) (lettersOf s)

@@ -1,5 +1,5 @@
-// The house sizes of document 01, the first place of a program, which stands behind the header, and the size of the listing's text. specs/Sizes.antt has the same names for
-// the definitions, and `house_sizes` shows that the two agree.
+// The house sizes of document 01, the first place of a program, which stands behind the header, and the size of the listing's text. specs/Sizes.antt has
+// the same names for the definitions, and `house_sizes` shows that the two agree.
 ghost use mathlib.Core.Path.{_≡_};
 ghost use Rattle.rom.specs.Sizes.{house as Sizes·house};
 

@@ -5,7 +5,6 @@ pub mod Property
 pub mod Steps
 pub mod Path
 pub mod Rows
-pub mod PathExamples
 pub mod Laws
 pub mod Layout
 pub mod PathLaws

@@ -9,7 +9,7 @@ use lib.ListN.{length}
 use lib.Dec.{ltb, eqb}
 use Rattle.cells.specs.Choice.{pick}
 use Rattle.rom.specs.Sizes.{storeSize}
-use Rattle.rom.specs.Words.{bytesOf}
+use Rattle.rom.specs.Words.{lettersOf}
 use Rattle.tree.specs.Held.{Property, nameSize, valueSize, heldOf, matches, sameBytes}
 use Rattle.tree.specs.Whole.{parentOf, wholeTree}
 use Rattle.tree.specs.Steps.{foundFrom}
@@ -67,7 +67,7 @@ calledWith (some value) part = sameBytes (lessNull value) part
 
 -- whether a node's "name" is a part of a path; a node without one is found by no path
 abbrev pub isCalled : Tree → List ℕ → ℕ → List ℕ → Bool
-isCalled t store k part = calledWith (valueIn (heldOf t store) k (bytesOf "name")) part
+isCalled t store k part = calledWith (valueIn (heldOf t store) k (lettersOf "name")) part
 
 -- the oldest child of a node with that name, among so many nodes from node k on
 unfoldable pub childFrom : Tree → List ℕ → ℕ → List ℕ → ℕ → ℕ → Option ℕ

@@ -15,7 +15,6 @@ pub use node::fresh_tree;
 pub use node::new_device;
 pub use node::no_tree;
 pub use property::put_property;
-pub use rows::Row;
 pub use rows::node_table;
 pub use tree::Outcome;
 pub use tree::Tree;

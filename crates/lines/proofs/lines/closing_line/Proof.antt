@@ -1,12 +1,12 @@
 use native.Mathlib.Omega.{arith}
 use borrow.Author.Needs.{needs}
 use borrow.Author.Tests.{eq-eqb, ne-eqb}
-use Rattle.rom.specs.Words.{bytesOf}
+use Rattle.rom.specs.Words.{lettersOf}
 use Rattle.lines.proofs.lines.closing_line.Statement.{statement}
 use Rattle.lines.proofs.lines.closing_line.Tie as tie
 
 pub closing-line-spec : {M : Type 1} → statement M
-unfolding bytesOf
+unfolding lettersOf
 closing-line-spec =
     tie.close
     (tie.spec

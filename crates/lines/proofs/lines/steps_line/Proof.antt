@@ -1,6 +1,6 @@
 use borrow.Author.Needs.{needs}
 use native.Mathlib.Omega.{arith}
-use Rattle.rom.specs.Words.{bytesOf}
+use Rattle.rom.specs.Words.{lettersOf}
 use Rattle.lines.specs.Lines.{stepsLine}
 use Rattle.lines.specs.Fits.{length-steps-line}
 use Rattle.lines.specs.Wrote.{wrote-then}
@@ -8,7 +8,7 @@ use Rattle.lines.proofs.lines.steps_line.Statement.{statement}
 use Rattle.lines.proofs.lines.steps_line.Tie as tie
 
 pub steps-line-spec : {M : Type 1} → statement M
-unfolding stepsLine bytesOf
+unfolding stepsLine lettersOf
 steps-line-spec =
     tie.close
     (tie.spec

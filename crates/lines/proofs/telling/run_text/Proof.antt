@@ -4,7 +4,7 @@ use native.Mathlib.Omega.{arith}
 use denote.Ref.{now}
 use borrow.Author.Needs.{needs}
 use borrow.Author.Tests.{eq-eqb, ne-eqb, not-true, not-false}
-use Rattle.rom.specs.Words.{bytesOf}
+use Rattle.rom.specs.Words.{lettersOf}
 use Rattle.tree.specs.Whole.{wholeTree}
 use Rattle.tree.specs.Laws.{whole-facts}
 use Rattle.lines.specs.Lines.{runText}
@@ -20,7 +20,7 @@ whole : (c : tie.Else3) → wholeTree (c .before .before .before .before .before
 whole c = sym (c .before .is-whole .ensures) ∙ not-false _ (c .if3 .left)
 
 pub run-text-spec : {M : Type 1} → statement M
-unfolding runTold runText bytesOf
+unfolding runTold runText lettersOf
 run-text-spec =
     tie.close
     (tie.spec

@@ -4,7 +4,7 @@ use mathlib.Core.Path.{_≡_, sym, _∙_}
 use native.Mathlib.Nat.{add-sub-cancel-left}
 use denote.Ref.{now}
 use Rattle.memory.specs.Window.{partOf}
-use Rattle.rom.specs.Words.{bytesOf}
+use Rattle.rom.specs.Words.{lettersOf}
 use Rattle.tree.specs.Held.{heldOf, liveOf}
 use Rattle.tree.specs.Path.{valueIn}
 use Rattle.tree.specs.PathLaws.{place-value, place-empty}
@@ -16,15 +16,15 @@ use Rattle.tree.proofs.lookup.is_called.Tie as tie
 named : (c : tie.After-at)
     → let a = c .before .before .before .before .before .before .args in
     let s = c .at .given .0 in
-    (s .0 + s .1 .0 ≤ liveOf (a .tree)) × (valueIn (heldOf (a .tree) (now (a .store))) (a .node) (bytesOf "name") ≡ some (partOf (now (a .store)) (s .0) (s .1 .0)))
-unfolding bytesOf
+    (s .0 + s .1 .0 ≤ liveOf (a .tree)) × (valueIn (heldOf (a .tree) (now (a .store))) (a .node) (lettersOf "name") ≡ some (partOf (now (a .store)) (s .0) (s .1 .0)))
+unfolding lettersOf
 named c =
     let a = c .before .before .before .before .before .before .args in
     let s = c .at .given in
-    place-value (a .tree) (now (a .store)) (a .node) (bytesOf "name") (s .0 .0) (s .0 .1 .0) (sym (c .before .before .place-of .ensures) ∙ s .1)
+    place-value (a .tree) (now (a .store)) (a .node) (lettersOf "name") (s .0 .0) (s .0 .1 .0) (sym (c .before .before .place-of .ensures) ∙ s .1)
 
 pub is-called-spec : {M : Type 1} → statement M
-unfolding bytesOf
+unfolding lettersOf
 is-called-spec =
     tie.close
     (tie.spec
@@ -46,4 +46,4 @@ is-called-spec =
     (λ c.
     let a = c .before .before .before .before .before .before .args in
     let s = c .enum-told .given in
-    rw (place-empty (a .tree) (now (a .store)) (a .node) (bytesOf "name") (s .0 .0) (sym (c .before .before .place-of .ensures) ∙ s .1))))
+    rw (place-empty (a .tree) (now (a .store)) (a .node) (lettersOf "name") (s .0 .0) (sym (c .before .before .place-of .ensures) ∙ s .1))))
