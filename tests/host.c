@@ -1,6 +1,6 @@
 /* A C program over include/fcode.h: each of the four calls with good ROMs, bad ROMs, buffers of the wrong size and no ROM at all, and the listing of every worked
- * case. Every answer is compared, and so is every byte of every buffer: what a refused call must leave as it was, and what stands before and behind a buffer,
- * which no call may touch. */
+ * case. Compared are every answer, every text, every buffer that a refused call must leave as it was, and what stands before and behind a buffer, which no
+ * call may touch. */
 #include "fcode.h"
 
 #include <stdio.h>
@@ -112,6 +112,10 @@ static int prints(uint32_t budget, const char *lines) { return list(budget) == s
 #define CIRCLES "\x13\xFF\x00"
 #define NODES "screen pass\nnode 0 parent 0\nnode 1 parent 0\n"
 
+/* what the scale board leaves: its marks, the height plus one at each token, and its store, name and value of each property */
+static const uint8_t heights[30] = {[8] = 1, [15] = 3, [17] = 1, [18] = 2, [20] = 3, [27] = 5, [29] = 1};
+static const char properties[] = "namescale\0lanes\0\0\0\3";
+
 static void checks(void) {
     BURN(SCALE);
     EXPECT(rom[2] == 0x05 && rom[3] == 0x17 && rom_len == 0x1E);
@@ -133,15 +137,6 @@ static void checks(void) {
 }
 
 static void screens(void) {
-    uint8_t heights[30] = {0};
-    heights[8] = 1;
-    heights[15] = 3;
-    heights[17] = 1;
-    heights[18] = 2;
-    heights[20] = 3;
-    heights[27] = 5;
-    heights[29] = 1;
-
     BURN(SCALE);
     lend_right();
     EXPECT(screen() == 0);
@@ -170,8 +165,6 @@ static void screens(void) {
 }
 
 static void runs(void) {
-    static const char properties[] = "namescale\0lanes\0\0\0\3";
-
     BURN(SCALE);
     lend_right();
     EXPECT(run(100000) == 0);
@@ -182,6 +175,7 @@ static void runs(void) {
     lend_right();
     EXPECT(run(7) == 0);
     EXPECT(steps == 7);
+    EXPECT(holds(&store, properties, sizeof properties - 1));
 
     lend_right();
     EXPECT(run(3) == 28);
@@ -200,16 +194,19 @@ static void runs(void) {
     lend_right();
     EXPECT(run(100000) == 14);
     EXPECT(steps == 0);
+    EXPECT(holds(&work, "", 0) && holds(&store, "", 0));
 
     BURN(DIVIDES);
     lend_right();
     EXPECT(run(100000) == 21);
     EXPECT(steps == 2);
+    EXPECT(holds(&work, "", 0) && holds(&store, "", 0));
 
     BURN(CIRCLES);
     lend_right();
     EXPECT(run(1000) == 28);
     EXPECT(steps == 1000);
+    EXPECT(holds(&work, "", 0) && holds(&store, "", 0));
 
     /* a refused opening leaves both memories as they were, and carries nothing out */
     rom[3] ^= 1;
@@ -217,6 +214,7 @@ static void runs(void) {
     EXPECT(run(1000) == 5);
     EXPECT(steps == 0);
     EXPECT(untouched(&work) && untouched(&store));
+    EXPECT(fcode_run(NULL, 0, NULL, 0, NULL, 0, 1000, &steps) == 6);
     steps = 1;
     EXPECT(fcode_run(NULL, 0, at(&work), work.size, at(&store), store.size, 1000, &steps) == 1);
     EXPECT(steps == 0);
@@ -238,9 +236,9 @@ static void lists(void) {
     BURN(SCALE);
     lend_right();
     EXPECT(prints(100000, NODES "name 7363616C6500\nlanes 00000003\nsteps 7\ndone\n"));
-    EXPECT(at(&marks)[8] == 1 && at(&marks)[9] == 0 && within(&marks));
+    EXPECT(holds(&marks, heights, sizeof heights));
     EXPECT(holds(&work, "\0\0\0\3", 4));
-    EXPECT(at(&store)[0] == 'n' && within(&store));
+    EXPECT(holds(&store, properties, sizeof properties - 1));
     lend_right();
     EXPECT(prints(3, NODES "name 7363616C6500\nsteps 3\nrefused 28\n"));
 
@@ -300,12 +298,13 @@ static int byte_at(const char *p) {
     return strspn(p, "0123456789ABCDEF") >= 2 && sscanf(p, "%2x", &byte) == 1 ? (int)byte : -1;
 }
 
-/* the worked cases as tests/listings.py prints them: a ROM and a budget, the listing's lines, a dot */
+/* the worked cases as tests/listings.py prints them: their count, and for each a ROM and a budget, the listing's lines, a dot */
 static void cases(const char *name) {
     static char line[80000], lines[FCODE_TEXT_SIZE + 1];
     FILE *file = fopen(name, "r");
-    unsigned count = 0;
-    EXPECT(file != NULL);
+    unsigned long count = 0, all = 0;
+    if (file != NULL && fgets(line, sizeof line, file) != NULL) all = strtoul(line, NULL, 10);
+    EXPECT(all > 0);
     while (file != NULL && fgets(line, sizeof line, file) != NULL) {
         const char *p = line + (line[0] == '-');
         for (rom_len = 0; byte_at(p) >= 0 && rom_len < sizeof rom; p += 2) rom[rom_len++] = (uint8_t)byte_at(p);
@@ -314,12 +313,12 @@ static void cases(const char *name) {
         while (fgets(line, sizeof line, file) != NULL && strcmp(line, ".\n") != 0) strncat(lines, line, sizeof lines - 1 - strlen(lines));
         lend_right();
         int good_case = prints(budget, lines);
-        if (!good_case) printf("worked case %u prints \"%s\"\n", count, (const char *)at(&text));
+        if (!good_case) printf("worked case %lu prints \"%s\"\n", count, (const char *)at(&text));
         EXPECT(good_case);
         EXPECT(within(&marks) && within(&work) && within(&store));
         count++;
     }
-    EXPECT(count > 0);
+    EXPECT(count == all);
 }
 
 int main(int words, char **word) {

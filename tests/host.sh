@@ -12,6 +12,7 @@ if ! command -v "$compiler" >/dev/null; then
     esac
 fi
 
+mkdir -p target
 rt staticlib host >target/host.log 2>&1 || { tail -n 5 target/host.log >&2; echo 'tests/host.sh: crate host is not proved' >&2; exit 1; }
 "$compiler" -std=c99 -O2 -Wall -Wextra -Werror -Iinclude -static -o target/host tests/host.c target/staticlib/libhost.a
 

@@ -44,6 +44,9 @@ bytes "FD0805" >"$room/short.rom"
 bytes FD0800460000000A4600 >"$room/empties.rom"
 bytes FD0801760000000CA6A52B00 >"$room/divides.rom"
 bytes FD0801120000000B13FF00 >"$room/circles.rom"
+# a property "refused" in a run that finishes, and one "done" in a run that divides by zero
+bytes FD08032A000000161200120772656675736564011000 >"$room/refused.rom"
+bytes FD0803550000001612001204646F6E650110A6A52B00 >"$room/done.rom"
 : >"$room/empty.rom"
 head -c 16385 /dev/zero >"$room/long.rom"
 mkdir "$room/folder.rom"
@@ -78,6 +81,14 @@ refused 21" '' divides.rom
 expect 1 "$nodes
 steps 100000
 refused 28" '' circles.rom
+expect 0 "$nodes
+refused
+steps 4
+done" '' refused.rom
+expect 1 "$nodes
+done
+steps 5
+refused 21" '' done.rom
 expect 1 'refused 31' '' empties.rom
 expect 1 'refused 5' '' zeroed.rom
 expect 1 'refused 2' '' start.rom

@@ -1,6 +1,6 @@
 #!/usr/bin/env python3
-"""The listing that each worked case of tests/cases.txt must have, for tests/host.c to compare: a line with the ROM in hex ('-': no bytes) and the budget, the
-listing's lines, and a line with a dot. It is put together here from what the case says of screen, run, steps, nodes and properties.
+"""The listing that each worked case of tests/cases.txt must have, for tests/host.c to compare. First a line with the count of cases; then for each case
+a line with the ROM in hex ('-': no bytes) and the budget, the listing's lines, and a line with a dot. It is put together here from what the case says of screen, run, steps, nodes and properties.
 
     python3 tests/listings.py       prints them
 """
@@ -43,7 +43,9 @@ def listing(told):
 
 
 def main():
-    for rom, budget, told in worked_cases():
+    cases = list(worked_cases())
+    print(len(cases))
+    for rom, budget, told in cases:
         lines = listing(told)
         assert "." not in lines
         print(f"{rom} {budget}", *lines, ".", sep="\n")

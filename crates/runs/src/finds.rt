@@ -105,8 +105,11 @@ fn say_rows(parents: &[u32], counts: &[u32], nodes: usize) {
 pub fn show_rows(tree: Tree) {
     let mut parents = [OLD; NODES_MOST];
     let mut counts = [OLD; NODES_MOST];
-    node_table(tree, &mut parents, &mut counts);
+    let why = node_table(tree, &mut parents, &mut counts);
     say(b"rows");
+    if why != 0 {
+        say(b" refused");
+    }
     say_rows(&parents, &counts, tree.nodes);
     if !are_zero(&parents, &counts, tree.nodes) {
         say(b" and rows that are not zero");
@@ -114,15 +117,22 @@ pub fn show_rows(tree: Tree) {
     say_one(b'\n');
 }
 
+fn show_kept_column(rows: &[u32]) {
+    let mut k = 0;
+    while k < rows.len() {
+        if rows[k] != OLD {
+            return;
+        }
+        k += 1;
+    }
+    say(b" kept");
+}
+
 // A table that is refused, with whether its rows are as they were.
 fn show_table(tree: Tree, parents: &mut [u32], counts: &mut [u32]) {
     say_number(node_table(tree, &mut *parents, &mut *counts) as u64);
-    if (word_at(&*parents, 0) == OLD) & (word_at(&*parents, 30) == OLD) {
-        say(b" kept");
-    }
-    if (word_at(&*counts, 0) == OLD) & (word_at(&*counts, 30) == OLD) {
-        say(b" kept");
-    }
+    show_kept_column(&*parents);
+    show_kept_column(&*counts);
 }
 
 // What a lookup and the table say of a damaged state: 7 where the damage is in the tree.

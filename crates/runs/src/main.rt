@@ -1,6 +1,6 @@
-// Opens ROMs, runs them, and shows all that is left: a line of standard input each, by its first letter. Behind R stand a ROM in hex and a budget, and then words for lookups in what
-// the run left, behind Z how many zero bytes a ROM has, behind D a number of two digits, a ROM and a budget: the state then is damaged in the way that has this
-// number, and offered again. Behind O stand a ROM and a budget, for the order in which the tests of a step and a run come.
+// Opens ROMs, runs them, and shows all that is left: a line of standard input each, by its first letter. Behind R stand a ROM in hex, a budget, and words
+// for lookups in what the run left, behind Z how many zero bytes a ROM has, behind D a number of two digits, a ROM and a budget: the state then is
+// damaged in the way that has this number, and offered again. Behind O stand a ROM and a budget, for the order in which the tests of a step and a run come.
 mod damage;
 mod evaluator;
 mod finds;
