@@ -2,7 +2,7 @@
  *
  * Any bytes, lengths and budget may be given. A call ends, touches nothing but the memory that is lent to it, and keeps nothing between calls. The one
  * thing asked of the caller is what C asks: a pointer leads to as many bytes as the length beside it says, buffers that are written to do not overlap
- * each other or the ROM, and `steps` leads to a uint32_t. With the length 0 a pointer is not followed, and may be null.
+ * each other or the ROM, and `steps` leads to a uint32_t outside them. With the length 0 a pointer is not followed, and may be null.
  *
  * The library is for x86-64 Linux and calls nothing but memcpy and memset: no heap, no files. A call may take 200 KB of stack. */
 #ifndef CELESTALAMP_FCODE_H
