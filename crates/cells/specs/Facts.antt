@@ -1,7 +1,8 @@
 -- A test as a fact and as an equation, tests joined and denied, and a choice by a test that is known. Assumes nothing.
+use Prim.Native.Nat.{ℕ}
 use mathlib.Core.Path.{_≡_, refl, sym, subst}
 use mathlib.Core.Bool.{Bool, true, false, not, _&&_, _||_}
-use lib.Dec.{T}
+use lib.Dec.{T, eqb, eqb→eq}
 
 -- ---- a test as a fact, and as an equation
 pub holds : (b : Bool) → b ≡ true → T b
@@ -61,6 +62,15 @@ join-four a b c d s t u v = join-hold (a && b && c) d (join-hold (a && b) c (joi
 pub neither : (a b : Bool) → T (not (a || b)) → T (not a) × T (not b)
 neither true b t = absurd t
 neither false b t = (tt, t)
+
+-- one that does not fail
+pub not-not : (b : Bool) → T (not (not b)) → T b
+not-not true t = tt
+not-not false t = absurd t
+
+-- numbers that are not unlike
+pub not-unequal : (m n : ℕ) → T (not (not (eqb m n))) → m ≡ n
+not-unequal m n t = eqb→eq m n (not-not (eqb m n) t)
 
 -- of a test that asks for two things, the other is wanting where one is there
 pub not-both : (a b : Bool) → T a → T (not (a && b)) → T (not b)

@@ -5,9 +5,9 @@ use mathlib.Core.Bool.{true, not}
 use mathlib.Core.List.{List}
 use mathlib.Core.Path.{_≡_, ap, sym, subst, _∙_}
 use lib.ListN.{length, replicate, length-append}
-use lib.Dec.{T, eqb}
-use borrow.Author.Tests.{eqb-true, eq-eqb, ne-eqb}
-use Rattle.cells.specs.Facts.{is-false, not-on, neither}
+use lib.Dec.{eqb}
+use borrow.Author.Tests.{eq-eqb, ne-eqb}
+use Rattle.cells.specs.Facts.{neither, not-unequal}
 use Rattle.cells.specs.Tests.{pick-is}
 use Rattle.rom.specs.Sizes.{marksSize, workSize, storeSize, textSize}
 use Rattle.rom.specs.Header.{headerOf}
@@ -133,14 +133,11 @@ module _ (rom marks work store : List ℕ) (budget : ℕ) (text : List ℕ) wher
       (λ w.
       let n = neither (not (eqb (length marks) marksSize)) (wrongSize work store) w .1 in
       let k = neither (not (eqb (length work) workSize)) (not (eqb (length store) storeSize)) n in
-      judged-fits (right (length work) workSize (k .0)) (right (length store) storeSize (k .1)) (screenedOf rom marks .verdict) (screenedOf rom marks .marks)
+      judged-fits (not-unequal (length work) workSize (k .0)) (not-unequal (length store) storeSize (k .1)) (screenedOf rom marks .verdict) (screenedOf rom marks .marks)
       (promise-kept rom marks)))
     where
       Fitting : Listed → Type 0
       Fitting l = l .size ≤ textSize
-
-      right : (a b : ℕ) → T (not (not (eqb a b))) → a ≡ b
-      right a b t = eqb-true a b (not-on (eqb a b) (is-false (not (eqb a b)) t))
 
   inside : listOf rom marks work store budget text .size ≤ length (listOf rom marks work store budget text .text)
   unfolding listOf

@@ -51,13 +51,15 @@ fresh-parts rom e =
       tree = fresh-nodes;
     }
 
-pub opened-ready : (rom : List ℕ) → headerOf rom ≡ 0 → readyOf (opened rom) ≡ Going
-opened-ready rom e =
+-- with any work memory and store of their sizes
+pub fresh-ready : (rom work store : List ℕ) → length work ≡ workSize → length store ≡ storeSize → headerOf rom ≡ 0
+    → readyOf (scene rom work store (freshState rom)) ≡ Going
+fresh-ready rom work store w s e =
     let h = header-facts rom e in
-    facts-ready (opened rom)
+    facts-ready (scene rom work store (freshState rom))
     (record {
-      work = length-replicate {A = ℕ} workSize 0;
-      store = length-replicate {A = ℕ} storeSize 0;
+      work = w;
+      store = s;
       romFrom = h .romFrom;
       romTo = h .romTo;
       least = h .least;
@@ -65,6 +67,9 @@ opened-ready rom e =
       unfinished = refl;
     })
     (parts-whole (freshState rom) (fresh-parts rom e) (omega arith))
+
+pub opened-ready : (rom : List ℕ) → headerOf rom ≡ 0 → readyOf (opened rom) ≡ Going
+opened-ready rom e = fresh-ready rom (replicate workSize 0) (replicate storeSize 0) (length-replicate {A = ℕ} workSize 0) (length-replicate {A = ℕ} storeSize 0) e
 
 pub open-good : (rom work store : List ℕ) → length work ≡ workSize → length store ≡ storeSize → headerOf rom ≡ 0
     → openOf rom work store ≡ turn Going (freshState rom) (replicate workSize 0) (replicate storeSize 0)

@@ -10,7 +10,7 @@ use lib.Seq.{getD-set-same, getD-set-other}
 use lib.Dec.{T, T-not, ltb, leb, eqb, eqb→eq}
 use borrow.Author.Tests.{eqb-true, eqb-false, ltb-true, ltb-false, lt-ltb, le-ltb}
 use Rattle.cells.specs.Tests.{tests, neqb→ne}
-use Rattle.cells.specs.Facts.{holds, both-hold}
+use Rattle.cells.specs.Facts.{holds, both-hold, not-unequal}
 use Rattle.rom.specs.Sizes.{framesMost, numbersMost}
 use Rattle.tokens.specs.Table.{isProgram}
 use Rattle.tokens.specs.Family.{call, assign}
@@ -252,17 +252,13 @@ not-body ns i h = by (isBody ns i) refl
     by false e = rw e tt
 
 -- refusal 12 was not given
-twice : (b : Bool) → T (not (not b)) → T b
-twice true t = tt
-twice false t = absurd t
-
 known-call : (kinds : List ℕ) (t : Token) → familyIn (t .code) ≡ call → T (not (unknownOf kinds t)) → kindOf kinds (t .number) ≡ 0 → ⊥
 unfolding unknownOf
 known-call kinds t k h e = neqb→ne (kindOf kinds (t .number)) 0 (rw k at h) e
 
 known-assign : (kinds : List ℕ) (t : Token) → familyIn (t .code) ≡ assign → T (not (unknownOf kinds t)) → kindOf kinds (numberIn (t .operand)) ≡ value
 unfolding unknownOf
-known-assign kinds t k h = eqb→eq (kindOf kinds (numberIn (t .operand))) value (twice (eqb (kindOf kinds (numberIn (t .operand))) value) (rw k at h))
+known-assign kinds t k h = not-unequal (kindOf kinds (numberIn (t .operand))) value (rw k at h)
 
 pub call-held : (ns : Numbers) (t : Token) → familyIn (t .code) ≡ call → T (not (unknownOf (kindsOf ns) t)) → T (isHeld ns (t .number))
 call-held ns t k h =

@@ -4,11 +4,11 @@ use native.Mathlib.Omega.{arith}
 use mathlib.Core.Path.{_≡_, refl, _∙_}
 use mathlib.Core.Bool.{Bool, true, false, not, _&&_}
 use lib.ListN.{length, getD}
-use lib.Dec.{T, not-T, ltb, leb, eqb, le→leb, eqb→eq}
+use lib.Dec.{T, not-T, ltb, leb, eqb, le→leb}
 use borrow.Author.Tests.{eq-eqb, le-ltb}
 use Rattle.cells.specs.Choice.{pick}
 use Rattle.cells.specs.Tests.{tests, pick-is}
-use Rattle.cells.specs.Facts.{holds, is-true, is-false, both-hold, join-hold, four-hold, join-four, neither}
+use Rattle.cells.specs.Facts.{holds, is-true, is-false, both-hold, join-hold, four-hold, join-four, neither, not-not, not-unequal}
 use Rattle.rom.specs.Sizes.{firstPlace, dataMost, returnMost, framesMost, numbersMost, workSize, storeSize, romLeast}
 use Rattle.rom.specs.Sizes.{romMost}
 use Rattle.tokens.specs.Table.{isProgram}
@@ -207,20 +207,16 @@ ready-facts s e =
     let (c, d) = neither (ltb (length (s .rom)) romLeast) (ltb romMost (length (s .rom))) (q .0) in
     let (f, g) = neither (ltb (s .state .length) 9) (ltb (length (s .rom)) (s .state .length)) (v .0) in (
       record {
-        work = eqb→eq (length (s .work)) workSize (twice (eqb (length (s .work)) workSize) a);
-        store = eqb→eq (length (s .store)) storeSize (twice (eqb (length (s .store)) storeSize) b);
+        work = not-unequal (length (s .work)) workSize a;
+        store = not-unequal (length (s .store)) storeSize b;
         romFrom = omega (arith, tests);
         romTo = omega (arith, tests);
         least = omega (arith, tests);
         most = omega (arith, tests);
         unfinished = is-false (s .state .finished) (w .0);
       },
-      is-true (wholeOf (s .state)) (twice (wholeOf (s .state)) (r .0)),
+      is-true (wholeOf (s .state)) (not-not (wholeOf (s .state)) (r .0)),
     )
-  where
-    twice : (b : Bool) → T (not (not b)) → T b
-    twice true t = tt
-    twice false t = absurd t
 
 -- with all else in order it is the state alone that decides
 pub ready-is : (s : Scene) → Lent s → readyOf s ≡ pick (wholeOf (s .state)) Going (Refused 7)
