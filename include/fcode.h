@@ -30,9 +30,9 @@ uint32_t fcode_check(const uint8_t *rom, size_t rom_len);
 uint32_t fcode_screen(const uint8_t *rom, size_t rom_len, uint8_t *marks, size_t marks_len);
 
 /* Opens the ROM and runs it, without screening it. 0: finished. 28: `budget` tokens were carried out. 6 for a work or store buffer of the wrong size
- * and then 1 to 5 for the header: both buffers are as they were, and `*steps` is 0. Any other number is the refusal of a token. After 0, 28 and a
- * refused token `*steps` is the count of tokens carried out, `work` is the program's memory then, and `store` has name and value of each property in order of
- * creation, zeros behind them. */
+ * and then 1 to 5 for the header: both buffers are as they were, and `*steps` is 0. Any other number is the refusal of a token; of a ROM that fcode_screen
+ * passes it is one from 21 to 27, which depend on the program's data. After 0, 28 and a refused token `*steps` is the count of tokens carried out, `work` is
+ * the program's memory then, and `store` has name and value of each property in order of creation, zeros behind them. */
 uint32_t fcode_run(const uint8_t *rom, size_t rom_len, uint8_t *work, size_t work_len, uint8_t *store, size_t store_len, uint32_t budget,
                    uint32_t *steps);
 

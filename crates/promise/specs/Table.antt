@@ -4,7 +4,7 @@ use Prim.Native.Nat.{ℕ}
 use mathlib.Core.Path.{_≡_, refl, _∙_}
 use mathlib.Core.Bool.{Bool, true, false, _&&_}
 use mathlib.Core.List.{List, [], _∷_}
-use lib.ListN.{length, replicate, take, length-replicate}
+use lib.ListN.{replicate, take, length-replicate}
 use lib.Dec.{eqb}
 use Rattle.cells.specs.Arithmetic.{ashiftOf}
 use Rattle.rom.specs.Sizes.{workSize, storeSize, marksSize}
@@ -82,7 +82,7 @@ endsSo c o =
     && (eqb (o .count) (c .steps) && sameBytes (take (o .state .stack .height) (o .state .stack .cells)) (c .leaves))
 
 -- marks, work memory and store as they are lent
-abbrev lent : List ℕ
+abbrev pub lent : List ℕ
 lent = replicate 16384 0xAA
 
 -- the screen says of the ROM what the case says
