@@ -10,11 +10,11 @@
 -- It is said of what the contracts of `screen`, `open` and `run` promise, and so it holds of whatever code meets them. Of the caller it asks that the three are
 -- called with the same ROM, that opening was not refused, and that the run is lent memory of the sizes that opening had. How it is proved: Standing.antt says how the
 -- state stands before each token, and Running.antt that it always does. Assumes nothing.
-use Prim.Native.Nat.{ℕ, _≤_}
+use Prim.Native.Nat.{ℕ, _+_, _≤_}
 use native.Mathlib.Omega.{arith}
 use mathlib.Core.Path.{_≡_, refl, sym, ap, subst, _∙_}
 use mathlib.Core.Logic.{_↔_}
-use mathlib.Core.List.{List}
+use mathlib.Core.List.{List, []}
 use lib.ListN.{length, replicate, length-replicate}
 use lib.Dec.{eqb}
 use Rattle.cells.specs.Tests.{when-is}
@@ -36,9 +36,9 @@ use Rattle.state.specs.declared.answer.Answer.the-variants.{Going, Finished, Re
 use Rattle.state.specs.declared.answer.Stepped.{Stepped}
 use Rattle.state.specs.declared.answer.Ran.{Ran}
 use Rattle.promise.specs.Standing.{OpenCall}
-use Rattle.promise.specs.Trail.{DependsOnData, Allowed, finished, spent, refused, Trail, Ends, finishes, stops, runs-out, HeightIs}
+use Rattle.promise.specs.Trail.{DependsOnData, Allowed, finished, spent, refused, Trail, start, Ends, finishes, stops, runs-out, HeightIs}
 use Rattle.promise.specs.Steps.{Fine}
-use Rattle.promise.specs.Running.{run-ends, ends-allowed, stands-high, steps-so}
+use Rattle.promise.specs.Running.{trail-arrived, trail-ends, ends-trail, stands-high, steps-so}
 
 -- whatever `screen(rom, marks)` answers for a ROM with a good header and a mark buffer of its size: the contract in screen/src/screening.rt
 abbrev pub Exactly : Type 0
@@ -89,7 +89,7 @@ TrailOf c n open-calls s = Trail (c .rom) (c .workLent) (c .storeLent) n open-ca
 
 -- the run as the tokens that were carried out one by one, with the count of them, which never exceeds the budget, and with what the last of them left
 abbrev pub Counted : Type 0
-Counted = (c : Seen) → Ends (c .opened .rom) (c .opened .workLent) (c .opened .storeLent) (c .budget) (toldRan (c .ran) (c .workRan) (c .storeRan))
+Counted = (c : Seen) → Ends (c .opened .rom) (c .opened .workLent) (c .opened .storeLent) 0 (c .budget) (toldRan (c .ran) (c .workRan) (c .storeRan))
     × (c .ran .count ≤ c .budget)
 
 -- the data height before each of these tokens, by the screen's marks; as many calls are open as the state has frames
@@ -97,9 +97,20 @@ abbrev pub Heights : Type 0
 Heights = (c : Opened) (n : ℕ) (open-calls : List OpenCall) (s : Scene) → TrailOf c n open-calls s
     → HeightIs (c .marks) (s .state) open-calls × (length open-calls ≡ s .state .calls .count)
 
--- a run that is taken up again, with a budget of its own, from the state and the memory that one left which did not finish
+-- what a run leaves for the next
+abbrev pub leftBy : Scene → Outcome → Scene
+leftBy s o = scene (s .rom) (o .work) (o .store) (o .state)
+
+-- Where runs come to that are taken up one behind the other, as often as one likes, each with a budget of its own, from what the last one left that did not finish;
+-- and the count of tokens in all.
+pub data Came (c : Opened) : (count : ℕ) → Scene → Type 0 where
+  first : Came c 0 (scene (c .rom) (c .workLent) (c .storeLent) (c .fresh .state))
+  again : {n : ℕ} {s : Scene} → Came c n s → (budget : ℕ) → (runOf budget s .answer ≡ Finished → ⊥) → Came c (n + runOf budget s .count) (leftBy s (runOf budget s))
+
+-- each of them ends as the first may
 abbrev pub Resumed : Type 0
-Resumed = (c : Seen) → (c .ran .answer ≡ Finished → ⊥) → (more : ℕ) → Allowed (runOf more (scene (c .opened .rom) (c .workRan) (c .storeRan) (c .ran .state)) .answer)
+Resumed = (c : Opened) (n : ℕ) (s : Scene) → Came c n s → (budget : ℕ)
+    → Ends (c .rom) (c .workLent) (c .storeLent) n budget (runOf budget s) × Allowed (runOf budget s .answer)
 
 -- a caller who steps: each `step` is its token, which goes on, finishes, or is refused by data
 pub data AllowedStep : Answer → Type 0 where
@@ -152,19 +163,35 @@ module _ (c : Opened) where
   store-size : length (c .storeLent) ≡ storeSize
   store-size = c .sameStore ∙ ap (λ r. length (r .store)) handed ∙ length-replicate {A = ℕ} storeSize 0
 
-ran-ends : (c : Seen) → Ends (c .opened .rom) (c .opened .workLent) (c .opened .storeLent) (c .budget) (toldRan (c .ran) (c .workRan) (c .storeRan))
+  -- a run from a scene that tokens come to
+  from-trail : {n : ℕ} {open-calls : List OpenCall} {s : Scene} → TrailOf c n open-calls s → (budget : ℕ)
+      → Ends (c .rom) (c .workLent) (c .storeLent) n budget (runOf budget s)
+  from-trail t budget = trail-ends fits (pass .assignment) (c .workLent) (c .storeLent) work-size store-size (pass .header) t budget
+
+  -- the first is that of the fresh state
+  first-trail : TrailOf c 0 [] (scene (c .rom) (c .workLent) (c .storeLent) (c .fresh .state))
+  first-trail = subst (λ st. TrailOf c 0 [] (scene (c .rom) (c .workLent) (c .storeLent) st)) (sym (ap (λ r. r .state) handed)) start
+
+  came-trail : {n : ℕ} {s : Scene} → Came c n s → (open-calls : List OpenCall) × TrailOf c n open-calls s
+  came-trail first = ([], first-trail)
+  came-trail (again {n} {s} k budget f) =
+      let t = came-trail k .1 in
+      let o = runOf budget s in
+      let same = trail-arrived fits (pass .assignment) (c .workLent) (c .storeLent) work-size store-size (pass .header) t .same in
+      let e = ends-trail fits (pass .assignment) (c .workLent) (c .storeLent) work-size store-size (pass .header) (from-trail t budget) f in
+      (e .0, subst (λ r. TrailOf c (n + o .count) (e .0) (scene r (o .work) (o .store) (o .state))) (sym same) (e .1))
+
+ran-ends : (c : Seen) → Ends (c .opened .rom) (c .opened .workLent) (c .opened .storeLent) 0 (c .budget) (toldRan (c .ran) (c .workRan) (c .storeRan))
 ran-ends c =
     let o = c .opened in
-    let r = c .runs ∙ ap (λ st. runOf (c .budget) (scene (o .rom) (o .workLent) (o .storeLent) st)) (ap (λ r. r .state) (handed o)) in
-    subst (λ v. Ends (o .rom) (o .workLent) (o .storeLent) (c .budget) v) (sym r)
-    (run-ends (fits o) (pass o .assignment) (o .workLent) (o .storeLent) (work-size o) (store-size o) (pass o .header) (c .budget))
+    subst (λ v. Ends (o .rom) (o .workLent) (o .storeLent) 0 (c .budget) v) (sym (c .runs)) (from-trail o (first-trail o) (c .budget))
 
-allowed : {rom work store : List ℕ} {budget : ℕ} {o : Outcome} → Ends rom work store budget o → Allowed (o .answer)
+allowed : {rom work store : List ℕ} {before budget : ℕ} {o : Outcome} → Ends rom work store before budget o → Allowed (o .answer)
 allowed (finishes t l e) = finished
 allowed (stops t l e d) = refused d
 allowed {budget = budget} (runs-out t) = spent budget
 
-most : {rom work store : List ℕ} {budget : ℕ} {o : Outcome} → Ends rom work store budget o → o .count ≤ budget
+most : {rom work store : List ℕ} {before budget : ℕ} {o : Outcome} → Ends rom work store before budget o → o .count ≤ budget
 most (finishes t l e) = l
 most (stops t l e d) = omega arith
 most (runs-out t) = omega arith
@@ -179,9 +206,7 @@ pub heights : Heights
 heights c n open-calls s t = stands-high (fits c) (pass c .assignment) (c .workLent) (c .storeLent) (work-size c) (store-size c) (pass c .header) (pass c .marked) t
 
 pub resumed : Resumed
-resumed c n more =
-    let o = c .opened in
-    ends-allowed (fits o) (pass o .assignment) (o .workLent) (o .storeLent) (work-size o) (store-size o) (pass o .header) (ran-ends c) n more
+resumed c n s k budget = let e = from-trail c (came-trail c k .1) budget in (e, allowed e)
 
 fine-step : {rom : List ℕ} (a : Assignment rom) (open-calls : List OpenCall) (st : State) (r : Turn) (w : Answer) → Fine a open-calls st r w → AllowedStep w
 fine-step a open-calls st r Going f = goes

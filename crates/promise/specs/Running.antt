@@ -32,7 +32,7 @@ use Rattle.screen.specs.Promise.{Marks}
 use Rattle.screen.specs.Visits.{effect-call}
 use Rattle.screen.specs.Rules.{Assignment}
 use Rattle.promise.specs.Standing.{OpenCall, openCall, CallChain, outside, within, own, Standing, openAfter}
-use Rattle.promise.specs.Trail.{DependsOnData, Allowed, finished, spent, Trail, start, token, Ends, finishes, stops, runs-out, HeightIs}
+use Rattle.promise.specs.Trail.{DependsOnData, Trail, start, token, Ends, finishes, stops, runs-out, HeightIs}
 use Rattle.promise.specs.Carrying.{carried-none}
 use Rattle.promise.specs.Room.{body-of, open-is}
 use Rattle.promise.specs.Refusing.{ByData, accepted, refused, by-data}
@@ -140,14 +140,18 @@ module _ {rom : List ℕ} (fits : lengthOf rom ≤ 16384) (a : Assignment rom) w
 
   -- ---- the run
   module _ (work store : List ℕ) (x : length work ≡ workSize) (y : length store ≡ storeSize) (h : headerOf rom ≡ 0) where
-    -- from any of them on
-    tokens-end : (k : ℕ) {n : ℕ} {open-calls : List OpenCall} {s : Scene} (budget : ℕ) → n + k ≡ budget → Trail rom work store n open-calls s → Arrived open-calls s
-        → Ends rom work store budget (tokensFrom k n s)
+    pub trail-arrived : {n : ℕ} {open-calls : List OpenCall} {s : Scene} → Trail rom work store n open-calls s → Arrived open-calls s
+    trail-arrived start = record { same = refl; steady = fresh-steady work store x y h }
+    trail-arrived (token {n} {open-calls} {s} t g) = arrived-next open-calls s (trail-arrived t) g
+
+    -- n tokens of a run are carried out, and at most k are left of its budget
+    tokens-end : {open-calls : List OpenCall} {s : Scene} (before budget k n : ℕ) → n + k ≡ budget → Trail rom work store (before + n) open-calls s
+        → Ends rom work store before budget (tokensFrom k n s)
     unfolding tokensFrom
-    tokens-end zero {n} {open-calls} {s} budget b t m =
+    tokens-end {open-calls} {s} before budget zero n b t =
         let e : n ≡ budget = omega arith in
-        subst (λ v. Ends rom work store budget (ended (Spent v) v s)) (sym e) (runs-out (subst (λ v. Trail rom work store v open-calls s) e t))
-    tokens-end (suc k) {n} {open-calls} {s} budget b t m = by (tokenOf s .answer) refl (λ i u y. tokens-end k budget i u y)
+        subst (λ v. Ends rom work store before budget (ended (Spent v) v s)) (sym e) (runs-out (subst (λ v. Trail rom work store (before + v) open-calls s) e t))
+    tokens-end {open-calls} {s} before budget (suc k) n b t = by (tokenOf s .answer) refl (λ i u. tokens-end before budget k (n + 1) i u)
       where
         next : Scene
         next = then s (tokenOf s)
@@ -155,46 +159,41 @@ module _ {rom : List ℕ} (fits : lengthOf rom ≤ 16384) (a : Assignment rom) w
         callsThen : List OpenCall
         callsThen = openAfter open-calls (s .state) (tokenOf s .state)
 
-        one : suc n ≡ n + 1
-        one = omega arith
+        fine : {w : Answer} → tokenOf s .answer ≡ w → Fine a open-calls (s .state) (tokenOf s) w
+        fine e = subst (Fine a open-calls (s .state) (tokenOf s)) e (arrived-fine open-calls s (trail-arrived t))
 
         by : (w : Answer) → tokenOf s .answer ≡ w
-            → (n + 1 + k ≡ budget → Trail rom work store (n + 1) callsThen next → Arrived callsThen next → Ends rom work store budget (tokensFrom k (n + 1) next))
-            → Ends rom work store budget (tokensFrom (suc k) n s)
+            → (n + 1 + k ≡ budget → Trail rom work store (before + (n + 1)) callsThen next → Ends rom work store before budget (tokensFrom k (n + 1) next))
+            → Ends rom work store before budget (tokensFrom (suc k) n s)
         by Going e f =
-            rw (e, tokensFrom) (f (omega arith) (subst (λ v. Trail rom work store v callsThen next) one (token t e)) (arrived-next open-calls s m e))
-        by Finished e f = rw (e, tokensFrom) (subst (λ v. Ends rom work store budget (ended Finished v next)) one (finishes t (omega arith) e))
+            let one : suc (before + n) ≡ before + (n + 1) = omega arith in
+            rw (e, tokensFrom) (f (omega arith) (subst (λ v. Trail rom work store v callsThen next) one (token t e)))
+        by Finished e f =
+            let one : suc n ≡ n + 1 = omega arith in
+            rw (e, tokensFrom) (subst (λ v. Ends rom work store before budget (ended Finished v next)) one (finishes t (omega arith) e))
         by (Refused why) e f =
-            let d = subst (Fine a open-calls (s .state) (tokenOf s)) e (arrived-fine open-calls s m) in
             let r = ap (λ v. ended (Refused why) n (then s v)) (refused-keeps s why e) in
-            rw (e, tokensFrom) (subst (λ o. Ends rom work store budget o) (sym r) (stops t (omega arith) e d))
-        by (Spent x) e f = absurd (subst (Fine a open-calls (s .state) (tokenOf s)) e (arrived-fine open-calls s m))
+            rw (e, tokensFrom) (subst (λ o. Ends rom work store before budget o) (sym r) (stops t (omega arith) e (fine e)))
+        by (Spent m) e f = absurd (fine e)
 
-    fresh-arrived : Arrived [] (scene rom work store (freshState rom))
-    fresh-arrived = record { same = refl; steady = fresh-steady work store x y h }
+    -- a run from any scene that tokens come to ends as it may
+    pub trail-ends : {n : ℕ} {open-calls : List OpenCall} {s : Scene} → Trail rom work store n open-calls s → (budget : ℕ) → Ends rom work store n budget (runOf budget s)
+    trail-ends {n} {open-calls} {s} t budget =
+        let m = trail-arrived t in
+        let k = m .steady in
+        let ready = subst (λ v. readyOf v ≡ Going) (sym (arrived-at open-calls s m)) (k .ready) in
+        let none : n ≡ n + 0 = omega arith in
+        subst (λ o. Ends rom work store n budget o) (sym (run-tokens budget 0 s (k .sized) (k .rooted) ready))
+        (tokens-end n budget budget 0 (omega arith) (subst (λ v. Trail rom work store v open-calls s) none t))
 
-    pub trail-arrived : {n : ℕ} {open-calls : List OpenCall} {s : Scene} → Trail rom work store n open-calls s → Arrived open-calls s
-    trail-arrived start = fresh-arrived
-    trail-arrived (token {n} {open-calls} {s} t g) = arrived-next open-calls s (trail-arrived t) g
-
-    -- it ends as it may
-    pub run-ends : (budget : ℕ) → Ends rom work store budget (runOf budget (scene rom work store (freshState rom)))
-    run-ends budget =
-        let e = run-tokens budget 0 (scene rom work store (freshState rom)) (fresh-sized rom) fresh-rooted (fresh-ready rom work store x y h) in
-        subst (λ o. Ends rom work store budget o) (sym e) (tokens-end budget budget (omega arith) start fresh-arrived)
-
-  -- a run that is taken up again from any of them
-  tokens-allowed : (k n : ℕ) (open-calls : List OpenCall) (s : Scene) → Arrived open-calls s → Allowed (tokensFrom k n s .answer)
-  unfolding tokensFrom
-  tokens-allowed zero n open-calls s m = spent n
-  tokens-allowed (suc k) n open-calls s m = by (tokenOf s .answer) refl (λ e. tokens-allowed k (n + 1) _ (then s (tokenOf s)) (arrived-next open-calls s m e))
-    where
-      by : (w : Answer) → tokenOf s .answer ≡ w → (tokenOf s .answer ≡ Going → Allowed (tokensFrom k (n + 1) (then s (tokenOf s)) .answer))
-          → Allowed (tokensFrom (suc k) n s .answer)
-      by Going e f = rw (e, tokensFrom) (f e)
-      by Finished e f = rw (e, tokensFrom) finished
-      by (Refused why) e f = rw (e, tokensFrom) (Allowed.refused (subst (Fine a open-calls (s .state) (tokenOf s)) e (arrived-fine open-calls s m)))
-      by (Spent x) e f = absurd (subst (Fine a open-calls (s .state) (tokenOf s)) e (arrived-fine open-calls s m))
+    -- and what it leaves where it does not finish is such a scene again
+    pub ends-trail : {before budget : ℕ} {o : Outcome} → Ends rom work store before budget o → (o .answer ≡ Finished → ⊥)
+        → (open-calls : List OpenCall) × Trail rom work store (before + o .count) open-calls (scene rom (o .work) (o .store) (o .state))
+    ends-trail (finishes t l e) n = absurd (n refl)
+    ends-trail {before} (stops {n = m} {open-calls = oc} {s = s} t l e d) n =
+        (oc, subst (λ v. Trail rom work store (before + m) oc v) (arrived-at oc s (trail-arrived t)) t)
+    ends-trail {before} {budget} (runs-out {open-calls = oc} {s = s} t) n =
+        (oc, subst (λ v. Trail rom work store (before + budget) oc v) (arrived-at oc s (trail-arrived t)) t)
 
   -- ---- heights
   high-chain : {marks : List ℕ} {st : State} → Marks rom a marks → {open-calls : List OpenCall} {home k x floor base : ℕ} {outer s : Setting}
@@ -220,22 +219,6 @@ module _ {rom : List ℕ} (fits : lengthOf rom ≤ 16384) (a : Assignment rom) w
     stands-high m t =
         let g = trail-arrived work store x y h t .steady .standing in
         (high-chain m (g .chain) (g .reach) (g .height), calls-length (g .chain))
-
-    -- ---- a run that is taken up again
-    trail-allowed : {n : ℕ} {open-calls : List OpenCall} {s : Scene} → Trail rom work store n open-calls s → (more : ℕ)
-        → Allowed (runOf more (scene rom (s .work) (s .store) (s .state)) .answer)
-    trail-allowed {n} {open-calls} {s} t more =
-        let m = trail-arrived work store x y h t in
-        let k = m .steady in
-        let again = scene rom (s .work) (s .store) (s .state) in
-        subst (λ o. Allowed (o .answer)) (sym (run-tokens more 0 again (k .sized) (k .rooted) (k .ready)))
-        (tokens-allowed more 0 open-calls again (record { same = refl; steady = k }))
-
-    pub ends-allowed : {budget : ℕ} {o : Outcome} → Ends rom work store budget o → (o .answer ≡ Finished → ⊥) → (more : ℕ)
-        → Allowed (runOf more (scene rom (o .work) (o .store) (o .state)) .answer)
-    ends-allowed (finishes t l e) n more = absurd (n refl)
-    ends-allowed (stops t l e d) n more = trail-allowed t more
-    ends-allowed (runs-out t) n more = trail-allowed t more
 
     -- ---- a step is its token
     pub steps-so : {n : ℕ} {open-calls : List OpenCall} {s : Scene} → Trail rom work store n open-calls s → (stepOf s ≡ tokenOf s) × FineTurn a open-calls (s .state) (tokenOf s)

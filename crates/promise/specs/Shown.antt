@@ -14,7 +14,6 @@ use borrow.Author.Tests.{eq-eqb}
 use Rattle.cells.specs.Tests.{pick-is}
 use Rattle.cells.specs.Facts.{neither, not-unequal}
 use Rattle.rom.specs.Sizes.{marksSize, workSize, storeSize, textSize}
-use Rattle.tree.specs.declared.tree.Tree.{Tree}
 use Rattle.state.specs.Scene.{numberOf}
 use Rattle.state.specs.Step.{wrongSize}
 use Rattle.state.specs.Open.{openOf}
@@ -27,7 +26,7 @@ use Rattle.screen.specs.Promise.{Promised, wrong-size, bad-header, no-heights}
 use Rattle.screen.specs.Exactly.{promise-kept}
 use Rattle.screen.specs.declared.screening.Verdict.{Verdict}
 use Rattle.screen.specs.declared.screening.Verdict.the-variants.{Passes, Refused}
-use Rattle.lines.specs.Lines.{refusedLine, runText}
+use Rattle.lines.specs.Lines.{refusedLine}
 use Rattle.lines.specs.Told.{filled}
 use Rattle.listing.specs.Listing.{Listed, wrongBuffer, startedOf, runWords, judgedAs, listOf}
 use Rattle.host.specs.Host.{hostRunOf}
@@ -40,12 +39,16 @@ pub data Closing : ℕ → Type 0 where
   budget-spent : Closing 28
   by-data : {n : ℕ} → DependsOnData n → Closing n
 
--- the words of a listing of this ROM, with these buffers
+-- the run that is listed
+abbrev pub runHere : List ℕ → List ℕ → List ℕ → ℕ → Outcome
+runHere rom work store budget = startedOf rom (openOf rom work store) budget
+
+-- the words of a listing of this ROM, with these buffers: of a ROM that passes they show the nodes and properties that its run leaves, its count and its end
 pub data Shown (rom marks work store : List ℕ) (budget : ℕ) : List ℕ → Type 0 where
   wrong-buffer : T (wrongBuffer marks work store) → Shown rom marks work store budget (refusedLine 6)
   refused-rom : {n : ℕ} {after : List ℕ} → Promised rom marks (Refused n) after → Shown rom marks work store budget (refusedLine n)
-  screen-pass : {after : List ℕ} {steps number : ℕ} (tree : Tree) (left : List ℕ) → Promised rom marks Passes after → steps ≤ budget → Closing number
-      → Shown rom marks work store budget (runText tree left steps number)
+  screen-pass : {after : List ℕ} → Promised rom marks Passes after → runHere rom work store budget .count ≤ budget → Closing (numberOf (runHere rom work store budget .answer))
+      → Shown rom marks work store budget (runWords (runHere rom work store budget))
 
 -- a buffer that holds such words, and the length that was handed back
 abbrev pub ShownIn : List ℕ → List ℕ → List ℕ → List ℕ → ℕ → Listed → Type 0
@@ -69,7 +72,7 @@ closing (refused d) = by-data d
 -- what the executable definitions give is what a caller saw
 module _ (rom marks work store : List ℕ) (budget : ℕ) (w : length work ≡ workSize) (s : length store ≡ storeSize) where
   abbrev pub run : Outcome
-  run = startedOf rom (openOf rom work store) budget
+  run = runHere rom work store budget
 
   module _ {after : List ℕ} (p : Promised rom marks Passes after) where
     pub opened : Opened
@@ -115,7 +118,7 @@ module _ (rom marks work store : List ℕ) (budget : ℕ) (w : length work ≡ w
   -- by the screen's verdict
   shown-judged : (v : Verdict) (after : List ℕ) → Promised rom marks v after → ShownIn rom marks work store budget (judgedAs v after rom work store budget)
   shown-judged (Refused n) after p = (refusedLine n, refused-rom p, refl, refl)
-  shown-judged Passes after p = let c = closes p in (runWords run, screen-pass (run .state .tree) (run .store) p (c .1) (c .0), refl, refl)
+  shown-judged Passes after p = let c = closes p in (runWords run, screen-pass p (c .1) (c .0), refl, refl)
 
 pub person-sees : PersonSees
 unfolding listOf

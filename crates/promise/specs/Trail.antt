@@ -31,14 +31,15 @@ pub data Trail (rom work store : List ℕ) : (count : ℕ) → List OpenCall →
   token : {n : ℕ} {open-calls : List OpenCall} {s : Scene} → Trail rom work store n open-calls s → tokenOf s .answer ≡ Going
       → Trail rom work store (suc n) (openAfter open-calls (s .state) (tokenOf s .state)) (then s (tokenOf s))
 
--- How a run with a budget ends, with its count and the state and memory that it leaves: "The count equals the tokens carried out; the final token counts, a refused
--- one doesn't." A refused token leaves all as it was.
-pub data Ends (rom work store : List ℕ) (budget : ℕ) : Outcome → Type 0 where
-  finishes : {n : ℕ} {open-calls : List OpenCall} {s : Scene} → Trail rom work store n open-calls s → n < budget → tokenOf s .answer ≡ Finished
-      → Ends rom work store budget (ended Finished (suc n) (then s (tokenOf s)))
-  stops : {n why : ℕ} {open-calls : List OpenCall} {s : Scene} → Trail rom work store n open-calls s → n < budget → tokenOf s .answer ≡ Refused why → DependsOnData why
-      → Ends rom work store budget (ended (Refused why) n s)
-  runs-out : {open-calls : List OpenCall} {s : Scene} → Trail rom work store budget open-calls s → Ends rom work store budget (ended (Spent budget) budget s)
+-- How a run with a budget ends that was begun, or taken up again, behind so many tokens, with its own count and the state and memory that it leaves: "The count equals
+-- the tokens carried out; the final token counts, a refused one doesn't." A refused token leaves all as it was.
+pub data Ends (rom work store : List ℕ) (before budget : ℕ) : Outcome → Type 0 where
+  finishes : {n : ℕ} {open-calls : List OpenCall} {s : Scene} → Trail rom work store (before + n) open-calls s → n < budget → tokenOf s .answer ≡ Finished
+      → Ends rom work store before budget (ended Finished (suc n) (then s (tokenOf s)))
+  stops : {n why : ℕ} {open-calls : List OpenCall} {s : Scene} → Trail rom work store (before + n) open-calls s → n < budget → tokenOf s .answer ≡ Refused why
+      → DependsOnData why → Ends rom work store before budget (ended (Refused why) n s)
+  runs-out : {open-calls : List OpenCall} {s : Scene} → Trail rom work store (before + budget) open-calls s
+      → Ends rom work store before budget (ended (Spent budget) budget s)
 
 -- The data stack's height by the marks: outside bodies it is the mark less one. In a body it is the mark less one, plus the height at entry, less the body's need; the
 -- need is the mark of the body's first byte less one.
