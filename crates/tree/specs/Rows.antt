@@ -1,7 +1,7 @@
 -- The node table: "For the installer, one lent row per node gives parent and property count; 32 rows or refusal 6, unused rows zero; 6, then 7, write
--- none." The rows are lent as two slices of numbers, the parents and the counts. Assumes nothing.
+-- none." The rows are lent as a slice of structs, or as two slices of numbers, the parents and the counts. Assumes nothing.
 use Prim.Native.Nat.{ℕ, zero, suc, _+_}
-use mathlib.Core.Bool.{not, _||_}
+use mathlib.Core.Bool.{Bool, not, _&&_}
 use mathlib.Core.List.{List, [], _∷_}
 use lib.ListN.{length, getD}
 use lib.Dec.{ltb, eqb}
@@ -24,8 +24,8 @@ abbrev pub rowOf : Tree → ℕ → Row
 rowOf t k =
     pick (ltb k (t .nodes)) (record { parent = parentOf t k; count = countOf t k }) (record { parent = 0; count = 0 })
 
--- so many rows from row k on, one column of them
-unfoldable pub columnFrom : (Row → ℕ) → Tree → ℕ → ℕ → List ℕ
+-- of so many rows from row k on, what each is asked for: one column, or all of the row
+unfoldable pub columnFrom : {A : Type 0} → (Row → A) → Tree → ℕ → ℕ → List A
 columnFrom column t zero k = []
 columnFrom column t (suc n) k = column (rowOf t k) ∷ columnFrom column t n (k + 1)
 
@@ -35,11 +35,24 @@ parentsOf t = columnFrom (λ r. r .parent) t nodesMost 0
 abbrev pub countsOf : Tree → List ℕ
 countsOf t = columnFrom (λ r. r .count) t nodesMost 0
 
--- 0, or the refusal
-unfoldable pub tableRefusal : Tree → List ℕ → List ℕ → ℕ
-tableRefusal t parents counts =
-    pick (not (eqb (length parents) nodesMost) || not (eqb (length counts) nodesMost)) 6 (pick (not (wholeTree t)) 7 0)
+-- so many rows from row k on
+abbrev pub rowsFrom : Tree → ℕ → ℕ → List Row
+rowsFrom t n k = columnFrom (λ r. r) t n k
 
--- what a column holds then: as it was where the call is refused
-abbrev pub columnThen : ℕ → List ℕ → List ℕ → List ℕ
-columnThen why was rows = pick (eqb why 0) rows was
+-- "one lent row per node gives parent and property count"
+abbrev pub rowsOf : Tree → List Row
+rowsOf t = rowsFrom t nodesMost 0
+
+-- 0, or "6, then 7": whether there are 32 rows, then whether the tree is whole
+abbrev pub refusalOf : Bool → Tree → ℕ
+refusalOf sized t = pick (not sized) 6 (pick (not (wholeTree t)) 7 0)
+
+unfoldable pub tableRefusal : Tree → List ℕ → List ℕ → ℕ
+tableRefusal t parents counts = refusalOf (eqb (length parents) nodesMost && eqb (length counts) nodesMost) t
+
+unfoldable pub rowsRefusal : Tree → ℕ → ℕ
+rowsRefusal t size = refusalOf (eqb size nodesMost) t
+
+-- what the rows, or a column of them, hold then: "6, then 7, write none"
+abbrev pub rowsThen : {A : Type 0} → ℕ → List A → List A → List A
+rowsThen why was rows = pick (eqb why 0) rows was

@@ -2,7 +2,7 @@
 ghost use mathlib.Core.Path.{_≡_};
 ghost use Prim.Native.Nat.{_≤_, _<_};
 ghost use lib.ListN.{length};
-ghost use Rattle.tree.specs.Rows.{countFrom, rowOf, tableRefusal, columnThen, parentsOf, countsOf};
+ghost use Rattle.tree.specs.Rows.{countFrom, rowOf, tableRefusal, rowsRefusal, rowsThen, parentsOf, countsOf, rowsOf};
 use crate::node::parent;
 use crate::tree::Tree;
 use crate::tree::is_whole;
@@ -64,8 +64,8 @@ fn fill_rows(tree: Tree, parents: &mut [u32], counts: &mut [u32])
 // The rows' two columns: 0, or 6 and then 7 with both as they were.
 pub fn node_table(tree: Tree, parents: &mut [u32], counts: &mut [u32]) -> u32
     ensures { λ r. ⌜ (r ≡ tableRefusal tree (now (parents .entry)) (now (counts .entry)))
-        × (now (parents .exit) ≡ columnThen r (now (parents .entry)) (parentsOf tree))
-        × (now (counts .exit) ≡ columnThen r (now (counts .entry)) (countsOf tree)) ⌝ }
+        × (now (parents .exit) ≡ rowsThen r (now (parents .entry)) (parentsOf tree))
+        × (now (counts .exit) ≡ rowsThen r (now (counts .entry)) (countsOf tree)) ⌝ }
 {
     if parents.len() != NODES_MOST {
         return 6;
@@ -77,5 +77,34 @@ pub fn node_table(tree: Tree, parents: &mut [u32], counts: &mut [u32]) -> u32
         return 7;
     }
     fill_rows(tree, parents, counts);
+    0
+}
+
+// What a call for so many rows is answered: 0, or 6 and then 7.
+fn rows_refusal(tree: Tree, size: usize) -> u32
+    ensures { λ r. ⌜ r ≡ rowsRefusal tree size ⌝ }
+{
+    if size != NODES_MOST {
+        return 6;
+    }
+    if !is_whole(tree) {
+        return 7;
+    }
+    0
+}
+
+// The rows in a lent slice of structs: 0, or 6 and then 7 with all rows as they were. What a row holds is decided in `row_of`; this walk only stores.
+pub fn node_rows(tree: Tree, rows: &mut [Row]) -> u32
+    ensures { λ r. ⌜ (r ≡ rowsRefusal tree (length (now (rows .entry)))) × (now (rows .exit) ≡ rowsThen r (now (rows .entry)) (rowsOf tree)) ⌝ }
+{
+    let why = rows_refusal(tree, rows.len());
+    if why != 0 {
+        return why;
+    }
+    let mut k = 0;
+    while k < NODES_MOST {
+        rows[k] = row_of(tree, k);
+        k += 1;
+    }
     0
 }

@@ -1,5 +1,6 @@
-use borrow.Author.Tests.{lt-ltb, le-ltb}
+use mathlib.Core.Path.{sym}
 use borrow.Author.Needs.{needs}
+use Rattle.tree.specs.RowLaws.{row-used, row-unused}
 use Rattle.tree.proofs.rows.row_of.Statement.{statement}
 use Rattle.tree.proofs.rows.row_of.Tie as tie
 
@@ -7,8 +8,10 @@ pub row-of-spec : {M : Type 1} → statement M
 row-of-spec =
     tie.close
     (tie.spec
-    (λ c. rw (le-ltb _ _ (c .if1 .taken)))
+    (λ c. let a = c .before .before .args in sym (row-unused (a .tree) (a .k) (search needs)))
     (λ c κs. search needs)
     (λ c. search needs)
     (λ c κs. search needs)
-    (λ c. rw (lt-ltb _ _ (c .before .before .before .before .if1 .left), c .before .before .parent .ensures, c .count-of .ensures)))
+    (λ c.
+    let a = c .before .before .before .before .before .before .args in
+    rw (c .before .before .parent .ensures, c .count-of .ensures) (sym (row-used (a .tree) (a .k) (search needs)))))
