@@ -1,4 +1,4 @@
-// Runs the header test and the token reader over ROMs in hex on standard input, a line each. Behind H a ROM's header is tested; F and G
+// Runs the header test and the decoder over ROMs in hex on standard input, a line each. Behind H a ROM's header is tested; F and G
 // first fill the ROM up with its last byte, to 16,384 bytes and to one more; behind T the token at each place of its program is shown too,
 // in both offset widths, and the body that would be read from there.
 use libc::STDIN_FILENO;

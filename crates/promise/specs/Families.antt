@@ -3,7 +3,7 @@ use Prim.Native.Nat.{ℕ}
 use mathlib.Core.Path.{_≡_, refl, subst}
 use mathlib.Core.Bool.{Bool, true, false, not, _||_}
 use mathlib.Core.List.{List, [], _∷_}
-use lib.Dec.{T, T-not, ltb, eqb}
+use lib.Dec.{T, T-not, eqb}
 use borrow.Author.Tests.{eqb-true}
 use Rattle.cells.specs.Choice.{pick, find}
 use Rattle.cells.specs.Tests.{pick-is}
@@ -11,9 +11,10 @@ use Rattle.cells.specs.Facts.{is-true, both-hold}
 use Rattle.tokens.specs.Row.{everywhere}
 use Rattle.tokens.specs.Table.{ends, lows, highs, doubles, table}
 use Rattle.tokens.specs.Code.{codeOf, familyIn, outOfPlaceIn, formIn}
-use Rattle.tokens.specs.Decode.{behindNumber, numberOf, behindOf, operandOf, formed, listed, tokenOf, wholeOf, decodeOf}
+use Rattle.tokens.specs.Decode.{behindNumber, numberOf, operandOf, formed, decodeOf}
 use Rattle.tokens.specs.Place.{judged, misplacedOf, readOf}
 use Rattle.tokens.specs.Rows.{code-fact}
+use Rattle.tokens.specs.Laws.{decoded-is}
 use Rattle.tokens.specs.declared.decoding.Token.{Token}
 use Rattle.tokens.specs.declared.decoding.Decoded.{Decoded}
 use Rattle.tokens.specs.declared.decoding.Decoded.the-variants.{Cut, Unlisted, Whole}
@@ -44,14 +45,10 @@ module _ (rom : List ℕ) (len : ℕ) (wide within : Bool) (p : ℕ) where
   ListedTo (Whole t) = T (not (eqb (t .code) 0))
 
   decodes : ListedTo (decodeOf rom len wide p)
-  unfolding decodeOf wholeOf
   decodes =
-      let n = numberOf rom p in
-      let o = operandOf rom len wide (behindNumber rom p) (formIn (codeOf n)) in
-      let q = behindOf rom wide (behindNumber rom p) (formIn (codeOf n)) in
-      pick-is ListedTo (ltb len q) Cut (pick (listed (codeOf n) o) (Whole (tokenOf n (codeOf n) o q)) (Unlisted (codeOf n))) (λ h. tt)
-      (λ h. pick-is ListedTo (listed (codeOf n) o) (Whole (tokenOf n (codeOf n) o q)) (Unlisted (codeOf n))
-      (λ l. both-hold (not (eqb (codeOf n) 0)) (formed o) l .0) (λ l. tt))
+      let o = operandOf rom len wide (behindNumber rom p) (formIn (codeOf (numberOf rom p))) in
+      decoded-is ListedTo rom len wide p tt
+      (λ h l. both-hold (not (eqb (codeOf (numberOf rom p)) 0)) (formed o) l .0) (λ h. tt)
 
   abbrev ListedAs : Read → Type 0
   ListedAs (Refused why) = Unit {0}

@@ -6,9 +6,9 @@ use mathlib.Core.Path.{_≡_, refl, sym, _∙_, subst}
 use mathlib.Core.Bool.{Bool, true, false, not, _&&_, _||_}
 use mathlib.Core.List.{List, [], _∷_}
 use mathlib.Core.Logic.{_≢_}
-use lib.Dec.{T, ltb, eqb, eqb→eq}
+use lib.Dec.{T, eqb, eqb→eq}
 use borrow.Author.Tests.{ne-eqb}
-use Rattle.cells.specs.Choice.{pick, find}
+use Rattle.cells.specs.Choice.{find}
 use Rattle.cells.specs.Tests.{pick-is, neqb→ne}
 use Rattle.cells.specs.Facts.{both-hold, follows, fails, is-false, never-true, neither}
 use Rattle.rom.specs.Branch.{aimOf}
@@ -19,10 +19,10 @@ use Rattle.tokens.specs.Family.{finish, always, choice, widen, leave, define, a
 use Rattle.tokens.specs.Row.{Row, offset, head, namedHead, inside, outside}
 use Rattle.tokens.specs.Table.{ends, lows, highs, doubles, table, program, notListed, isProgram, rowOf}
 use Rattle.tokens.specs.Code.{packed, codeOf, familyIn, outOfPlaceIn, formIn, takesIn, givesIn, returnTakesIn, returnGivesIn}
-use Rattle.tokens.specs.Decode.{behindNumber, numberOf, behindOf, operands, operandOf, formed, isKind, listed, tokenOf, wholeOf, decodeOf}
+use Rattle.tokens.specs.Decode.{behindNumber, numberOf, behindOf, operands, operandOf, formed, isKind, decodeOf}
 use Rattle.tokens.specs.Place.{judged, misplacedOf, readOf}
 use Rattle.tokens.specs.Rows.{everyRow, code-fact}
-use Rattle.tokens.specs.Laws.{find-is}
+use Rattle.tokens.specs.Laws.{find-is, decoded-is}
 use Rattle.tokens.specs.Definition.{newNumber, kindIn}
 use Rattle.tokens.specs.declared.decoding.Operand.{Operand}
 use Rattle.tokens.specs.declared.decoding.Operand.the-variants.{Nothing, Definition}
@@ -83,14 +83,10 @@ module _ (rom : List ℕ) (len : ℕ) (wide within : Bool) (p : ℕ) where
   DecodesTo (Whole t) = Decodes t
 
   decodes : DecodesTo (decodeOf rom len wide p)
-  unfolding decodeOf wholeOf
   decodes =
-      let n = numberOf rom p in
-      let o = operandOf rom len wide (behindNumber rom p) (formIn (codeOf n)) in
-      let q = behindOf rom wide (behindNumber rom p) (formIn (codeOf n)) in
-      pick-is DecodesTo (ltb len q) Cut (pick (listed (codeOf n) o) (Whole (tokenOf n (codeOf n) o q)) (Unlisted (codeOf n))) (λ h. tt)
-      (λ h. pick-is DecodesTo (listed (codeOf n) o) (Whole (tokenOf n (codeOf n) o q)) (Unlisted (codeOf n))
-      (λ l. record { number = refl; code = refl; formed = both-hold (not (eqb (codeOf n) 0)) (formed o) l .1; operand = refl }) (λ l. tt))
+      let o = operandOf rom len wide (behindNumber rom p) (formIn (codeOf (numberOf rom p))) in
+      decoded-is DecodesTo rom len wide p tt
+      (λ h l. record { number = refl; code = refl; formed = both-hold (not (eqb (codeOf (numberOf rom p)) 0)) (formed o) l .1; operand = refl }) (λ h. tt)
 
   abbrev StandsAs : Read → Type 0
   StandsAs (Refused why) = Unit {0}

@@ -4,9 +4,8 @@ use native.Mathlib.Omega.{arith}
 use mathlib.Core.Path.{_≡_, refl, subst}
 use mathlib.Core.Bool.{Bool, true, false, not, _&&_, _||_}
 use mathlib.Core.List.{List, [], _∷_}
-use lib.Dec.{T, ltb, eqb, eqb→eq}
+use lib.Dec.{T, eqb, eqb→eq}
 use Rattle.cells.specs.Choice.{pick, find}
-use Rattle.cells.specs.Tests.{pick-is}
 use Rattle.cells.specs.Facts.{both-hold}
 use Rattle.rom.specs.Branch.{aimOf, placeIn}
 use Rattle.rom.specs.BranchLaws.{AimFits, aim-fits}
@@ -18,12 +17,11 @@ use Rattle.tokens.specs.Row.{offset, head, namedHead}
 use Rattle.tokens.specs.Row.{outside as outsideBodies}
 use Rattle.tokens.specs.Table.{ends, lows, highs, doubles, table, isProgram}
 use Rattle.tokens.specs.Code.{codeOf, familyIn, outOfPlaceIn, formIn, takesIn, givesIn, returnTakesIn, returnGivesIn}
-use Rattle.tokens.specs.Decode.{behindNumber, numberOf, behindOf, operandOf, formed, isKind, listed, wholeOf, decodeOf}
-use Rattle.tokens.specs.Decode.{tokenOf as tokenMade}
+use Rattle.tokens.specs.Decode.{behindNumber, numberOf, operandOf, formed, isKind, decodeOf}
 use Rattle.tokens.specs.Place.{judged, misplacedOf, readOf}
 use Rattle.tokens.specs.Body.{unknownOf, onward, afterOf, bodyFrom, bodyOf}
 use Rattle.tokens.specs.Rows.{code-fact}
-use Rattle.tokens.specs.Laws.{AheadRead, Follows, read-ahead}
+use Rattle.tokens.specs.Laws.{AheadRead, Follows, read-ahead, decoded-is}
 use Rattle.tokens.specs.declared.decoding.Operand.{Operand}
 use Rattle.tokens.specs.declared.decoding.Operand.the-variants.{Definition}
 use Rattle.tokens.specs.declared.decoding.Token.{Token}
@@ -57,14 +55,10 @@ module _ (rom : List ℕ) (size : ℕ) (wide within : Bool) (p : ℕ) where
   DecodesTo (Whole t) = Decodes t
 
   decodes : DecodesTo (decodeOf rom size wide p)
-  unfolding decodeOf wholeOf
   decodes =
-      let n = numberOf rom p in
-      let o = operandOf rom size wide (behindNumber rom p) (formIn (codeOf n)) in
-      let q = behindOf rom wide (behindNumber rom p) (formIn (codeOf n)) in
-      pick-is DecodesTo (ltb size q) Cut (pick (listed (codeOf n) o) (Whole (tokenMade n (codeOf n) o q)) (Unlisted (codeOf n))) (λ h. tt)
-      (λ h. pick-is DecodesTo (listed (codeOf n) o) (Whole (tokenMade n (codeOf n) o q)) (Unlisted (codeOf n))
-      (λ l. record { code = refl; formed = both-hold (not (eqb (codeOf n) 0)) (formed o) l .1; operand = refl }) (λ l. tt))
+      let o = operandOf rom size wide (behindNumber rom p) (formIn (codeOf (numberOf rom p))) in
+      decoded-is DecodesTo rom size wide p tt
+      (λ h l. record { code = refl; formed = both-hold (not (eqb (codeOf (numberOf rom p)) 0)) (formed o) l .1; operand = refl }) (λ h. tt)
 
   abbrev StandsAs : Read → Type 0
   StandsAs (Unread why) = Unit {0}

@@ -1,4 +1,5 @@
 pub mod Ranges
 pub mod Lookup
+pub mod Names
 pub mod Codes
 pub mod Wholes

@@ -6,16 +6,15 @@ use mathlib.Core.Bool.{Bool, true, false}
 use mathlib.Core.List.{List, [], _∷_}
 use native.Mathlib.Omega.{arith}
 use borrow.Author.Tests.{lt-ltb, eq-eqb, ne-eqb}
-use lib.Dec.{ltb, eqb}
+use lib.Dec.{T, ltb, eqb}
 use Rattle.cells.specs.Choice.{pick, find}
 use Rattle.cells.specs.Tests.{tests, pick-is}
 use Rattle.tokens.specs.Code.{codeOf, formIn}
-use Rattle.tokens.specs.Decode.{isDouble, numberOf, behindNumber, behindString, behinds, behindOf, listed, tokenOf, wholeOf, decodeOf}
+use Rattle.tokens.specs.Decode.{isDouble, numberOf, behindNumber, behindString, behinds, behindOf, operandOf, listed, tokenOf, wholeOf, decodeOf}
 use Rattle.rom.specs.Bytes.{byteOf}
 use Rattle.tokens.specs.Place.{judged, misplacedOf, readOf}
 use Rattle.tokens.specs.Body.{unknownOf, onward, afterOf, bodyFrom, bodyOf}
 use Rattle.tokens.specs.declared.decoding.Token.{Token}
-use Rattle.tokens.specs.declared.decoding.Operand.{Operand}
 use Rattle.tokens.specs.declared.decoding.Decoded.{Decoded}
 use Rattle.tokens.specs.declared.decoding.Decoded.the-variants.{Cut, Unlisted, Whole}
 use Rattle.tokens.specs.declared.read.Read.{Read}
@@ -64,18 +63,27 @@ Ahead length p Cut = Unit {0}
 Ahead length p (Unlisted code) = Unit {0}
 Ahead length p (Whole t) = Follows length p t
 
-whole-ahead : (length p n code : ℕ) (o : Operand) (next : ℕ) → p < next → Ahead length p (wholeOf length n code o next)
-unfolding wholeOf
-whole-ahead length p n code o next h =
-    pick-is (Ahead length p) (ltb length next) Cut (pick (listed code o) (Whole (tokenOf n code o next)) (Unlisted code)) (λ t. tt)
-    (λ t. pick-is (Ahead length p) (listed code o) (Whole (tokenOf n code o next)) (Unlisted code) (λ u. (h, omega (arith, tests))) (λ u. tt))
+-- what is decoded at a place, by where the token ends and whether it is in the list
+pub decoded-is : (Q : Decoded → Type 0) (rom : List ℕ) (length : ℕ) (wide : Bool) (p : ℕ)
+    → let n = numberOf rom p in
+    let o = operandOf rom length wide (behindNumber rom p) (formIn (codeOf n)) in
+    let next = behindOf rom wide (behindNumber rom p) (formIn (codeOf n)) in
+    Q Cut → (next ≤ length → T (listed (codeOf n) o) → Q (Whole (tokenOf n (codeOf n) o next))) → (next ≤ length → Q (Unlisted (codeOf n)))
+    → Q (decodeOf rom length wide p)
+unfolding decodeOf wholeOf
+decoded-is Q rom length wide p cut whole unlisted =
+    let n = numberOf rom p in
+    let o = operandOf rom length wide (behindNumber rom p) (formIn (codeOf n)) in
+    let next = behindOf rom wide (behindNumber rom p) (formIn (codeOf n)) in
+    pick-is Q (ltb length next) Cut (pick (listed (codeOf n) o) (Whole (tokenOf n (codeOf n) o next)) (Unlisted (codeOf n))) (λ t. cut)
+    (λ t. pick-is Q (listed (codeOf n) o) (Whole (tokenOf n (codeOf n) o next)) (Unlisted (codeOf n)) (λ u. whole (omega (arith, tests)) u)
+    (λ u. unlisted (omega (arith, tests))))
 
 pub decode-ahead : (rom : List ℕ) (length : ℕ) (wide : Bool) (p : ℕ) → Ahead length p (decodeOf rom length wide p)
-unfolding decodeOf
 decode-ahead rom length wide p =
     let n = number-ahead rom p in
     let b = behind-ahead rom wide (behindNumber rom p) (formIn (codeOf (numberOf rom p))) in
-    whole-ahead length p (numberOf rom p) (codeOf (numberOf rom p)) _ _ (omega arith)
+    decoded-is (Ahead length p) rom length wide p tt (λ h l. (omega arith, h)) (λ h. tt)
 
 -- of what was read there
 abbrev pub AheadRead : ℕ → ℕ → Read → Type 0

@@ -1,12 +1,16 @@
 pub mod Family
 pub mod Row
 pub mod Table
+pub mod Name
 pub mod Code
 pub mod Decode
 pub mod Place
 pub mod Body
 pub mod Definition
 pub mod Laws
+pub mod Reader
+pub mod ReaderLaws
 pub mod Rows
 pub mod Rules
+pub mod NameLaws
 pub mod Examples

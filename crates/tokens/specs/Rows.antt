@@ -19,7 +19,7 @@ abbrev pub everyRow : (ℕ → Row → Bool) → List (ℕ × Row) → Bool
 everyRow f [] = true
 everyRow f (x ∷ xs) = f (x .0) (x .1) && everyRow f xs
 
-found : (f : ℕ → Row → Bool) (t : List (ℕ × Row)) (d : Row) (n : ℕ) → T (everyRow f t) → T (f n d) → T (f n (find t d n))
+pub found : (f : ℕ → Row → Bool) (t : List (ℕ × Row)) (d : Row) (n : ℕ) → T (everyRow f t) → T (f n d) → T (f n (find t d n))
 found f [] d n h q = q
 found f (x ∷ xs) d n h q =
     let b = both-hold (f (x .0) (x .1)) (everyRow f xs) h in

@@ -63,7 +63,7 @@ fn number_at(rom: &[u8], at: usize) -> u32
 }
 
 // The place behind the number at a place.
-fn behind_number(rom: &[u8], at: usize) -> usize
+pub fn behind_number(rom: &[u8], at: usize) -> usize
     requires { ⌜ at < 2 ^ 40 ⌝ }
     ensures { λ r. ⌜ (r ≡ behindNumber (now (rom .entry)) at) × (at < r) × (r ≤ at + 2) ⌝ }
 {

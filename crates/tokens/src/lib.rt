@@ -1,11 +1,13 @@
-// The token list of document 01, the token at a place, and reading a body to its end. Every call is total: any bytes, any place, any
-// length. Places are counted in 32 bits.
+// The token list of document 01 with its names, the token at a place, reading a body to its end, and a reader that goes from place to place. Every call is
+// total: any bytes, any place, any length. Places are counted in 32 bits.
 mod body;
 mod code;
 mod decoding;
 mod definition;
 pub mod family;
+mod name;
 mod read;
+pub mod reader;
 
 pub use body::Body;
 pub use body::kind_of;
@@ -26,6 +28,8 @@ pub use decoding::is_program;
 pub use definition::kind_in;
 pub use definition::new_number;
 pub use definition::takes_here;
+pub use name::name_front;
+pub use name::name_rest;
 pub use read::Read;
 pub use read::out_of_place;
 pub use read::read_at;

@@ -1,0 +1,120 @@
+// The reader: it carries a ROM and a place in its program, and says what stands there. From place to place it comes past every byte of the program once,
+// whatever the bytes are. What stands at a place is worked out by `piece_at`, on a slice and numbers; the functions over the struct only hand on.
+ghost use mathlib.Core.Path.{_≡_};
+ghost use Rattle.tokens.specs.Reader.{endOf, pieceOf, widthBehind};
+ghost use Rattle.rom.specs.Header.{wideOf};
+ghost use Rattle.rom.specs.Sizes.{firstPlace};
+use crate::code::family_of;
+use crate::decoding::Decoded;
+use crate::decoding::Token;
+use crate::decoding::behind_number;
+use crate::decoding::decode;
+use crate::family;
+use rom::program_length;
+use rom::wide_start;
+
+// What stands at a place: nothing, at the program's end; bytes that no token of the list covers, up to a place; or a token of the list, with the place
+// behind its number, where its operand starts, and the offset width in force behind it.
+pub enum Piece {
+    End,
+    Raw(u32),
+    Listed {
+        token: Token,
+        start: u32,
+        wide: bool,
+    },
+}
+
+// A ROM, a place in it, and the offset width in force there.
+pub struct Reader<'a> {
+    pub rom: &'a [u8],
+    pub place: u32,
+    pub wide: bool,
+}
+
+// Where the program ends: at its length, or where the bytes lent do if that is nearer.
+pub fn program_end(rom: &[u8]) -> u32
+    ensures { λ r. ⌜ r ≡ endOf (now (rom .entry)) ⌝ }
+{
+    let length = program_length(rom);
+    if rom.len() < (length as usize) {
+        rom.len() as u32
+    } else {
+        length
+    }
+}
+
+// The offset width in force behind a token: offset16 makes it wide.
+fn width_behind(wide: bool, code: u32) -> bool
+    ensures { λ r. ⌜ r ≡ widthBehind wide code ⌝ }
+{
+    if family_of(code) == family::WIDEN {
+        true
+    } else {
+        wide
+    }
+}
+
+fn piece_at(rom: &[u8], wide: bool, place: u32) -> Piece
+    ensures { λ r. ⌜ r ≡ pieceOf (now (rom .entry)) wide place ⌝ }
+{
+    let end = program_end(rom);
+    if end <= place {
+        return Piece::End;
+    }
+    match decode(rom, end, wide, place) {
+        // the bytes of a token that is cut off are all that is left
+        Decoded::Cut => Piece::Raw(end),
+        // a number that is not in the list is its own bytes and nothing more
+        Decoded::Unlisted(_) => {
+            let next = behind_number(rom, place as usize) as u32;
+            Piece::Raw(next)
+        }
+        Decoded::Whole(token) => {
+            let start = behind_number(rom, place as usize) as u32;
+            let behind = width_behind(wide, token.code);
+            Piece::Listed {
+                token: token,
+                start: start,
+                wide: behind,
+            }
+        }
+    }
+}
+
+// A reader at the program's first place.
+pub fn new<'a>(rom: &'a [u8]) -> Reader<'a>
+    ensures { λ r. ⌜ (r .rom ≡ rom .entry) × (r .place ≡ firstPlace) × (r .wide ≡ wideOf (now (rom .entry))) ⌝ }
+{
+    let wide = wide_start(rom);
+    Reader {
+        rom,
+        place: 8,
+        wide,
+    }
+}
+
+// What stands where the reader is.
+pub fn next<'a>(r: Reader<'a>) -> Piece
+    ensures { λ p. ⌜ p ≡ pieceOf (now (r .entry .rom)) (r .entry .wide) (r .entry .place) ⌝ }
+{
+    piece_at(r.rom, r.wide, r.place)
+}
+
+// The reader at another place of its ROM.
+pub fn moved<'a>(r: Reader<'a>, wide: bool, place: u32) -> Reader<'a>
+    ensures { λ q. ⌜ (q .rom ≡ r .entry .rom) × (q .place ≡ place) × (q .wide ≡ wide) ⌝ }
+{
+    Reader {
+        rom: r.rom,
+        place,
+        wide,
+    }
+}
+
+// The same for whoever holds no reader: what stands at a place, with the offset width in force there.
+pub fn read_piece(rom: &[u8], wide: bool, place: u32) -> Piece
+    ensures { λ p. ⌜ p ≡ pieceOf (now (rom .entry)) wide place ⌝ }
+{
+    next(moved(new(rom), wide, place))
+}
