@@ -1,5 +1,5 @@
 #!/bin/sh
-# Runs ./lamp as a person would: good ROMs, refused ones, budgets, and files that are no ROM at all. Each line of the list below says what is asked,
+# Runs ./lamp as a person would: good ROMs, refused ones, budgets, token lists, and files that are no ROM at all. Each line of the list below says what is asked,
 # what must be printed, what must be said on standard error, and the exit status.
 set -u
 here=$(cd "$(dirname "$0")/.." && pwd -P)
@@ -47,6 +47,8 @@ bytes FD0801120000000B13FF00 >"$room/circles.rom"
 # a property "refused" in a run that finishes, and one "done" in a run that divides by zero
 bytes FD08032A000000161200120772656675736564011000 >"$room/refused.rom"
 bytes FD0803550000001612001204646F6E650110A6A52B00 >"$room/done.rom"
+# a number that is not in the list, of one byte and of two, a branch behind offset16, a definition, and a literal that is cut off
+bytes FD080571000000161501FECC13FFFBB50800B7100000 >"$room/mixed.rom"
 : >"$room/empty.rom"
 head -c 16385 /dev/zero >"$room/long.rom"
 mkdir "$room/folder.rom"
@@ -60,7 +62,14 @@ lanes 00000003
 steps 7
 done"
 no_budget=': no budget, which is a number from 0 to 4,294,967,295'
-usage='usage: ./lamp [FILE [BUDGET]]'
+usage='usage: ./lamp [FILE [BUDGET]], or ./lamp --tokens [FILE]'
+tokens='0008 12 b(") 05 7363616C65
+000F 0201 device-name
+0011 A8 3
+0012 0111 encode-int
+0014 12 b(") 05 6C616E6573
+001B 0110 property
+001D 00 end0'
 
 expect 0 "$board" ''
 expect 0 "$board" '' scale.rom
@@ -109,6 +118,26 @@ expect 2 '' "many$no_budget" scale.rom many
 expect 2 '' "-1$no_budget" scale.rom -1
 expect 2 '' "1000x$no_budget" scale.rom 1000x
 expect 2 '' "4294967296$no_budget" scale.rom 4294967296
+expect 0 "$tokens" '' --tokens
+expect 0 "$tokens" '' --tokens scale.rom
+expect 0 "$tokens" '' --tokens longer.rom
+expect 0 "$tokens" '' --tokens - <"$room/scale.rom"
+expect 0 '0008 raw 15
+0009 raw 01FE
+000B CC offset16
+000C 13 bbranch FFFB
+000F B5 new-token 0800 B7
+0013 raw 100000' '' --tokens mixed.rom
+expect 1 'refused 1' '' --tokens short.rom
+expect 1 'refused 2' '' --tokens start.rom
+expect 1 'refused 3' '' --tokens format.rom
+expect 1 'refused 4' '' --tokens length.rom
+expect 1 'refused 5' '' --tokens zeroed.rom
+expect 2 '' 'empty.rom: empty, no ROM' --tokens empty.rom
+expect 2 '' 'long.rom: over 16,384 bytes, no ROM' --tokens long.rom
+expect 2 '' 'missing.rom: No such file or directory' --tokens missing.rom
+expect 2 '' "$usage" --tokens ''
+expect 2 '' "$usage" --tokens scale.rom 7
 expect 2 '' "$usage" ''
 expect 2 '' "$usage" scale.rom ''
 expect 2 '' "$usage" scale.rom 7 7

@@ -1,4 +1,4 @@
--- Every text fits its buffer: at most 32 lines of nodes, a line for each property that is held, and three lines more. A property is printed under one
+-- Every listing fits its buffer: at most 32 lines of nodes, a line for each property that is held, and three lines more. A property is printed under one
 -- node at most, so that the lines of properties have at most twice the store's bytes and two for each property. Assumes nothing.
 use Prim.Native.Nat.{ℕ, zero, suc, _+_, _*_, _≤_, _<_}
 use native.Mathlib.Omega.{arith}
@@ -18,7 +18,7 @@ use Rattle.tree.specs.Laws.{whole-facts}
 use Rattle.tree.specs.declared.tree.Tree.{Tree}
 use Rattle.lines.specs.Digits.{decimalOf}
 use Rattle.lines.specs.Lines.{lineEnd, shown, nodeLine, propertyLine, ownLines, nodeLines, stepsLine, refusedLine, doneLine, closingLine, runText}
-use Rattle.lines.specs.Laws.{length-decimal, length-hex}
+use Rattle.lines.specs.Laws.{length-decimal, length-shown}
 
 -- the lines that are made of words and numbers
 pub length-node-line : (k parent : ℕ) → length (nodeLine k parent) ≡ 14 + length (decimalOf k) + length (decimalOf parent)
@@ -57,10 +57,6 @@ length-property-line name value =
     let b = length-append (shown value) lineEnd in
     omega arith
 
-length-shown : (value : List ℕ) → length (shown value) ≤ 2 * length value + 1
-length-shown [] = omega arith
-length-shown (b ∷ bs) = let h = length-hex (b ∷ bs) in omega arith
-
 -- all lines of these properties, each once
 abbrev lineSizes : List Property → ℕ
 lineSizes [] = 0
@@ -78,7 +74,7 @@ held-sizes t store (suc k) i at =
     let a = length-take n (drop at store) in
     let b = length-take v (drop (at + n) store) in
     let l = length-property-line name value in
-    let s = length-shown value in
+    let s = length-shown value .0 in
     omega arith
 
 -- the lines under so many nodes from node k on

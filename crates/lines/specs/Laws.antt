@@ -11,7 +11,6 @@ use lib.Seq.{drop-cons}
 use lib.Dec.{ltb, eqb}
 use Rattle.cells.specs.Choice.{pick}
 use Rattle.cells.specs.Tests.{when-is, chosen-below, chosen-from, tests}
-use Rattle.rom.specs.Sizes.{textSize}
 use Rattle.memory.specs.Window.{partOf}
 use Rattle.memory.specs.Writing.{writtenOf, clearedOf}
 use Rattle.memory.specs.Laws.{written-append, written-is, length-written}
@@ -20,7 +19,7 @@ use Rattle.tree.specs.Whole.{parentOf}
 use Rattle.tree.specs.declared.tree.Tree.{Tree}
 use Rattle.lines.specs.Digits.{digit, decimalFrom, decimalOf, hexDigit, hexOf}
 use Rattle.lines.specs.Lines.{shown, nodeLine, propertyLine, ownLines, nodeLines}
-use Rattle.lines.specs.Told.{told, filled, toldAs}
+use Rattle.lines.specs.Told.{told, filledTo, toldIn}
 use Rattle.lines.specs.Wrote.{Wrote}
 
 -- a number of one digit, and the last digit of another
@@ -123,6 +122,11 @@ pub shown-some : (value : List ℕ) → (length value ≡ 0 → ⊥) → shown v
 shown-some [] n = absurd (n refl)
 shown-some (b ∷ bs) n = refl
 
+-- a space and two digits for each byte; nothing for none
+pub length-shown : (value : List ℕ) → (length (shown value) ≤ 2 * length value + 1) × (length (shown value) ≤ 3 * length value)
+length-shown [] = (omega arith, omega arith)
+length-shown (b ∷ bs) = let h = length-hex (b ∷ bs) in (omega arith, omega arith)
+
 -- what is left of a walk over the records, and over the nodes
 module _ (t : Tree) (store : List ℕ) where
   -- what a record adds to the lines of a node
@@ -158,20 +162,20 @@ module _ (t : Tree) (ps : List Property) where
   nodes-none m k e = rw e
 
 -- a text from the start, and zeros behind it
-pub cleared-text : (m words : List ℕ) → length m ≡ textSize → length words ≤ textSize → clearedOf (writtenOf m 0 words) (length words) ≡ filled words
-cleared-text m words e h =
-    let n = textSize - length words in
+cleared-text : (size : ℕ) (m words : List ℕ) → length m ≡ size → length words ≤ size → clearedOf (writtenOf m 0 words) (length words) ≡ filledTo size words
+cleared-text size m words e h =
+    let n = size - length words in
     let z : List ℕ = replicate n 0 in
     let l = length-append words z in
     let r : length z ≡ n = length-replicate n 0 in
-    let f : length (words ++ z) ≡ textSize = omega arith in
+    let f : length (words ++ z) ≡ size = omega arith in
     let w = rw (zero-add (length words)) at (written-append m 0 words z) in
     let d : drop (0 + length (words ++ z)) m ≡ [] = drop-of-length-le m {i = 0 + length (words ++ z)} (omega arith) in
     rw (length-written m 0 words, e) (sym w ∙ written-is m 0 (words ++ z) (omega arith) ∙ rw d (append-nil (words ++ z)))
 
 -- so a text that was written whole, and cleared behind, is told
-pub told-whole : {m n k : List ℕ} {end : ℕ} {words : List ℕ} → length m ≡ textSize → length words ≤ textSize → Wrote m n 0 end words → k ≡ clearedOf n end
-    → told end k ≡ toldAs words
-told-whole {m} {words = words} s f w e =
+pub told-whole : {m n k : List ℕ} {end : ℕ} {words : List ℕ} (size : ℕ) → length m ≡ size → length words ≤ size → Wrote m n 0 end words → k ≡ clearedOf n end
+    → told end k ≡ toldIn size words
+told-whole {m} {words = words} size s f w e =
     let p : _ ≡ length words = w .place ∙ zero-add (length words) in
-    rw (e, w .text, p) (ap (λ (t : List ℕ). told (length words) t) (cleared-text m words s f))
+    rw (e, w .text, p) (ap (λ (t : List ℕ). told (length words) t) (cleared-text size m words s f))

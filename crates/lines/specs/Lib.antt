@@ -1,7 +1,9 @@
 pub mod Digits
 pub mod Lines
+pub mod TokenLines
 pub mod Told
 pub mod Wrote
 pub mod Laws
 pub mod Fits
+pub mod TokenLaws
 pub mod Examples

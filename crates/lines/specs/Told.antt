@@ -6,10 +6,11 @@ use mathlib.Core.List.{List, _++_}
 use lib.ListN.{length, replicate}
 use lib.Dec.{eqb}
 use Rattle.cells.specs.Choice.{pick}
-use Rattle.rom.specs.Sizes.{storeSize, textSize}
+use Rattle.rom.specs.Sizes.{storeSize, textSize, tokenTextSize}
 use Rattle.tree.specs.Whole.{wholeTree}
 use Rattle.tree.specs.declared.tree.Tree.{Tree}
 use Rattle.lines.specs.Lines.{refusedLine, runText}
+use Rattle.lines.specs.TokenLines.{tokenText}
 
 pub record Told : Type 0 where
   pub length : ℕ
@@ -18,12 +19,19 @@ pub record Told : Type 0 where
 abbrev pub told : ℕ → List ℕ → Told
 told n text = record { length = n; text = text }
 
--- the buffer with a text and zeros behind it
+-- a buffer of so many bytes with a text and zeros behind it
+abbrev pub filledTo : ℕ → List ℕ → List ℕ
+filledTo size words = words ++ replicate (size - length words) 0
+
+abbrev pub toldIn : ℕ → List ℕ → Told
+toldIn size words = told (length words) (filledTo size words)
+
+-- that of a listing
 abbrev pub filled : List ℕ → List ℕ
-filled words = words ++ replicate (textSize - length words) 0
+filled words = filledTo textSize words
 
 abbrev pub toldAs : List ℕ → Told
-toldAs words = told (length words) (filled words)
+toldAs words = toldIn textSize words
 
 abbrev pub wrongText : List ℕ → Bool
 wrongText text = not (eqb (length text) textSize)
@@ -36,3 +44,7 @@ refusedTold text number = pick (wrongText text) (told 0 text) (toldAs (refusedLi
 unfoldable pub runTold : List ℕ → List ℕ → Tree → ℕ → ℕ → Told
 runTold text store t steps number =
     pick (wrongText text || (not (eqb (length store) storeSize) || not (wholeTree t))) (told 0 text) (toldAs (runText t store steps number))
+
+-- the token list of a ROM
+unfoldable pub tokenTold : List ℕ → List ℕ → Told
+tokenTold text rom = pick (not (eqb (length text) tokenTextSize)) (told 0 text) (toldIn tokenTextSize (tokenText rom))

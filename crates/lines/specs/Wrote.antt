@@ -5,13 +5,13 @@ use native.Mathlib.Omega.{arith}
 use mathlib.Core.List.{List, [], _∷_, _++_}
 use mathlib.Core.Path.{_≡_, refl, sym, ap, _∙_}
 use lib.ListN.{length, set, length-append}
-use Rattle.rom.specs.Sizes.{textSize}
+use Rattle.rom.specs.Sizes.{tokenTextSize}
 use Rattle.memory.specs.Writing.{writtenOf}
 use Rattle.memory.specs.Laws.{written-append, written-more, written-none, length-written}
 
--- bytes that end in the buffer for a text
+-- bytes that end where a text may: in the longer of the two buffers
 abbrev pub Fits : ℕ → List ℕ → Type 0
-Fits at words = at + length words ≤ textSize
+Fits at words = at + length words ≤ tokenTextSize
 
 -- the text with the bytes from a place on, and the place behind them
 pub record Wrote (before after : List ℕ) (at end : ℕ) (words : List ℕ) : Type 0 where

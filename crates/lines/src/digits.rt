@@ -26,7 +26,7 @@ fn hex_digit(half: u8) -> u8
     if half < 10 { 0x30 + half } else { 0x37 + half }
 }
 
-fn hex_byte(text: &mut [u8], at: usize, byte: u8) -> usize
+pub fn hex_byte(text: &mut [u8], at: usize, byte: u8) -> usize
     requires { ⌜ Fits at (hexPair byte) ⌝ }
     ensures { λ r. ⌜ Wrote (now (text .entry)) (now (text .exit)) at r (hexPair byte) ⌝ }
 {

@@ -1,8 +1,10 @@
-// The listing's lines, written into a buffer that is lent for them. Every call is total.
+// The lines of a listing and of a token list, written into a buffer that is lent for them. Every call is total.
 mod digits;
 mod lines;
+mod pieces;
 mod telling;
 mod words;
 
 pub use telling::refused_text;
 pub use telling::run_text;
+pub use telling::token_text;

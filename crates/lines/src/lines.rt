@@ -32,7 +32,7 @@ fn node_line(text: &mut [u8], at: usize, k: u32, parent: u32) -> usize
 }
 
 // A value behind its name; an empty one shows nothing, not even the space.
-fn shown(text: &mut [u8], at: usize, value: &[u8]) -> usize
+pub fn shown(text: &mut [u8], at: usize, value: &[u8]) -> usize
     requires { ⌜ Fits at (Lines·shown (now value)) ⌝ }
     ensures { λ r. ⌜ Wrote (now (text .entry)) (now (text .exit)) at r (Lines·shown (now (value .entry))) ⌝ }
 {

@@ -19,4 +19,4 @@ refused-text-spec =
     (λ c. search needs)
     (λ c.
     let s = c .before .before .before .before .before .before .before .before .if1 .left in
-    rw (eq-eqb _ _ s) (told-whole s (refused-fits (c .before .before .before .before .before .before .before .before .before .before .args .number)) (c .before .before .before .before .before .before .refused-line .ensures) (c .before .before .clear-from .ensures))))
+    rw (eq-eqb _ _ s) (told-whole 65536 s (refused-fits (c .before .before .before .before .before .before .before .before .before .before .args .number)) (c .before .before .before .before .before .before .refused-line .ensures) (c .before .before .clear-from .ensures))))

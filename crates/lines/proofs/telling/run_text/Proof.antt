@@ -59,7 +59,7 @@ run-text-spec =
     let e = c .before .before .before .before .before .before .before .before .before .before .before .before .before .before .before .before .before .before .before .before .before in
     let s = e .before .before .before .if1 .left in
     rw (eq-eqb _ _ s, eq-eqb _ _ (e .before .before .if2 .left), whole e)
-    (told-whole s (fits (a .tree) (now (a .store)) (a .steps) (a .number) (whole e))
+    (told-whole 65536 s (fits (a .tree) (now (a .store)) (a .steps) (a .number) (whole e))
     (wrote-then (c .before .before .before .before .before .before .before .before .before .before .before .before .before .before .before .before .before .before .say .ensures)
     (wrote-then (c .before .before .before .before .before .before .before .before .before .before .before .before .before .before .node-lines .ensures) (wrote-then (c .before .before .before .before .before .before .before .before .before .before .steps-line .ensures) (c .before .before .before .before .before .before .closing-line .ensures))))
     (c .before .before .clear-from .ensures))))

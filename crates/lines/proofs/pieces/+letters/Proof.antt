@@ -1,0 +1,41 @@
+use Prim.Native.Nat.{ℕ, _<_}
+use mathlib.Core.Path.{_≡_}
+use native.Mathlib.Omega.{arith}
+use borrow.Author.Needs.{needs}
+use borrow.Fn.Kinds.{In}
+use borrow.Fn.PlainCycle.{Measures, is, falls, and}
+use Rattle.tokens.specs.NameLaws.{unpacked-none, unpacked-more, length-unpacked}
+use Rattle.lines.specs.Wrote.{wrote-none, wrote-then}
+use Rattle.lines.proofs.pieces.letters.Reads as letters
+use Rattle.lines.proofs.pieces.letters.Kinds as letters-kinds
+use Rattle.lines.proofs.pieces.+letters.Lts-letters as letters-lts
+use Rattle.lines.proofs.words.letter.Reads as letter-reads
+use Rattle.lines.proofs.pieces.+letters.{statement}
+use Rattle.lines.proofs.pieces.+letters.Tie.{close}
+
+-- the number itself: without its last letter it is less
+abbrev μ-letters : Measures 1 letters-kinds.ps ℕ
+μ-letters κs a = a .1 .1 .0
+
+-- what `letters` is given at the measure t, and what a call of it asks below t
+abbrev letters-at : ℕ → In 1 letters-kinds.ps
+letters-at t = and 1 letters-kinds.ps (is 1 letters-kinds.ps μ-letters t) letters.Pre
+
+abbrev letters-below : ℕ → In 1 letters-kinds.ps
+letters-below t = and 1 letters-kinds.ps (falls 1 letters-kinds.ps _<_ μ-letters t) letters.Pre
+
+pub +letters-spec : {M : Type 1} → statement M
++letters-spec =
+    close μ-letters
+    (λ t.
+    letters-lts.spec (letters-below t, letters.Post, letter-reads.Asked, letter-reads.Learnt)
+    (letters-at t)
+    letters.Post
+    (λ c. let e : c .before .before .args .packed ≡ 0 = search needs in rw (e, unpacked-none 8) wrote-none)
+    (λ c κs.
+    let l = length-unpacked (c .before .before .before .args .packed) (search needs) (search needs) in
+    (omega (arith, c .before .before .before .pre .0), omega arith))
+    (λ c. search needs)
+    (λ c κs. let l = length-unpacked (c .before .before .before .before .before .before .before .args .packed) (search needs) (search needs) in omega arith)
+    (λ c. search needs)
+    (λ c. rw (unpacked-more (c .before .before .before .before .before .before .before .before .before .before .args .packed) (search needs) (search needs)) (wrote-then (c .before .before .before .before .before .before .letters .ensures) (c .before .before .letter .ensures))))

@@ -1,0 +1,34 @@
+use native.Mathlib.Omega.{arith}
+use denote.Ref.{now}
+use borrow.Author.Needs.{needs}
+use Rattle.lines.specs.TokenLines.{allShown}
+use Rattle.lines.specs.TokenLaws.{length-all-shown}
+use Rattle.lines.specs.Wrote.{wrote-none, wrote-then}
+use Rattle.lines.proofs.pieces.parts.Statement.{statement}
+use Rattle.lines.proofs.pieces.parts.Tie as tie
+
+pub parts-spec : {M : Type 1} → statement M
+unfolding allShown
+parts-spec =
+    tie.close
+    (tie.spec
+    (λ c. search needs)
+    (λ c. search needs)
+    (λ c. search needs)
+    (λ c κs. let a = c .before .before .before .before .args in let l = length-all-shown (now (a .rom)) (a .start) (a .meet) (a .next) in omega arith)
+    (λ c. search needs)
+    (λ c. search needs)
+    (λ c. search needs)
+    (λ c κs. let a = c .before .before .before .before .before .before .before .before .before .args in let l = length-all-shown (now (a .rom)) (a .start) (a .meet) (a .next) in omega arith)
+    (λ c. search needs)
+    (λ c. search needs)
+    (λ c. search needs)
+    (λ c κs. let a = c .before .before .before .before .before .before .before .before .before .before .before .before .before .before .args in let l = length-all-shown (now (a .rom)) (a .start) (a .meet) (a .next) in omega arith)
+    (λ c. search needs)
+    (λ c. search needs)
+    (λ c. search needs)
+    (λ c κs. let a = c .before .before .before .before .before .before .before .before .before .before .before .before .before .before .before .before .before .before .before .args in let l = length-all-shown (now (a .rom)) (a .start) (a .meet) (a .next) in omega arith)
+    (λ c. search needs)
+    (λ c.
+    wrote-then (c .before .before .before .before .before .before .before .before .before .before .before .before .before .before .before .before .before .shown .ensures)
+    (wrote-then (c .before .before .before .before .before .before .before .before .before .before .before .before .shown2 .ensures) (wrote-then (c .before .before .before .before .before .before .before .shown3 .ensures) (wrote-then (c .before .before .shown4 .ensures) wrote-none)))))

@@ -1,0 +1,18 @@
+use borrow.Author.Needs.{needs}
+use Rattle.lines.specs.Digits.{hexOf}
+use Rattle.lines.specs.TokenLines.{placeOf}
+use Rattle.lines.specs.Wrote.{wrote-then}
+use Rattle.lines.proofs.pieces.place_digits.Statement.{statement}
+use Rattle.lines.proofs.pieces.place_digits.Tie as tie
+
+pub place-digits-spec : {M : Type 1} → statement M
+unfolding placeOf hexOf
+place-digits-spec =
+    tie.close
+    (tie.spec
+    (λ c. search needs)
+    (λ c κs. search needs)
+    (λ c. search needs)
+    (λ c κs. search needs)
+    (λ c. search needs)
+    (λ c. wrote-then (c .before .before .before .before .before .before .hex-byte .ensures) (c .before .before .hex-byte2 .ensures)))

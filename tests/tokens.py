@@ -1,0 +1,148 @@
+#!/usr/bin/env python3
+"""Runs the program with --tokens over ROMs of many kinds and compares what it prints with what is worked out here from document 01.
+
+    python3 tests/tokens.py                  every ROM, with the program that was proved and built
+    python3 tests/tokens.py --list FILE      prints the list of the ROM in FILE, as worked out here
+"""
+import pathlib
+import platform
+import random
+import subprocess
+import sys
+import tempfile
+
+HERE = pathlib.Path(__file__).resolve().parent.parent
+
+# document 01's words under "Tokens, by number (hex)"
+WORDS = """
+00 end0 FF end1 10 b(lit) 12 b(") 13 bbranch 14 b?branch B1 b(<mark) B2 b(>resolve) CC offset16
+1E + 1F - 20 * 23 and 24 or 25 xor 26 invert 27 lshift 28 rshift 29 >>a 2B u/mod 2C negate 2D abs 2E min 2F max 57 2/ 58 u2/ 59 2*
+34 0= 35 0<> 36 0< 37 0<= 38 0> 39 0>= 3A < 3B > 3C = 3D <> 3E u> 3F u<= 40 u< 41 u>= 42 >= 43 <= 44 between 45 within
+30 >r 31 r> 32 r@ 33 exit 46 drop 47 dup 48 over 49 swap 4A rot 4B -rot 4C tuck 4D nip 4E pick 4F roll 50 ?dup 51 depth
+52 2drop 53 2dup 54 2over 55 2swap 56 2rot 7B noop A4 -1 A5 0 A6 1 A7 2 A8 3 6D @ 71 c@ 72 ! 75 c!
+B5 new-token B6 named-token CA external-token B7 b(:) B8 b(value) B9 b(variable) BA b(constant) C3 b(to) C2 b(;)
+111 encode-int 114 encode-string 112 encode+ 110 property 201 device-name 119 model 11A device-type 11F new-device 127 finish-device
+""".split()
+NAMES = {int(number, 16): name for number, name in zip(WORDS[::2], WORDS[1::2])}
+
+
+class Past(Exception):
+    """The program ends within a token."""
+
+
+def lines(rom):
+    """The list of a ROM with a good header."""
+    length = int.from_bytes(rom[4:8], "big")
+    program, place, wide = rom[:length], 8, rom[0] == 0xF1
+
+    def take(at, count):
+        if at + count > length:
+            raise Past
+        return program[at : at + count]
+
+    def number(at):
+        return take(at, 2 if 1 <= take(at, 1)[0] <= 15 else 1)
+
+    def string(at):
+        return [take(at, 1), take(at + 1, take(at, 1)[0])]
+
+    def head(at):
+        defined = number(at)
+        return [defined, take(at + len(defined), 1)]
+
+    while place < length:
+        shown = "%04X" % place
+        try:
+            first = number(place)
+            token, at = int.from_bytes(first, "big"), place + len(first)
+            listed = token in NAMES or 0x800 <= token <= 0xFFF
+            if token == 0x10:
+                parts = [take(at, 4)]
+            elif token == 0x12:
+                parts = string(at)
+            elif token in (0x13, 0x14):
+                parts = [take(at, 2 if wide else 1)]
+            elif token == 0xC3:
+                parts = [number(at)]
+            elif token in (0xB5, 0xB6, 0xCA):
+                named = [] if token == 0xB5 else string(at)
+                parts = named + head(at + len(b"".join(named)))
+                listed = 0x800 <= int.from_bytes(parts[-2], "big") <= 0xFFF and 0xB7 <= parts[-1][0] <= 0xBA
+            else:
+                parts = []
+        except Past:
+            yield shown + " raw " + program[place:].hex().upper()
+            return
+        if not listed:
+            yield shown + " raw " + first.hex().upper()
+            place += len(first)
+            continue
+        words = [shown, first.hex().upper(), NAMES.get(token, "program number")] + [part.hex().upper() for part in parts if part]
+        yield " ".join(words)
+        place = at + len(b"".join(parts))
+        wide = wide or token == 0xCC
+
+
+def rom(body, start=0xFD):
+    return bytes([start, 8]) + (sum(body) % 65536).to_bytes(2, "big") + (8 + len(body)).to_bytes(4, "big") + body
+
+
+def roms():
+    """Every token of the list; every number of one byte, and many of two; tokens that are cut off; branches before and behind offset16; ROMs of anything."""
+    operands = {0x10: "00C0FFEE", 0x12: "057363616C65", 0x13: "7F80", 0x14: "8001", 0xC3: "0801", 0xB5: "0800B7", 0xB6: "04746172650FFFB8", 0xCA: "000800BA"}
+    every = b"".join((bytes([n]) if n < 256 else n.to_bytes(2, "big")) + bytes.fromhex(operands.get(n, "")) for n in NAMES)
+    for start in (0xFD, 0xF1):
+        yield rom(every + bytes.fromhex("08000FFF0801"), start)
+        yield rom(bytes(range(16, 256)) * 3, start)
+        yield rom(b"".join(n.to_bytes(2, "big") for n in range(0x100, 0x210)) + bytes.fromhex("07FF0FFF"), start)
+        yield rom(bytes.fromhex("1305130513CC1305130513051305"), start)
+    # heads that are badly formed, and some that are well formed
+    for head in ("B507FFB7", "B50800B6", "B50FFFBB", "B5B7B7", "B60100B7B7", "B601610800B9", "CA0201020FFFB7", "B50801B7"):
+        yield rom(bytes.fromhex(head + "00"))
+    # a token of each form, cut off at each of its bytes
+    for token in ("1000C0FFEE", "1203616263", "0110", "130102", "C30800", "B50800B7", "B60274650800B7", "12FF00", "01", "0F"):
+        for kept in range(1, len(token) // 2 + 1):
+            yield rom(b"\x47" + bytes.fromhex(token)[:kept], 0xF1)
+    yield rom(b"\x12\xFF" + b"\x00" * 255) + b"\x47\x47"
+    yield rom(b"\xB6\xFF" + b"\xAB" * 255 + b"\x0F\xFF\xBA\x00")
+    # the longest ROMs: full of one-byte tokens with the longest name, and of bytes that are none
+    yield rom(b"\xB2" * 16376)
+    yield rom(b"\xFE" * 16376)
+    some = random.Random(1275)
+    for k in range(12):
+        size = some.choice((1, 2, 40, 300, 4000))
+        yield rom(bytes(some.randrange(256) if k % 2 else some.choice(every) for _ in range(size)), some.choice((0xFD, 0xF1)))
+
+
+def loader():
+    """The words that run a program of the kit on this processor."""
+    kit = pathlib.Path(subprocess.run(["rt", "doc"], capture_output=True, text=True, check=True).stdout.strip()).parent.parent
+    tools = kit / "on" / platform.machine() / "toolchain"
+    emulator = tools / "bin" / "qemu-x86_64"
+    words = [str(emulator)] if emulator.exists() else []
+    return words + [str(tools / "lib" / "ld-linux-x86-64.so.2"), "--library-path", str(tools / "lib"), str(HERE / "target" / "bin" / "lamp")]
+
+
+def main():
+    if sys.argv[1:2] == ["--list"]:
+        print("\n".join(lines(pathlib.Path(sys.argv[2]).read_bytes())))
+        return 0
+    words, right, wrong = loader(), 0, 0
+    with tempfile.TemporaryDirectory() as room:
+        path = pathlib.Path(room) / "some.rom"
+        for k, one in enumerate(roms()):
+            path.write_bytes(one)
+            ran = subprocess.run(words + ["--tokens", str(path)], capture_output=True)
+            said = ran.stdout.decode("latin-1")
+            must = "".join(line + "\n" for line in lines(one))
+            if said == must and not ran.stderr and ran.returncode == 0:
+                right += 1
+            else:
+                wrong += 1
+                near = next(((a, b) for a, b in zip(said.split("\n"), must.split("\n")) if a != b), (said[-80:], must[-80:]))
+                print("ROM %d, %s: it says %r and must say %r" % (k, one[:24].hex().upper(), *near))
+    print("tests/tokens.py: %d ROMs as expected, %d not" % (right, wrong))
+    return 1 if wrong or not right else 0
+
+
+sys.exit(main())
