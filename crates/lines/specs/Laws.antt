@@ -1,4 +1,4 @@
--- What the proofs need of numbers, lines and texts, and that a decimal reads back as its number. Assumes nothing.
+-- What the proofs need of numbers, lines and texts, and that digits read back: a decimal as its number, hexadecimal ones as their bytes. Assumes nothing.
 use Prim.Native.Nat.{ℕ, zero, suc, _+_, _*_, _-_, _/_, _%_, _^_, _≤_, _<_}
 use native.Mathlib.Nat.{pow-suc, zero-add}
 use native.Mathlib.Numerals.{add-one}
@@ -10,7 +10,8 @@ use lib.ListN.{length, getD, drop, replicate, length-append, length-replicate, d
 use lib.Seq.{drop-cons}
 use lib.Dec.{ltb, eqb}
 use Rattle.cells.specs.Choice.{pick}
-use Rattle.cells.specs.Tests.{when-is, chosen-below, chosen-from, tests}
+use borrow.Author.Tests.{lt-ltb, le-ltb}
+use Rattle.cells.specs.Tests.{when-is, pick-is, chosen-below, chosen-from, tests}
 use Rattle.memory.specs.Window.{partOf}
 use Rattle.memory.specs.Writing.{writtenOf, clearedOf}
 use Rattle.memory.specs.Laws.{written-append, written-is, length-written}
@@ -112,6 +113,34 @@ pub length-hex : (value : List ℕ) → length (hexOf value) ≡ 2 * length valu
 unfolding hexOf
 length-hex [] = refl
 length-hex (b ∷ bs) = let i = length-hex bs in omega arith
+
+-- what a reader makes of hexadecimal digits, two for each byte
+abbrev pub hexValue : ℕ → ℕ
+hexValue d = pick (ltb d 0x3A) (d - 0x30) (d - 0x37)
+
+unfoldable pub readPairs : List ℕ → List ℕ
+readPairs [] = []
+readPairs (d ∷ []) = []
+readPairs (d ∷ e ∷ ds) = (hexValue d * 16 + hexValue e) ∷ readPairs ds
+
+abbrev pub Bytes : List ℕ → Type 0
+Bytes [] = Unit {0}
+Bytes (b ∷ bs) = (b < 256) × Bytes bs
+
+digit-reads : (n : ℕ) → n < 16 → hexValue (hexDigit n) ≡ n
+digit-reads n h =
+    pick-is (λ d. hexValue d ≡ n) (ltb n 10) (0x30 + n) (0x37 + n)
+    (λ t. let l : 0x30 + n < 0x3A = omega (arith, tests) in rw (lt-ltb (0x30 + n) 0x3A l) (omega arith))
+    (λ t. let l : 0x3A ≤ 0x37 + n = omega (arith, tests) in rw (le-ltb (0x37 + n) 0x3A l) (omega arith))
+
+-- the digits of bytes read back as the bytes
+pub hex-reads : (bs : List ℕ) → Bytes bs → readPairs (hexOf bs) ≡ bs
+unfolding hexOf readPairs
+hex-reads [] h = refl
+hex-reads (b ∷ bs) h =
+    let l = h .0 in
+    let e : b / 16 * 16 + b % 16 ≡ b = omega arith in
+    rw (digit-reads (b / 16) (omega arith), digit-reads (b % 16) (omega arith), e, hex-reads bs (h .1))
 
 -- a value that is empty, and one that is not
 pub shown-none : (value : List ℕ) → length value ≡ 0 → shown value ≡ []

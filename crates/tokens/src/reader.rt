@@ -55,6 +55,7 @@ fn width_behind(wide: bool, code: u32) -> bool
     }
 }
 
+// What stands at a place, with the offset width in force there.
 fn piece_at(rom: &[u8], wide: bool, place: u32) -> Piece
     ensures { λ r. ⌜ r ≡ pieceOf (now (rom .entry)) wide place ⌝ }
 {
