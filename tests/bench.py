@@ -9,6 +9,8 @@ import pathlib
 import random
 import sys
 
+from roms import with_header
+
 BENCH = pathlib.Path(__file__).parent.parent / "crates" / "bench"
 
 # What each token does to the data stack, as the glossary's stack diagrams have it: cells before, cells after. Of pick, roll and ?dup it is
@@ -172,11 +174,6 @@ def lines(text):
                     yield f" {place:x} {said} {shown(rom, length, wide, place)} {body(rom, length, wide, place)}"
 
 
-def with_header(start, program):
-    length = len(program) + 8
-    return bytes([start, 8]) + (sum(program) % 65536).to_bytes(2, "big") + length.to_bytes(4, "big") + program
-
-
 def written(number):
     return number.to_bytes(2 if number > 0xFF else 1, "big")
 
@@ -203,11 +200,11 @@ def any_bytes(seed, count):
 
 def roms():
     for start in (0xFD, 0xF1):
-        yield with_header(start, every_token())
+        yield with_header(every_token(), start)
     for program in ("13FF00", "A4A629"):
-        yield with_header(0xFD, bytes.fromhex(program))
+        yield with_header(bytes.fromhex(program))
     for seed, count in ((1275, 120), (1994, 90), (7, 60)):
-        yield with_header(0xFD, any_bytes(seed, count))
+        yield with_header(any_bytes(seed, count))
 
 
 def main():

@@ -4,21 +4,16 @@ a line with the ROM in hex ('-': no bytes) and the budget, the listing's lines, 
 
     python3 tests/listings.py       prints them
 """
-import pathlib
-
-CASES = pathlib.Path(__file__).parent / "cases.txt"
+import roms
 
 
-def worked_cases():
-    """Each case: its ROM and budget, and its lines by their first word."""
-    for line in CASES.read_text().splitlines():
+def by_kind(lines):
+    """A case's lines by their first word."""
+    told = {}
+    for line in lines:
         word, *rest = line.split(" ")
-        if word == "case":
-            rom, budget, told = rest[0], rest[1], {}
-        elif word == ".":
-            yield rom, budget, told
-        else:
-            told.setdefault(word, []).append(rest)
+        told.setdefault(word, []).append(rest)
+    return told
 
 
 def shown(prop):
@@ -43,10 +38,10 @@ def listing(told):
 
 
 def main():
-    cases = list(worked_cases())
+    cases = list(roms.worked_cases())
     print(len(cases))
-    for rom, budget, told in cases:
-        lines = listing(told)
+    for (rom, budget, *_), told in cases:
+        lines = listing(by_kind(told))
         assert "." not in lines
         print(f"{rom} {budget}", *lines, ".", sep="\n")
 

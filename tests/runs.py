@@ -1,6 +1,6 @@
 #!/usr/bin/env python3
 """What crates/runs is run on and must print: the worked cases of tests/cases.txt, the bench ROMs of document 01 that only run, every condition of
-refusal 7, the order of the tests, and lookups. The worked cases were worked out from document 01 apart from the Rattle code, the rest by hand here.
+refusal 7, the order of the tests, and lookups. The worked cases were worked out apart from the Rattle code, the rest by hand here.
 
     python3 tests/runs.py           writes crates/runs/stdin and crates/runs/stdout
     python3 tests/runs.py --check   compares them with what it would write, and exits 1 where they differ
@@ -30,16 +30,12 @@ import pathlib
 import sys
 import zlib
 
+import roms
 import written
+from roms import with_header
 
-TESTS = pathlib.Path(__file__).parent
-RUNS = TESTS.parent / "crates" / "runs"
+RUNS = pathlib.Path(__file__).parent.parent / "crates" / "runs"
 NOT_RUN = ("screen", "marks")
-
-
-def with_header(program):
-    length = len(program) + 8
-    return bytes([0xFD, 8]) + (sum(program) % 65536).to_bytes(2, "big") + length.to_bytes(4, "big") + program
 
 
 def crc(content):
@@ -48,18 +44,18 @@ def crc(content):
 
 def worked_cases():
     """Each worked case: its line of input, and the lines that it must give."""
-    asked, told = None, []
-    for line in (TESTS / "cases.txt").read_text().splitlines():
-        word = line.split(" ")[0]
-        if word == "case":
-            rom, *rest = line.split(" ")[1:]
-            asked, told = " ".join(["R", rom.replace("-", ""), *rest]), []
-        elif word == ".":
-            yield asked, told
-        elif word not in NOT_RUN:
-            told.append(line)
-            if word == "store":
-                told.append(rows(told))
+    for (rom, *rest), told in roms.worked_cases():
+        yield " ".join(["R", rom.replace("-", ""), *rest]), with_rows(line for line in told if roms.kind(line) not in NOT_RUN)
+
+
+def with_rows(lines):
+    """The lines of a run, and the node table behind what is said of the store."""
+    told = []
+    for line in lines:
+        told.append(line)
+        if roms.kind(line) == "store":
+            told.append(rows(told))
+    return told
 
 
 def rows(told):

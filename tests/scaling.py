@@ -19,17 +19,19 @@ import resource
 import subprocess
 import sys
 
+import roms
+from roms import NARROW, WIDE
+
 HERE = pathlib.Path(__file__).resolve().parent.parent
 SIZE = 16384
 ROOM = SIZE - 8
-NARROW, WIDE = 0xFD, 0xF1
 PASSES, NO_HEIGHTS = 0, 31
 LIMIT = 300  # seconds for one run of the program
 
 
-def with_header(program, start):
+def full_size(program, start):
     assert len(program) == ROOM, len(program)
-    return bytes([start, 8]) + (sum(program) % 65536).to_bytes(2, "big") + SIZE.to_bytes(4, "big") + program
+    return roms.with_header(program, start)
 
 
 def filled(part, end=b"\x00"):
@@ -234,7 +236,7 @@ def measure(command, counts):
     good, plain = True, None
     for name, program, start, verdict in ROMS:
         try:
-            time, told = one_screening(command, with_header(program, start), counts)
+            time, told = one_screening(command, full_size(program, start), counts)
         except subprocess.TimeoutExpired:
             print(f"{name:28} over {LIMIT} seconds")
             good = False
@@ -259,7 +261,7 @@ def main():
         asked.write.mkdir(parents=True, exist_ok=True)
         for name, program, start, verdict in ROMS:
             file = "".join(c if c.isalnum() else "-" for c in name)
-            (asked.write / f"{file}-{verdict}.rom").write_bytes(with_header(program, start))
+            (asked.write / f"{file}-{verdict}.rom").write_bytes(full_size(program, start))
         return 0
     return 0 if measure(asked.command or command_of(asked.program), asked.counts) else 1
 

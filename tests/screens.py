@@ -1,7 +1,7 @@
 #!/usr/bin/env python3
 """What crates/screens is run on and must print: the worked cases of tests/cases.txt, the bench ROMs of document 01, the ROMs by which docs/DECISIONS.md
-says how document 01 is read, wrong buffers and headers, and ROMs for the rules that these do not touch. The worked cases were worked out from
-document 01 apart from the Rattle code, the rest by hand here.
+says how document 01 is read, wrong buffers and headers, and ROMs for the rules that these do not touch. The worked cases were worked out apart from
+the Rattle code, the rest by hand here.
 
     python3 tests/screens.py           writes crates/screens/stdin and crates/screens/stdout
     python3 tests/screens.py --check   compares them with what it would write, and exits 1 where they differ
@@ -15,16 +15,11 @@ this height and one. A ROM that is refused is written as bytes alone. Every ROM 
 import pathlib
 import sys
 
+import roms
 import written
+from roms import NARROW, WIDE, with_header
 
-TESTS = pathlib.Path(__file__).parent
-SCREENS = TESTS.parent / "crates" / "screens"
-NARROW, WIDE = 0xFD, 0xF1
-
-
-def with_header(program, start=NARROW):
-    length = len(program) + 8
-    return bytes([start, 8]) + (sum(program) % 65536).to_bytes(2, "big") + length.to_bytes(4, "big") + program
+SCREENS = pathlib.Path(__file__).parent.parent / "crates" / "screens"
 
 
 def passed(heights):
@@ -58,15 +53,9 @@ def bare(text):
 
 def worked_cases():
     """Each worked case: its line of input, and the lines that it must give."""
-    asked, told = None, []
-    for line in (TESTS / "cases.txt").read_text().splitlines():
-        word = line.split(" ")[0]
-        if word == "case":
-            asked, told = f"S {line.split(' ')[1].replace('-', '')}", []
-        elif word in ("screen", "marks"):
-            told.append(line)
-        elif word == ".":
-            yield asked, told if len(told) == 2 else told + ["unwritten"]
+    for (rom, *_), told in roms.worked_cases():
+        lines = [line for line in told if roms.kind(line) in ("screen", "marks")]
+        yield f"S {rom.replace('-', '')}", lines if len(lines) == 2 else lines + ["unwritten"]
 
 
 def pushes(count):

@@ -11,6 +11,8 @@ import subprocess
 import sys
 import tempfile
 
+from roms import with_header
+
 HERE = pathlib.Path(__file__).resolve().parent.parent
 
 # document 01's words under "Tokens, by number (hex)"
@@ -83,35 +85,31 @@ def lines(rom):
         wide = wide or token == 0xCC
 
 
-def rom(body, start=0xFD):
-    return bytes([start, 8]) + (sum(body) % 65536).to_bytes(2, "big") + (8 + len(body)).to_bytes(4, "big") + body
-
-
 def roms():
     """Every token of the list; every number of one byte, and many of two; tokens that are cut off; branches before and behind offset16; ROMs of anything."""
     operands = {0x10: "00C0FFEE", 0x12: "057363616C65", 0x13: "7F80", 0x14: "8001", 0xC3: "0801", 0xB5: "0800B7", 0xB6: "04746172650FFFB8", 0xCA: "000800BA"}
     every = b"".join((bytes([n]) if n < 256 else n.to_bytes(2, "big")) + bytes.fromhex(operands.get(n, "")) for n in NAMES)
     for start in (0xFD, 0xF1):
-        yield rom(every + bytes.fromhex("08000FFF0801"), start)
-        yield rom(bytes(range(16, 256)) * 3, start)
-        yield rom(b"".join(n.to_bytes(2, "big") for n in range(0x100, 0x210)) + bytes.fromhex("07FF0FFF"), start)
-        yield rom(bytes.fromhex("1305130513CC1305130513051305"), start)
+        yield with_header(every + bytes.fromhex("08000FFF0801"), start)
+        yield with_header(bytes(range(16, 256)) * 3, start)
+        yield with_header(b"".join(n.to_bytes(2, "big") for n in range(0x100, 0x210)) + bytes.fromhex("07FF0FFF"), start)
+        yield with_header(bytes.fromhex("1305130513CC1305130513051305"), start)
     # heads that are badly formed, and some that are well formed
     for head in ("B507FFB7", "B50800B6", "B50FFFBB", "B5B7B7", "B60100B7B7", "B601610800B9", "CA0201020FFFB7", "B50801B7"):
-        yield rom(bytes.fromhex(head + "00"))
+        yield with_header(bytes.fromhex(head + "00"))
     # a token of each form, cut off at each of its bytes
     for token in ("1000C0FFEE", "1203616263", "0110", "130102", "C30800", "B50800B7", "B60274650800B7", "12FF00", "01", "0F"):
         for kept in range(1, len(token) // 2 + 1):
-            yield rom(b"\x47" + bytes.fromhex(token)[:kept], 0xF1)
-    yield rom(b"\x12\xFF" + b"\x00" * 255) + b"\x47\x47"
-    yield rom(b"\xB6\xFF" + b"\xAB" * 255 + b"\x0F\xFF\xBA\x00")
+            yield with_header(b"\x47" + bytes.fromhex(token)[:kept], 0xF1)
+    yield with_header(b"\x12\xFF" + b"\x00" * 255) + b"\x47\x47"
+    yield with_header(b"\xB6\xFF" + b"\xAB" * 255 + b"\x0F\xFF\xBA\x00")
     # the longest ROMs: full of one-byte tokens with the longest name, and of bytes that are none
-    yield rom(b"\xB2" * 16376)
-    yield rom(b"\xFE" * 16376)
+    yield with_header(b"\xB2" * 16376)
+    yield with_header(b"\xFE" * 16376)
     some = random.Random(1275)
     for k in range(12):
         size = some.choice((1, 2, 40, 300, 4000))
-        yield rom(bytes(some.randrange(256) if k % 2 else some.choice(every) for _ in range(size)), some.choice((0xFD, 0xF1)))
+        yield with_header(bytes(some.randrange(256) if k % 2 else some.choice(every) for _ in range(size)), some.choice((0xFD, 0xF1)))
 
 
 def loader():
