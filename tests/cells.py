@@ -1,5 +1,5 @@
 #!/usr/bin/env python3
-"""What crates/cells_vectors must print: the arithmetic and comparison tokens of document 01, by ordinary signed integers.
+"""What crates/cells_vectors must print: the arithmetic and comparison tokens of documents 01 and 02, by ordinary integers.
 
     python3 tests/cells.py           prints the lines
     python3 tests/cells.py --check   compares them with crates/cells_vectors/stdout, and exits 1 where they differ
@@ -50,6 +50,11 @@ def right_with_sign(cell, count):
     return true(signed(cell) < 0)
 
 
+def within(n, low, high):
+    """Whether n is met on the way up from low, before high; the way leads from FFFFFFFF on to 0. No difference is taken here."""
+    return low <= n < high if low <= high else low <= n or n < high
+
+
 ONE = {
     0x26: lambda a: a ^ 0xFFFFFFFF,
     0x2C: lambda a: wrapped(-signed(a)),
@@ -87,7 +92,7 @@ TWO = {
 SHIFT = {0x27: left, 0x28: right, 0x29: right_with_sign}
 THREE = {
     0x44: on_signed(lambda n, low, high: low <= n <= high),
-    0x45: on_signed(lambda n, low, high: low <= n < high),
+    0x45: on_unsigned(within),
 }
 
 

@@ -1,12 +1,13 @@
 -- The comparisons of document 01: "34 0= 35 0<> 36 0< 37 0<= 38 0> 39 0>= 3A < 3B > 3C = 3D <> 3E u> 3F u<= 40 u< 41 u>= 42 >= 43 <=
--- 44 between 45 within. Those without u are signed. between: min ≤ n ≤ max; within: min ≤ n < max, compared as signed numbers." a is the
--- lower of two cells and b the upper; each gives a flag. Assumes nothing.
+-- 44 between 45 within. Those without u are signed. between: min ≤ n ≤ max"; what 45 within means is document 02's to say. a is the lower
+-- of two cells and b the upper; of three n is the lowest, then min, then max. Each gives a flag. Assumes nothing.
 use Prim.Native.Nat.{ℕ}
 use mathlib.Core.Bool.{not, _&&_}
 use lib.Dec.{ltb, leb, eqb}
 use lib.IntN.{pos}
 use lib.Signed.{ltZ, leZ}
 use Rattle.cells.specs.Signed.{signed, flag}
+use Rattle.cells.specs.Arithmetic.{minusOf}
 
 abbrev pub zeroEqualOf : ℕ → ℕ
 zeroEqualOf a = flag (eqb a 0)
@@ -56,9 +57,9 @@ atLeastOf a b = flag (leZ (signed b) (signed a))
 abbrev pub atMostOf : ℕ → ℕ → ℕ
 atMostOf a b = flag (leZ (signed a) (signed b))
 
--- n min max, n the lowest
 abbrev pub betweenOf : ℕ → ℕ → ℕ → ℕ
-betweenOf n low high = flag (leZ (signed low) (signed n) && leZ (signed n) (signed high))
+betweenOf n min max = flag (leZ (signed min) (signed n) && leZ (signed n) (signed max))
 
+-- Document 02, (iv): "with all differences wrapped, n is within when n-min is below max-min as unsigned"
 abbrev pub withinOf : ℕ → ℕ → ℕ → ℕ
-withinOf n low high = flag (leZ (signed low) (signed n) && ltZ (signed n) (signed high))
+withinOf n min max = uLessOf (minusOf n min) (minusOf max min)

@@ -1,5 +1,5 @@
--- The definitions at the examples of document 01: antt computes each. (`and`, `or` and `xor` do not compute at numbers of this size.)
--- Assumes nothing.
+-- The definitions at the examples of documents 01 and 02: antt computes each. (`and`, `or` and `xor` do not compute at numbers of this
+-- size.) Assumes nothing.
 use Prim.Native.Nat.{ℕ}
 use mathlib.Core.Path.{_≡_, refl}
 use mathlib.Core.List.{List, [], _∷_}
@@ -8,8 +8,10 @@ use Rattle.cells.specs.Comparison.{lessOf, uLessOf, zeroLessOf, betweenO
 use Rattle.cells.specs.declared.Divided.{Divided}
 use Rattle.cells.specs.declared.Divided.the-variants.{ByZero, Parts}
 
--- "A4 A6 29 leaves -1. 5 5 5 within is false."
-bench : _≡_ {A = List ℕ} (ashiftOf 0xFFFF_FFFF 1 ∷ withinOf 5 5 5 ∷ betweenOf 5 5 5 ∷ []) (0xFFFF_FFFF ∷ 0 ∷ 0xFFFF_FFFF ∷ [])
+-- "A4 A6 29 leaves -1. 5 5 5 within is false." Document 02: "add n=5, min=3, max=-3 (true, was false)"; between stays signed
+bench : _≡_ {A = List ℕ}
+    (ashiftOf 0xFFFF_FFFF 1 ∷ withinOf 5 5 5 ∷ betweenOf 5 5 5 ∷ withinOf 5 3 0xFFFF_FFFD ∷ betweenOf 5 3 0xFFFF_FFFD ∷ [])
+    (0xFFFF_FFFF ∷ 0 ∷ 0xFFFF_FFFF ∷ 0xFFFF_FFFF ∷ 0 ∷ [])
 unfolding ashiftOf
 bench = refl
 

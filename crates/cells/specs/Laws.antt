@@ -2,16 +2,17 @@
 use Prim.Native.Nat.{ℕ, zero, suc, _+_, _-_, _*_, _/_, _%_, _^_, _<_, _≤_}
 use native.Mathlib.Omega.{arith}
 use native.Mathlib.Nat.{le-of-lt, lt-of-le-of-lt, mul-le-mul-left, mul-lt-mul-of-pos-right, div-le-self}
-use mathlib.Core.Bool.{not}
+use mathlib.Core.Bool.{Bool, true, false, not, _&&_, _||_}
 use mathlib.Core.Path.{_≡_, refl, sym, ap, _∙_}
 use lib.Dec.{ltb, leb}
 use lib.IntN.{ℤ, pos, negsuc, negℤ}
 use lib.Signed.{ltZ, leZ, shrZ}
 use lib.Pow.{pow-pos, pow-add}
-use borrow.Author.Tests.{lt-ltb, le-ltb}
+use borrow.Author.Tests.{lt-ltb, le-ltb, leb-true, leb-false}
 use Rattle.cells.specs.Signed.{signed, cell, flag, negative}
 use Rattle.cells.specs.Tests.{tests, when-is, pick-is, chosen-below, chosen-from, same-ltb, leb-ltb}
 use Rattle.cells.specs.Arithmetic.{minusOf, negateOf, absOf, rshiftOf, ashiftOf, invertOf}
+use Rattle.cells.specs.Comparison.{withinOf}
 
 -- what a cell says: the lower half of the cells is not negative, the upper half is negative
 pub signed-low : (a : ℕ) → a < 2 ^ 31 → signed a ≡ pos a
@@ -46,6 +47,26 @@ leZ-ltZ (negsuc a) (negsuc b) = leb-ltb b a
 
 pub signed-le : (a b : ℕ) → a < 2 ^ 32 → b < 2 ^ 32 → leZ (signed a) (signed b) ≡ leb (rankOf a) (rankOf b)
 signed-le a b f g = leZ-ltZ (signed a) (signed b) ∙ ap not (signed-lt b a g f) ∙ sym (leb-ltb (rankOf a) (rankOf b))
+
+-- for the reader of `withinOf`: a range that does not run over the end of the cells is as it reads, and one that does has
+-- both their ends in it
+pub within-plain : (n min max : ℕ) → n < 2 ^ 32 → max < 2 ^ 32 → min ≤ max → withinOf n min max ≡ flag (leb min n && ltb n max)
+within-plain n min max f g h = ap flag (by (leb min n) refl)
+  where
+    by : (b : Bool) → leb min n ≡ b → ltb (minusOf n min) (minusOf max min) ≡ b && ltb n max
+    by true e =
+        let l = leb-true min n e in
+        same-ltb (minusOf n min) (minusOf max min) n max (λ p. omega arith) (λ p. omega arith)
+    by false e = le-ltb (minusOf n min) (minusOf max min) (omega (arith, leb-false min n e))
+
+pub within-over : (n min max : ℕ) → n < 2 ^ 32 → min < 2 ^ 32 → max < min → withinOf n min max ≡ flag (leb min n || ltb n max)
+within-over n min max f g h = ap flag (by (leb min n) refl)
+  where
+    by : (b : Bool) → leb min n ≡ b → ltb (minusOf n min) (minusOf max min) ≡ b || ltb n max
+    by true e = lt-ltb (minusOf n min) (minusOf max min) (omega (arith, leb-true min n e))
+    by false e =
+        let l = leb-false min n e in
+        same-ltb (minusOf n min) (minusOf max min) n max (λ p. omega arith) (λ p. omega arith)
 
 -- negate is 0 less the cell
 negated : (a : ℕ) → a < 2 ^ 31 → cell (negℤ (pos a)) ≡ (2 ^ 32 - a) % 2 ^ 32

@@ -1,4 +1,5 @@
 // The comparisons. Each gives a flag: all ones for true, 0 for false.
+use crate::minus;
 ghost use mathlib.Core.Path.{_≡_};
 ghost use lib.Signed.{ltZ, leZ};
 ghost use Rattle.cells.specs.Signed.{signed, flag};
@@ -147,23 +148,19 @@ pub fn at_most(a: u32, b: u32) -> u32
 }
 
 // 44 between
-pub fn between(n: u32, low: u32, high: u32) -> u32
-    ensures { λ r. ⌜ r ≡ betweenOf n low high ⌝ }
+pub fn between(n: u32, min: u32, max: u32) -> u32
+    ensures { λ r. ⌜ r ≡ betweenOf n min max ⌝ }
 {
-    if up_to(low, n) {
-        flag_of(up_to(n, high))
+    if up_to(min, n) {
+        flag_of(up_to(n, max))
     } else {
         0
     }
 }
 
-// 45 within
-pub fn within(n: u32, low: u32, high: u32) -> u32
-    ensures { λ r. ⌜ r ≡ withinOf n low high ⌝ }
+// 45 within: circular, so that a range may run over the end of the cells.
+pub fn within(n: u32, min: u32, max: u32) -> u32
+    ensures { λ r. ⌜ r ≡ withinOf n min max ⌝ }
 {
-    if up_to(low, n) {
-        flag_of(below(n, high))
-    } else {
-        0
-    }
+    u_less(minus(n, min), minus(max, min))
 }

@@ -60,10 +60,10 @@ fn two_of(token: u32, a: u32, b: u32) -> u32 {
     }
 }
 
-fn three_of(token: u32, n: u32, low: u32, high: u32) -> u32 {
+fn three_of(token: u32, n: u32, min: u32, max: u32) -> u32 {
     match token {
-        0x44 => cells::between(n, low, high),
-        _ => cells::within(n, low, high),
+        0x44 => cells::between(n, min, max),
+        _ => cells::within(n, min, max),
     }
 }
 
@@ -124,11 +124,11 @@ fn print_two(token: u32, a: u32, b: u32) {
     }
 }
 
-fn print_three(token: u32, n: u32, low: u32, high: u32) {
+fn print_three(token: u32, n: u32, min: u32, max: u32) {
     print_cell(n);
-    print_cell(low);
-    print_cell(high);
-    print_cell(three_of(token, n, low, high));
+    print_cell(min);
+    print_cell(max);
+    print_cell(three_of(token, n, min, max));
 }
 
 // What a token takes from the stack. The count of a shift is the upper cell.

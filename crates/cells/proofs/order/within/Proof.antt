@@ -9,5 +9,4 @@ within-spec =
     (λ c κs. search needs)
     (λ c κs. search needs)
     (λ c κs. search needs)
-    (λ c. simp (c .flag-of .ensures, c .before .below .ensures, ← c .before .before .before .up-to .ensures, c .before .before .if1 .taken))
-    (λ c. simp (← c .before .up-to .ensures, c .if1 .left)))
+    (λ c. cc))
