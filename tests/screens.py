@@ -66,7 +66,7 @@ SCALE = "FD0805170000001E12057363616C650201A8011112056C616E6573011000"
 
 
 def bench_roms():
-    """The bench ROMs of document 01. Those behind which it says nothing of the screen have their ground here."""
+    """The bench ROMs of documents 01 and 02. Those behind which they say nothing of the screen have their ground here."""
     yield passing("00:0")
     yield failing("4600")
     yield passing("A6:0 A5:1 2B:2 00:2")
@@ -76,6 +76,7 @@ def bench_roms():
     yield passing("A4:0 A6:1 29:2 00:1")
     yield failing("A4A629")  # the same with no finish: the token behind the last one would give 10
     yield passing("1000000005:0 1000000005:1 1000000005:2 45:3 00:1")
+    yield passing("1000000005:0 1000000003:1 10FFFFFFFD:2 45:3 00:1")  # document 02's
     yield passing(f"{pushes(64)} 00:64")
     yield failing("A6" * 65 + "00")  # height 65
     yield "S FD0800000000000800", refused(4)

@@ -1,5 +1,5 @@
--- The bench ROMs of document 01 that are "proved of the definitions, as a single table under a single claim": each is screened, opened and run, and
--- the screen and the run end as they are said to. Assumes nothing.
+-- The bench ROMs of document 01 that are "proved of the definitions, as a single table under a single claim", and the one that
+-- document 02 adds: each is screened, opened and run, and the screen and the run end as they are said to. Assumes nothing.
 use Prim.Native.Nat.{ℕ}
 use mathlib.Core.Path.{_≡_, refl, _∙_}
 use mathlib.Core.Bool.{Bool, true, false, _&&_}
@@ -64,6 +64,11 @@ cases =
     0xFD ∷ 0x08 ∷ 0x00 ∷ 0x84 ∷ 0x00 ∷ 0x00 ∷ 0x00 ∷ 0x18 ∷ 0x10 ∷ 0x00 ∷ 0x00 ∷ 0x00 ∷ 0x05 ∷ 0x10 ∷ 0x00 ∷ 0x00 ∷ 0x00 ∷ 0x05 ∷ 0x10 ∷ 0x00 ∷
     0x00 ∷ 0x00 ∷ 0x05 ∷ 0x45 ∷ []
     ) (Rejects 31) 1000 (Refused 10) 4 (0 ∷ []) ∷
+    -- document 02, (iv): n=5, min=3, max=-3 is within
+    case (
+    0xFD ∷ 0x08 ∷ 0x04 ∷ 0x77 ∷ 0x00 ∷ 0x00 ∷ 0x00 ∷ 0x19 ∷ 0x10 ∷ 0x00 ∷ 0x00 ∷ 0x00 ∷ 0x05 ∷ 0x10 ∷ 0x00 ∷ 0x00 ∷ 0x00 ∷ 0x03 ∷
+    0x10 ∷ 0xFF ∷ 0xFF ∷ 0xFF ∷ 0xFD ∷ 0x45 ∷ 0x00 ∷ []
+    ) Passes 1000 Finished 5 (0xFFFF_FFFF ∷ []) ∷
     []
 
 unfoldable pub sameAnswer : Answer → Answer → Bool
@@ -126,7 +131,7 @@ same-every (c ∷ cs) o = rw (same-agree c (o .0), same-every cs (o .1))
 
 all-open : Opens cases
 unfolding headerOf sumOf
-all-open = (refl, (refl, (refl, (refl, (refl, (refl, (refl, (refl, tt))))))))
+all-open = (refl, (refl, (refl, (refl, (refl, (refl, (refl, (refl, (refl, tt)))))))))
 
 all-tokens : every tokensAgree cases ≡ true
 unfolding ashiftOf sumOf aimOf ends lows highs doubles table rowOf codeOf behindOf operandOf wholeOf decodeOf misplacedOf readOf sameBytes leftOf plainOf refusalOf effects actOf doneOf tokenOf tokensFrom sameAnswer sameVerdict unknownOf effectOf screenOf lastOf roundsOf roundOf apartOf advanceOf defineOf colonOf startsOf bodyWalked bodyTally bodyShifted tallyOf tallied passesOf shiftOf walkFrom walkOf stepOf onward putsOf putOf visitOf tokenVisit soundOf fitsOf sumAt
