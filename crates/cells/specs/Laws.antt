@@ -48,8 +48,8 @@ leZ-ltZ (negsuc a) (negsuc b) = leb-ltb b a
 pub signed-le : (a b : ℕ) → a < 2 ^ 32 → b < 2 ^ 32 → leZ (signed a) (signed b) ≡ leb (rankOf a) (rankOf b)
 signed-le a b f g = leZ-ltZ (signed a) (signed b) ∙ ap not (signed-lt b a g f) ∙ sym (leb-ltb (rankOf a) (rankOf b))
 
--- for the reader of `withinOf`: a range that does not run over the end of the cells is as it reads, and one that does has
--- both their ends in it
+-- for the reader of `withinOf`: a range that does not run over the end of the cells is as it reads; one that does goes from min
+-- up to that end, and from 0 up to max
 pub within-plain : (n min max : ℕ) → n < 2 ^ 32 → max < 2 ^ 32 → min ≤ max → withinOf n min max ≡ flag (leb min n && ltb n max)
 within-plain n min max f g h = ap flag (by (leb min n) refl)
   where
