@@ -1,7 +1,7 @@
 """The input of a program that runs worked cases and what it must print: written into its crate, or with --check compared with what is there."""
 import sys
 
-INPUT_MOST = 65536
+INPUT_MOST = 131072
 
 
 def files(cases):
@@ -23,7 +23,7 @@ def main(crate, cases):
         if "--check" not in sys.argv:
             path.write_text(text)
         elif path.read_text() != text:
-            print(f"crates/{crate.name}/{name} is not what tests/{crate.name}.py makes of tests/cases.txt")
+            print(f"crates/{crate.name}/{name} is not what tests/{crate.name}.py makes")
             good = False
         else:
             print(f"crates/{crate.name}/{name}: {len(text.splitlines())} lines as expected")

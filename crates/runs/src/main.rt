@@ -72,7 +72,7 @@ fn one_line(line: &[u8]) {
 }
 
 fn all_lines(text: &[u8])
-    requires { ⌜ length (now text) ≤ 65536 ⌝ }
+    requires { ⌜ length (now text) ≤ 131072 ⌝ }
 {
     let mut at = 0;
     while at < text.len() {
@@ -83,7 +83,7 @@ fn all_lines(text: &[u8])
 }
 
 fn main() {
-    let mut text = [0u8; 65536];
+    let mut text = [0u8; 131072];
     let n = io::read_full(STDIN_FILENO, &mut text);
     all_lines(&text[..n]);
 }

@@ -27,7 +27,7 @@ fn rom_start(line: &[u8]) -> usize
 }
 
 fn one_line(line: &[u8])
-    requires { ⌜ (2 ≤ length (now line)) × (length (now line) ≤ 65536) ⌝ }
+    requires { ⌜ (2 ≤ length (now line)) × (length (now line) ≤ 131072) ⌝ }
 {
     let mut space = [0u8; 16400];
     let n = bytes_from(line, rom_start(line), &mut space);
@@ -47,7 +47,7 @@ fn one_filled(space: &[u8], size: u32) {
 }
 
 fn all_lines(text: &[u8])
-    requires { ⌜ length (now text) ≤ 65536 ⌝ }
+    requires { ⌜ length (now text) ≤ 131072 ⌝ }
 {
     let mut at = 0;
     while at < text.len() {
@@ -62,7 +62,7 @@ fn all_lines(text: &[u8])
 }
 
 fn main() {
-    let mut text = [0u8; 65536];
+    let mut text = [0u8; 131072];
     let n = io::read_full(STDIN_FILENO, &mut text);
     all_lines(&text[..n]);
 }
