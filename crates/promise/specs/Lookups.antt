@@ -114,6 +114,15 @@ property-missing : findPropertyOf tree store (lettersOf "/a/d") (lettersOf "x") 
 unfolding findPropertyOf placeOf foundFrom findNodeOf downFrom childFrom valueIn heldFrom sameBytes lessNull malformed splitOf anyEmpty wholeTree everyBelow liveAmong lettersOf store tree
 property-missing = refl
 
+-- no lookup judges a name: what 26 refuses is just not there
+name-unjudged : findPropertyOf tree store (lettersOf "/a") (lettersOf "X:") ≡ Unfound 30
+unfolding findPropertyOf placeOf foundFrom findNodeOf downFrom childFrom valueIn heldFrom sameBytes lessNull malformed splitOf anyEmpty wholeTree everyBelow liveAmong lettersOf store tree
+name-unjudged = refl
+
+part-unjudged : findNodeOf tree store (lettersOf "/A:[a]") ≡ Refused 30
+unfolding findNodeOf downFrom childFrom valueIn heldFrom sameBytes lessNull malformed splitOf anyEmpty wholeTree everyBelow liveAmong lettersOf store tree
+part-unjudged = refl
+
 -- the node table, whose unused rows are zero
 parents-are : parentsOf tree ≡ 0 ∷ 0 ∷ 0 ∷ 2 ∷ 1 ∷ 0 ∷ replicate 26 0
 unfolding columnFrom countFrom tree

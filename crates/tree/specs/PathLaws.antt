@@ -15,6 +15,7 @@ use borrow.Author.Tests.{lt-ltb, le-ltb, eq-eqb, ne-eqb, eqb-true, eqb-false}
 use Rattle.cells.specs.Choice.{pick}
 use Rattle.cells.specs.Facts.{when-true, when-false}
 use Rattle.memory.specs.Window.{partOf}
+use Rattle.rom.specs.Sizes.{storeSize}
 use Rattle.tree.specs.Held.{Property, nameSize, valueSize, propertyAt, heldFrom, heldOf, liveOf, matches}
 use Rattle.tree.specs.Whole.{parentOf, wholeTree}
 use Rattle.tree.specs.Steps.{foundFrom}
@@ -219,6 +220,13 @@ module _ (t : Tree) (store : List ℕ) (node : ℕ) (name : List ℕ) where
             rw (← x, ← y) (place-end (omega arith), value-found (t .held) 0 0 (omega arith))
       ]
 
+  pub place-why : (why : ℕ) → placeOf t store node name ≡ Unfound why → why ≡ 30
+  place-why why e =
+      elim (decLe (t .held) (found .index)) [
+        | yes h ↦ let f = sym (place-none h) ∙ e in cc
+        | no h ↦ let f = sym (place-there (omega arith)) ∙ e in let z : _≡_ {A = ℕ} 0 1 = cc in absurd (omega arith)
+      ]
+
   pub place-empty : (why : ℕ) → placeOf t store node name ≡ Unfound why → valueIn (heldOf t store) node name ≡ none
   place-empty why e =
       elim (decLe (t .held) (found .index)) [
@@ -343,3 +351,30 @@ module _ (t : Tree) (store path : List ℕ) where
 
     pub property-holds : (v : ValueSought) → findPropertyOf t store path name ≡ v → Holds v
     property-holds v e = holds-by (findNodeOf t store path) refl v e
+
+-- ---- lookups judge no name: a path of good form, and any property's name, bring nothing but 30
+module _ (t : Tree) (store : List ℕ) where
+  down-why : (node : ℕ) (parts : List (List ℕ)) (why : ℕ) → downFrom t store node parts ≡ Refused why → why ≡ 30
+  down-why node [] why e = let f = sym (down-end t store node) ∙ e in let z : _≡_ {A = ℕ} 0 1 = cc in absurd (omega arith)
+  down-why node (part ∷ parts) why e =
+      by (λ k f. down-why k parts why (sym (down-child t store node part k parts f) ∙ e)) sought refl
+    where
+      sought : NodeSought
+      sought = childSought (childNamed t store node part)
+
+      by : ((k : ℕ) → sought ≡ Node k → why ≡ 30) → (s : NodeSought) → sought ≡ s → why ≡ 30
+      by below (Node k) f = below k f
+      by below (Refused other) f = let g = sym (down-none t store node part other parts f) ∙ e in cc
+
+  module _ (path : List ℕ) (e : length store ≡ storeSize) (w : wholeTree t ≡ true) (m : malformed path ≡ false) where
+    pub path-unjudged : (why : ℕ) → findNodeOf t store path ≡ Refused why → why ≡ 30
+    path-unjudged why f = down-why 0 (partsOf (behindSlash path)) why (sym (node-down t store path e w m) ∙ f)
+
+    pub name-unjudged : (name : List ℕ) (why : ℕ) → findPropertyOf t store path name ≡ Unfound why → why ≡ 30
+    name-unjudged name why f = by (findNodeOf t store path) refl
+      where
+        by : (s : NodeSought) → findNodeOf t store path ≡ s → why ≡ 30
+        by (Node k) g = place-why t store k name why (sym (property-there t store path name k g) ∙ f)
+        by (Refused other) g =
+            let h = sym (property-none t store path name other g) ∙ f in
+            let i : other ≡ why = cc in rw (← i) (path-unjudged other g)
