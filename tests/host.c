@@ -1,6 +1,6 @@
-/* A C program over include/fcode.h: each of the four calls with good ROMs, bad ROMs, buffers of the wrong size and no ROM at all, and the listing of every worked
- * case. Compared are every answer, every text, every buffer that a refused call must leave as it was, and what stands before and behind a buffer, which no
- * call may touch. */
+/* A C program over include/fcode.h: each of the four calls with good ROMs, bad ROMs, buffers of the wrong size and no ROM at all, and
+ * the listing of every worked case and of every name that tests/names.py tries. Compared are every answer, every text, every buffer that
+ * a refused call must leave as it was, and what stands before and behind a buffer, which no call may touch. */
 #include "fcode.h"
 
 #include <stdio.h>
@@ -298,7 +298,7 @@ static int byte_at(const char *p) {
     return strspn(p, "0123456789ABCDEF") >= 2 && sscanf(p, "%2x", &byte) == 1 ? (int)byte : -1;
 }
 
-/* the worked cases as tests/listings.py prints them: their count, and for each a ROM and a budget, the listing's lines, a dot */
+/* the cases as tests/listings.py prints them: their count, and for each a ROM and a budget, the listing's lines, a dot */
 static void cases(const char *name) {
     static char line[80000], lines[FCODE_TEXT_SIZE + 1];
     FILE *file = fopen(name, "r");
@@ -313,7 +313,7 @@ static void cases(const char *name) {
         while (fgets(line, sizeof line, file) != NULL && strcmp(line, ".\n") != 0) strncat(lines, line, sizeof lines - 1 - strlen(lines));
         lend_right();
         int good_case = prints(budget, lines);
-        if (!good_case) printf("worked case %lu prints \"%s\"\n", count, (const char *)at(&text));
+        if (!good_case) printf("case %lu prints \"%s\"\n", count, (const char *)at(&text));
         EXPECT(good_case);
         EXPECT(within(&marks) && within(&work) && within(&store));
         count++;

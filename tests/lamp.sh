@@ -47,6 +47,8 @@ bytes FD0801120000000B13FF00 >"$room/circles.rom"
 # a property "refused" in a run that finishes, and one "done" in a run that divides by zero
 bytes FD08032A000000161200120772656675736564011000 >"$room/refused.rom"
 bytes FD0803550000001612001204646F6E650110A6A52B00 >"$room/done.rom"
+# a property "lane:1"
+bytes FD0802780000001612013112066C616E653A31011000 >"$room/colon.rom"
 # a number that is not in the list, of one byte and of two, a branch behind offset16, a definition, and a literal that is cut off
 bytes FD080571000000161501FECC13FFFBB50800B7100000 >"$room/mixed.rom"
 : >"$room/empty.rom"
@@ -98,6 +100,9 @@ expect 1 "$nodes
 done
 steps 5
 refused 21" '' done.rom
+expect 1 "$nodes
+steps 2
+refused 26" '' colon.rom
 expect 1 'refused 31' '' empties.rom
 expect 1 'refused 5' '' zeroed.rom
 expect 1 'refused 2' '' start.rom

@@ -1,9 +1,11 @@
 #!/usr/bin/env python3
-"""The listing that each worked case of tests/cases.txt must have, for tests/host.c to compare. First a line with the count of cases; then for each case
-a line with the ROM in hex ('-': no bytes) and the budget, the listing's lines, and a line with a dot. It is put together here from what the case says of screen, run, steps, nodes and properties.
+"""The listing that each worked case and each case of tests/names.py must have, for tests/host.c to compare. First a line with the count
+of cases; then for each case a line with the ROM in hex ('-': no bytes) and the budget, the listing's lines, and a line with a dot. It
+is put together here from what the case says of screen, run, steps, nodes and properties.
 
     python3 tests/listings.py       prints them
 """
+import names
 import roms
 
 
@@ -38,7 +40,7 @@ def listing(told):
 
 
 def main():
-    cases = list(roms.worked_cases())
+    cases = [*roms.worked_cases(), *names.cases()]
     print(len(cases))
     for (rom, budget, *_), told in cases:
         lines = listing(by_kind(told))

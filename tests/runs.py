@@ -1,6 +1,7 @@
 #!/usr/bin/env python3
-"""What crates/runs is run on and must print: the worked cases of tests/cases.txt, the bench ROMs of document 01 that only run, every condition of
-refusal 7, the order of the tests, and lookups. The worked cases were worked out apart from the Rattle code, the rest by hand here.
+"""What crates/runs is run on and must print: the worked cases, property names byte by byte (tests/names.py), the bench ROMs of document
+01 that only run, every condition of refusal 7, the order of the tests, and lookups. The worked cases were worked out apart from the
+Rattle code, the rest by hand here.
 
     python3 tests/runs.py           writes crates/runs/stdin and crates/runs/stdout
     python3 tests/runs.py --check   compares them with what it would write, and exits 1 where they differ
@@ -28,24 +29,29 @@ lines nodes and prop:
 """
 import pathlib
 import sys
-import zlib
 
+import names
 import roms
 import written
-from roms import with_header
+from roms import left, put, rows, text, with_header
 
 RUNS = pathlib.Path(__file__).parent.parent / "crates" / "runs"
 NOT_RUN = ("screen", "marks")
 
 
-def crc(content):
-    return f"{zlib.crc32(content + bytes(16384 - len(content))):08X}"
+def as_run(cases):
+    """Of each case its line of input, and the lines that it must give."""
+    for (rom, *rest), told in cases:
+        yield " ".join(["R", rom.replace("-", ""), *rest]), [line for line in told if roms.kind(line) not in NOT_RUN]
 
 
 def worked_cases():
-    """Each worked case: its line of input, and the lines that it must give."""
-    for (rom, *rest), told in roms.worked_cases():
-        yield " ".join(["R", rom.replace("-", ""), *rest]), with_rows(line for line in told if roms.kind(line) not in NOT_RUN)
+    for line, told in as_run(roms.worked_cases()):
+        yield line, with_rows(told)
+
+
+def name_cases():
+    return as_run(names.cases())
 
 
 def with_rows(lines):
@@ -56,26 +62,6 @@ def with_rows(lines):
         if roms.kind(line) == "store":
             told.append(rows(told))
     return told
-
-
-def rows(told):
-    """The node table, by the lines nodes and prop."""
-    parents = next(line for line in told if line.startswith("nodes ")).split(" ")[2:]
-    owners = [line.split(" ")[1] for line in told if line.startswith("prop ")]
-    return " ".join(["rows", *(f"{parent}:{owners.count(str(node))}" for node, parent in enumerate(parents))])
-
-
-def left(answer, steps, place, data=(), back=(), frames="", numbers="", nodes="1 0 0", props=(), work_place=0, work=b"", store=b""):
-    """The lines of a run with offsets of 8 bits."""
-    lines = ["open 0", f"run {answer}", f"steps {steps}", f"place {place} width 8"]
-    lines.append(" ".join(["data", *(f"{cell:08X}" for cell in data)]))
-    lines.append(" ".join(["return", *(f"{cell:08X}" for cell in back)]))
-    lines.append(f"frames {frames}".rstrip())
-    lines.append(f"numbers {numbers}".rstrip())
-    lines.append(f"nodes {nodes}")
-    lines += [f"prop {prop}" for prop in props]
-    lines += [f"work {work_place} {crc(work)}", f"store {crc(store)}"]
-    return lines + [rows(lines)]
 
 
 SCALE = bytes.fromhex("FD0805170000001E12057363616C650201A8011112056C616E6573011000")
@@ -211,20 +197,13 @@ def orders():
 NEW, FINISH = bytes.fromhex("011F"), bytes.fromhex("0127")
 
 
-def text(content):
-    return bytes([0x12, len(content)]) + content
-
-
 def device_name(name):
     return text(name) + bytes.fromhex("0201")
 
 
-def put(name, value):
-    return text(value) + text(name) + bytes.fromhex("0110")
-
-
-# Node 1 is "a" and has the children 2 "b", 3 "b" again with a child 4 "c", 5 "d" by a name without a null, 6 "x" and two nulls, 7 with the name of
-# no bytes, 8 without a name, and 9 "a/b"; node 1 has the properties "empty" and "v" beside its name.
+# Node 1 is "a" and has the children 2 "b", 3 "b" again with a child 4 "c", 5 "d" by a name without a null, 6 "x" and two nulls, 7 with the
+# name of no bytes, 8 without a name, 9 "a/b", and 10, called by bytes that no property's name may have; node 1 has the properties "empty" and
+# "v" beside its name.
 FAMILY = (
     (device_name(b"a"), ("1", b"name", b"a\0")),
     (put(b"empty", b""), ("1", b"empty", b"")),
@@ -237,6 +216,7 @@ FAMILY = (
     (NEW + device_name(b"") + FINISH, ("7", b"name", b"\0")),
     (NEW + FINISH, None),
     (NEW + device_name(b"a/b") + FINISH, ("9", b"name", b"a/b\0")),
+    (NEW + device_name(b"SUNW,[b]@1:0") + FINISH, ("10", b"name", b"SUNW,[b]@1:0\0")),
 )
 FINDS = (
     (b"/", None, "node 0"),
@@ -269,6 +249,22 @@ FINDS = (
     (b"/a/q", b"v", "30"),
     (b"/", b"name", "30"),
     (b"/a/", b"v", "29"),
+    # no lookup judges a name: a part is matched with a value, which may have any bytes, and a property's name that 26 refuses is not there
+    (b"/a/SUNW,[b]@1:0", None, "node 10"),
+    (b"/a/SUNW,[b]@1:0", b"name", "value 53554E572C5B625D40313A3000"),
+    (b"/A", None, "30"),
+    (b"/a:b", None, "30"),
+    (b"/a/[b]", None, "30"),
+    (b"/a\\b", None, "30"),
+    (b"/a@b/c", None, "30"),
+    (b"/a", b"V", "30"),
+    (b"/a", b"v:", "30"),
+    (b"/a", b"/v", "30"),
+    (b"/a", b"v/", "30"),
+    (b"/a", b"[v]", "30"),
+    (b"/a", b"v\\", "30"),
+    (b"/a", b"@v", "30"),
+    (b"/a", b" ", "30"),
 )
 
 
@@ -279,13 +275,14 @@ def lookups():
     held = [made for _, made in FAMILY if made]
     props = [f"{node} {name.hex().upper()} {value.hex().upper() or '-'}" for node, name, value in held]
     steps = 1 + sum(tokens.count(NEW) + tokens.count(FINISH) for tokens, _ in FAMILY) + sum(2 if b"\x02\x01" in tokens else 3 for tokens, made in FAMILY if made)
-    told = left("finished", steps, len(rom), nodes="1 0 0 1 1 3 1 1 1 1 1", props=props, store=b"".join(name + value for _, name, value in held))
+    store = b"".join(name + value for _, name, value in held)
+    told = left("finished", steps, len(rom), nodes="1 0 0 1 1 3 1 1 1 1 1 1", props=props, store=store)
     told += [f"find {word} {found}" for word, (_, _, found) in zip(asked, FINDS)]
     yield " ".join([f"R {rom.hex().upper()} 1000", *asked]), told
 
 
 def cases():
-    for part in (worked_cases, bench_roms, calls_open, damages, orders, lookups):
+    for part in (worked_cases, name_cases, bench_roms, calls_open, damages, orders, lookups):
         yield from part()
 
 

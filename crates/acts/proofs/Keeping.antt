@@ -11,7 +11,7 @@ use Rattle.tokens.specs.Decode.{tokenOf}
 use Rattle.tokens.specs.declared.decoding.Token.{Token}
 use Rattle.memory.specs.Window.{badRange, resolveOf}
 use Rattle.tree.specs.Whole.{wholeTree}
-use Rattle.tree.specs.Property.{valueOf, allPrinted, badName, overfull, wouldHold, putRefusal, treePut, storePut, putOf, storeOf}
+use Rattle.tree.specs.Property.{valueOf, badName, overfull, wouldHold, putRefusal, treePut, storePut, putOf, storeOf}
 use Rattle.tree.specs.Node.{noRoom, outermost, childOf, finishedOf, newDeviceOf, finishDeviceOf, refusedOf}
 use Rattle.tree.specs.Node.{doneOf as treeDone}
 use Rattle.tree.specs.declared.tree.Tree.{Tree}
@@ -19,6 +19,7 @@ use Rattle.tree.specs.declared.tree.Written.{Written}
 use Rattle.state.specs.State.{moved, withTree}
 use Rattle.state.specs.Scene.{Scene, scene, turn, told}
 use Rattle.state.specs.Refusals.{refusalOf, titleOf}
+use Rattle.state.specs.Titles.{title-good}
 use Rattle.state.specs.Effects.{gave, effects, actOf}
 use Rattle.state.specs.Moves.{stepped, popOf}
 use Rattle.state.specs.Step.{doneOf}
@@ -95,15 +96,6 @@ module _ (tree : Tree) (store name value : List ℕ) (l : length store ≡ 16384
   refusal-is : putRefusal tree store name value ≡ pick (badName name) 26 (pick (overfull (wouldHold tree store name value)) 27 0)
   unfolding putRefusal
   refusal-is = rw (eq-eqb (length store) 16384 l, w)
-
-title-good : (n : ℕ) → badName (titleOf n) ≡ false
-unfolding badName allPrinted
-title-good n = by (eqb n 0x201) (eqb n 0x119) refl refl
-  where
-    by : (a b : Bool) → eqb n 0x201 ≡ a → eqb n 0x119 ≡ b → badName (titleOf n) ≡ false
-    by true b e f = rw e
-    by false true e f = rw (e, f)
-    by false false e f = rw (e, f)
 
 -- neither device-name nor model: device-type
 pub other-title : (n : ℕ) → (Unit {0} × (n ≡ 0x201 → ⊥)) × (n ≡ 0x119 → ⊥)

@@ -24,11 +24,12 @@ use Rattle.memory.specs.declared.window.Window.the-variants.{Rom, Work, Nowhere
 use Rattle.memory.specs.Window.{romBase, workBase, heldBy, rangeOf, resolveOf}
 use Rattle.memory.specs.Writing.{writtenOf, bytesOf}
 use Rattle.tree.specs.Whole.{nameMost}
-use Rattle.tree.specs.Property.{badName, allPrinted, treePut, storePut}
+use Rattle.tree.specs.Property.{badName, treePut, storePut}
 use Rattle.tree.specs.Node.{noRoom, outermost, childOf, finishedOf}
 use Rattle.tree.specs.declared.tree.Tree.{Tree}
 use Rattle.tree.specs.Laws.{Nodes}
 use Rattle.tree.specs.Kept.{child-nodes, finished-nodes}
+use Rattle.tree.specs.Puts.{name-facts}
 use Rattle.tree.specs.PutKept.{Accepted, put-whole, put-size}
 use Rattle.tree.specs.PutKept.{Sized as SizedTree}
 use Rattle.tokens.specs.Definition.{colon, kindIn, newNumber, takesHere, value, variable}
@@ -45,6 +46,7 @@ use Rattle.state.specs.Step.{readyOf, doneOf, readTurn, tokenOf}
 use Rattle.state.specs.Run.{then}
 use Rattle.state.specs.Sized.{Sized, SizedCalls, SizedNumbers}
 use Rattle.state.specs.KeepsTests.{none-held, find-at, _▸_}
+use Rattle.state.specs.Titles.{title-good}
 use Rattle.state.specs.KeepsWhole.{Place, Frames, Entries, Parts, whole-facts, Lent, not-going, not-finished, ready-facts, Rooted}
 use Rattle.state.specs.KeepsWhole.{Kept}
 use Rattle.state.specs.KeepsToken.{Stands, stands, takesBy, givesBy, shape, no-returns, branch-place, new-number, leave-open, behind-body}
@@ -113,19 +115,6 @@ held-most rom work count Nowhere = omega arith
 string-most : (s : Scene) (address count : ℕ) → length (stringAt s address count) ≤ count
 unfolding resolveOf
 string-most s address count = held-most (s .rom) (s .work) count (rangeOf (s .rom) (s .work) (s .state .length) address count)
-
--- a property's name that is not refused, and those of device-name and its like
-name-size : (name : List ℕ) → T (not (badName name)) → (1 ≤ length name) × (length name ≤ nameMost)
-unfolding badName
-name-size name h =
-    let p = neither (ltb (length name) 1 || ltb nameMost (length name)) (not (allPrinted name)) h in
-    let (a, b) = neither (ltb (length name) 1) (ltb nameMost (length name)) (p .0) in
-    (omega (arith, tests), omega (arith, tests))
-
-title-size : (n : ℕ) → (1 ≤ length (titleOf n)) × (length (titleOf n) ≤ nameMost)
-title-size n =
-    pick-is (λ (x : List ℕ). (1 ≤ length x) × (length x ≤ nameMost)) (eqb n 0x201) _ _ (λ e. (omega arith, omega arith))
-    (λ e. pick-is (λ (x : List ℕ). (1 ≤ length x) × (length x ≤ nameMost)) (eqb n 0x119) _ _ (λ e. (omega arith, omega arith)) (λ e. (omega arith, omega arith)))
 
 -- ---- a token in a scene that is ready for it, and no refusal given
 module _ (s : Scene) (t : Token) (z : Sized (s .state)) (l : Lent s) (w : Parts (s .state)) (a : 1 ≤ s .state .tree .active)
@@ -500,12 +489,12 @@ module _ (s : Scene) (t : Token) (z : Sized (s .state)) (l : Lent s) (w : Parts 
 
   keeps-property : familyIn (t .code) ≡ property → Kept s (Effects.keeps s t)
   keeps-property k =
-      let n = name-size (namedHere s) (name-asked property k) in
+      let n = name-facts (namedHere s) (is-false (badName (namedHere s)) (name-asked property k)) in
       put 4 (namedHere s) (valueHere s) (neither (noRoomFor s (namedHere s) (valueHere s)) false (store-asked property k) .0) (n .0) (n .1)
 
   keeps-titled : familyIn (t .code) ≡ titled → Kept s (Effects.titles s t)
   keeps-titled k =
-      let n = title-size (t .number) in
+      let n = name-facts (titleOf (t .number)) (title-good (t .number)) in
       put 2 (titleOf (t .number)) (titledHere s) (store-asked titled k) (n .0) (n .1)
 
   keeps-new : familyIn (t .code) ≡ newDevice → Kept s (Effects.opensNode s t)

@@ -1,11 +1,13 @@
 -- The first of a list of tests that holds, and an entry of a table at its own number. Assumes nothing.
 use Prim.Native.Nat.{ℕ}
 use mathlib.Core.Path.{_≡_, refl}
-use mathlib.Core.Bool.{Bool, true, false, not}
+use mathlib.Core.Bool.{Bool, true, false, not, _&&_}
 use mathlib.Core.List.{List, [], _∷_}
-use lib.Dec.{T, eqb}
-use borrow.Author.Tests.{eqb-true}
+use lib.Dec.{T, T-not, eqb}
+use borrow.Author.Tests.{eq-eqb, eqb-true}
 use Rattle.cells.specs.Choice.{pick, find}
+use Rattle.cells.specs.Tests.{pick-is}
+use Rattle.cells.specs.Facts.{holds, both-hold, join-hold}
 use Rattle.state.specs.Refusals.{firstOf}
 
 -- ---- the first of a list of tests that holds: none does where it is 0, if each that holds tells another number
@@ -24,6 +26,19 @@ none-held (x ∷ xs) h e = by (x .1) (h .0) (none-held xs (h .1)) e
     by : (b : Bool) → (T b → x .0 ≡ 0 → ⊥) → (firstOf xs ≡ 0 → None xs) → pick b (x .0) (firstOf xs) ≡ 0 → T (not b) × None xs
     by true f g e = absurd (f tt e)
     by false f g e = (tt, g e)
+
+-- a number that no test tells where it holds is not the first's
+abbrev pub untold : ℕ → List (ℕ × Bool) → Bool
+untold n [] = true
+untold n (x ∷ xs) = not (eqb (x .0) n && x .1) && untold n xs
+
+pub never-told : (n : ℕ) (xs : List (ℕ × Bool)) → T (untold n xs) → (0 ≡ n → ⊥) → firstOf xs ≡ n → ⊥
+never-told n [] h z = z
+never-told n (x ∷ xs) h z =
+    let (a, b) = both-hold (not (eqb (x .0) n && x .1)) (untold n xs) h in
+    let same = eqb (x .0) n in
+    pick-is (λ (m : ℕ). m ≡ n → ⊥) (x .1) (x .0) (firstOf xs)
+    (λ t e. T-not (same && x .1) a (join-hold same (x .1) (holds same (eq-eqb (x .0) n e)) t)) (λ t. never-told n xs b z)
 
 -- ---- an entry of a table at its own number
 -- the facts of a list's entries, one behind the other

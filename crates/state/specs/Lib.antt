@@ -12,6 +12,7 @@ pub mod Open
 pub mod Moves
 pub mod Sized
 pub mod KeepsTests
+pub mod Titles
 pub mod KeepsWhole
 pub mod KeepsOpen
 pub mod KeepsToken

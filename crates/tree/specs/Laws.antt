@@ -3,19 +3,19 @@ use Prim.Native.Nat.{ℕ, zero, suc, _+_, _-_, _≤_, _<_}
 use native.Mathlib.Numerals.{add-one}
 use native.Mathlib.Omega.{arith}
 use native.Mathlib.Decide.{decLe}
-use mathlib.Core.Bool.{Bool, true, false, not, _&&_, and-false}
+use mathlib.Core.Bool.{Bool, true, false, _&&_, and-false}
 use mathlib.Core.List.{List, [], _∷_, append-nil}
 use mathlib.Core.Path.{_≡_, refl, ap, _∙_}
 use lib.ListN.{length, getD, drop, set, drop-of-length-le, length-append}
 use lib.Seq.{drop-cons}
 use lib.Dec.{T, eqb, leb, ltb, leb→le, ltb→lt}
-use borrow.Author.Tests.{le-leb, lt-leb, eq-eqb, ne-eqb}
+use borrow.Author.Tests.{eq-eqb, ne-eqb}
 use Rattle.cells.specs.Facts.{holds, is-true, both-hold, join-hold, four-hold}
 use Rattle.tree.specs.Held.{liveAmong, liveOf, sameBytes, matches, propertyAt, nameSize, valueSize}
 use Rattle.tree.specs.Whole.{everyBelow, olderAmong, older, sound, counted, wholeTree}
 use Rattle.memory.specs.Writing.{writtenOf}
 use Rattle.memory.specs.Laws.{written-append, written-more, written-none}
-use Rattle.tree.specs.Property.{allPrinted, valueOf}
+use Rattle.tree.specs.Property.{nameByte, allNameBytes, valueOf}
 use Rattle.tree.specs.Steps.{sizeOf, foundFrom}
 use Rattle.tree.specs.declared.tree.Tree.{Tree}
 
@@ -85,22 +85,18 @@ pub same-end : (a b : List ℕ) (k : ℕ) → length a ≤ k → length b ≤ k 
 unfolding sameBytes
 same-end a b k h g = rw (drop-of-length-le a {i = k} h, drop-of-length-le b {i = k} g)
 
--- names of bytes 21-7E
-pub printed-more : (a : List ℕ) (k : ℕ) → k < length a → 0x21 ≤ getD a k 0 → getD a k 0 ≤ 0x7E → allPrinted (drop (k + 1) a) ≡ allPrinted (drop k a)
-unfolding allPrinted
-printed-more a k h g l = rw (drop-cons a k 0 h, le-leb 0x21 (getD a k 0) g, le-leb (getD a k 0) 0x7E l, add-one k)
+-- names, byte by byte
+pub name-more : (a : List ℕ) (k : ℕ) → k < length a → nameByte (getD a k 0) ≡ true → allNameBytes (drop (k + 1) a) ≡ allNameBytes (drop k a)
+unfolding allNameBytes
+name-more a k h g = rw (drop-cons a k 0 h, g, add-one k)
 
-pub printed-low : (a : List ℕ) (k : ℕ) → k < length a → getD a k 0 < 0x21 → allPrinted (drop k a) ≡ false
-unfolding allPrinted
-printed-low a k h g = rw (drop-cons a k 0 h, lt-leb 0x21 (getD a k 0) g)
+pub name-stops : (a : List ℕ) (k : ℕ) → k < length a → nameByte (getD a k 0) ≡ false → allNameBytes (drop k a) ≡ false
+unfolding allNameBytes
+name-stops a k h g = rw (drop-cons a k 0 h, g)
 
-pub printed-high : (a : List ℕ) (k : ℕ) → k < length a → 0x21 ≤ getD a k 0 → 0x7E < getD a k 0 → allPrinted (drop k a) ≡ false
-unfolding allPrinted
-printed-high a k h g l = rw (drop-cons a k 0 h, le-leb 0x21 (getD a k 0) g, lt-leb (getD a k 0) 0x7E l)
-
-pub printed-end : (a : List ℕ) (k : ℕ) → length a ≤ k → allPrinted (drop k a) ≡ true
-unfolding allPrinted
-printed-end a k h = rw (drop-of-length-le a {i = k} h)
+pub name-end : (a : List ℕ) (k : ℕ) → length a ≤ k → allNameBytes (drop k a) ≡ true
+unfolding allNameBytes
+name-end a k h = rw (drop-of-length-le a {i = k} h)
 
 -- a value with its null, or without
 pub laid-null : (m : List ℕ) (at : ℕ) (bs : List ℕ) → writtenOf m at (valueOf bs true) ≡ set (writtenOf m at bs) (at + length bs) 0

@@ -14,3 +14,4 @@ pub mod Kept
 pub mod Lives
 pub mod PutKept
 pub mod ReadBack
+pub mod NameExamples

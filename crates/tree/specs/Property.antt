@@ -1,7 +1,8 @@
--- Writing a property: "Properties go to the active node, values copied. A name has 1 to 31 bytes of 21-7E. The same name on the same node is
--- replaced in place. .. room freed by a shorter value is used. A number or name held twice: the oldest counts." Refusal 26, "bad property
--- name", before 27, "a 129th property, or live bytes above 16,384", judged on the properties as they would be. A store of the wrong size is 6, and a
--- damaged tree 7, before either. Assumes nothing.
+-- Writing a property: "Properties go to the active node, values copied. A name has 1 to 31 bytes of 21-7E. The same name on the same node
+-- is replaced in place. .. room freed by a shorter value is used. A number or name held twice: the oldest counts." Document 02, (i):
+-- "Refusal 26 shall now also cover upper-case letters and / \ : [ ] @". 26, "bad property name", comes before 27, "a 129th property, or
+-- live bytes above 16,384", judged on the properties as they would be. A store of the wrong size is 6, and a damaged tree 7, before
+-- either. Assumes nothing.
 use Prim.Native.Nat.{ℕ, _+_, _-_}
 use mathlib.Core.Bool.{Bool, true, false, not, _&&_, _||_}
 use mathlib.Core.List.{List, [], _∷_, _++_}
@@ -9,6 +10,7 @@ use lib.ListN.{length, replicate, set}
 use lib.Dec.{ltb, leb, eqb}
 use Rattle.cells.specs.Choice.{pick}
 use Rattle.rom.specs.Sizes.{propertiesMost, storeSize}
+use Rattle.rom.specs.Words.{lettersOf}
 use Rattle.tree.specs.Held.{Property, heldOf, laidOut, matches, indexOf}
 use Rattle.tree.specs.Whole.{nameMost, wholeTree}
 use Rattle.tree.specs.Node.{doneOf, refusedOf}
@@ -19,13 +21,22 @@ use Rattle.tree.specs.declared.tree.Written.{Written}
 abbrev pub valueOf : List ℕ → Bool → List ℕ
 valueOf bytes null = bytes ++ pick null (0 ∷ []) []
 
--- "1 to 31 bytes of 21-7E"
-unfoldable pub allPrinted : List ℕ → Bool
-allPrinted [] = true
-allPrinted (b ∷ bs) = leb 0x21 b && leb b 0x7E && allPrinted bs
+-- whether a byte is one of these
+unfoldable pub isOneOf : List ℕ → ℕ → Bool
+isOneOf [] b = false
+isOneOf (x ∷ xs) b = eqb b x || isOneOf xs b
 
+-- a byte that may stand in a name: of "21-7E", no "upper-case" letter, which 41-5A are, and none of "/ \ : [ ] @"
+unfoldable pub nameByte : ℕ → Bool
+nameByte b = leb 0x21 b && leb b 0x7E && not (leb 0x41 b && leb b 0x5A) && not (isOneOf (lettersOf "/\\:[]@") b)
+
+unfoldable pub allNameBytes : List ℕ → Bool
+allNameBytes [] = true
+allNameBytes (b ∷ bs) = nameByte b && allNameBytes bs
+
+-- 26: it has not "1 to 31 bytes", or one of them may not stand in a name
 unfoldable pub badName : List ℕ → Bool
-badName name = ltb (length name) 1 || ltb nameMost (length name) || not (allPrinted name)
+badName name = ltb (length name) 1 || ltb nameMost (length name) || not (allNameBytes name)
 
 -- the properties with this one: in the place of the oldest of its node and name, or behind them all
 unfoldable pub putIn : List Property → ℕ → List ℕ → List ℕ → List Property

@@ -14,9 +14,9 @@ use Rattle.cells.specs.Tests.{same-ltb}
 use Rattle.memory.specs.Window.{partOf}
 use Rattle.memory.specs.Laws.{length-part}
 use Rattle.tree.specs.Held.{heldOf, liveOf, laidOut, indexOf, nameSize, valueSize}
-use Rattle.tree.specs.Whole.{wholeTree}
+use Rattle.tree.specs.Whole.{nameMost, wholeTree}
 use Rattle.tree.specs.Node.{doneOf, refusedOf}
-use Rattle.tree.specs.Property.{allPrinted, badName, overfull, wouldHold, putRefusal, storeWith, treePut, storePut, putOf, storeOf}
+use Rattle.tree.specs.Property.{allNameBytes, badName, overfull, wouldHold, putRefusal, storeWith, treePut, storePut, putOf, storeOf}
 use Rattle.tree.specs.Steps.{foundOf, fullWith, laidWith, Placed}
 use Rattle.tree.specs.Layout.{walked, appended-is, replaced-is}
 use Rattle.tree.specs.declared.tree.Tree.{Tree}
@@ -25,13 +25,13 @@ pub or-parts : (a b : Bool) → a || b ≡ false → (a ≡ false) × (b ≡ fal
 or-parts true b e = absurd (true≢false e)
 or-parts false b e = (refl, e)
 
--- what a name and a tree that are good say
-pub name-facts : (name : List ℕ) → badName name ≡ false → (1 ≤ length name) × (length name ≤ 31)
+-- what a name that is good says
+pub name-facts : (name : List ℕ) → badName name ≡ false → (1 ≤ length name) × (length name ≤ nameMost)
 unfolding badName
 name-facts name e =
-    let p = or-parts (ltb (length name) 1 || ltb 31 (length name)) (not (allPrinted name)) e in
-    let q = or-parts (ltb (length name) 1) (ltb 31 (length name)) (p .0) in
-    (ltb-false (length name) 1 (q .0), ltb-false 31 (length name) (q .1))
+    let p = or-parts (ltb (length name) 1 || ltb nameMost (length name)) (not (allNameBytes name)) e in
+    let q = or-parts (ltb (length name) 1) (ltb nameMost (length name)) (p .0) in
+    (ltb-false (length name) 1 (q .0), ltb-false nameMost (length name) (q .1))
 
 module _ (t : Tree) (s name value : List ℕ) where
   -- refused, or done

@@ -8,7 +8,7 @@ ghost use Rattle.memory.specs.Window.{partOf};
 ghost use Rattle.memory.specs.Writing.{writtenOf};
 ghost use Rattle.tree.specs.Held.{sameBytes, nameSize, valueSize, liveOf};
 ghost use Rattle.tree.specs.Node.{refusedOf};
-ghost use Rattle.tree.specs.Property.{valueOf, allPrinted, badName, recordedOf, putOf, storeOf};
+ghost use Rattle.tree.specs.Property.{valueOf, nameByte, allNameBytes, badName, recordedOf, putOf, storeOf};
 ghost use Rattle.tree.specs.Steps.{foundFrom, sizeOf, fullWith, appendedOf, replacedOf, laidWith, Placed};
 use crate::tree::NAME_MOST;
 use crate::tree::Outcome;
@@ -46,15 +46,22 @@ pub fn same_bytes(a: &[u8], b: &[u8]) -> bool
     true
 }
 
-fn all_printed(name: &[u8]) -> bool
-    ensures { λ r. ⌜ r ≡ allPrinted (now (name .entry)) ⌝ }
+// Whether a byte may stand in a name: printed, no upper-case letter, and none of / \ : [ ] @.
+fn is_name_byte(b: u8) -> bool
+    ensures { λ r. ⌜ r ≡ nameByte b ⌝ }
+{
+    let printed = (0x21 <= b) & (b <= 0x7E);
+    let upper = (b'A' <= b) & (b <= b'Z');
+    let barred = (b == b'/') | (b == b'\\') | (b == b':') | (b == b'[') | (b == b']') | (b == b'@');
+    printed & !upper & !barred
+}
+
+fn all_name_bytes(name: &[u8]) -> bool
+    ensures { λ r. ⌜ r ≡ allNameBytes (now (name .entry)) ⌝ }
 {
     let mut k = 0;
     while k < name.len() {
-        if name[k] < 0x21 {
-            return false;
-        }
-        if 0x7E < name[k] {
+        if !is_name_byte(name[k]) {
             return false;
         }
         k += 1;
@@ -71,7 +78,7 @@ fn bad_name(name: &[u8]) -> bool
     if NAME_MOST < name.len() {
         return true;
     }
-    !all_printed(name)
+    !all_name_bytes(name)
 }
 
 // Whether a record of this owner, its name's bytes from a place up to an end, is the one of a node and a name.

@@ -13,4 +13,4 @@ bad-name-spec =
     (λ c. rw (lt-ltb _ 1 (c .if1 .taken)))
     (λ c. rw (le-ltb _ 1 (c .before .if1 .left), lt-ltb 31 _ (c .if2 .taken)))
     (λ c κs. search needs)
-    (λ c. rw (le-ltb _ 1 (c .before .before .if1 .left), le-ltb 31 _ (c .before .if2 .left), c .all-printed .ensures)))
+    (λ c. rw (le-ltb _ 1 (c .before .before .if1 .left), le-ltb 31 _ (c .before .if2 .left), c .all-name-bytes .ensures)))
