@@ -114,14 +114,14 @@ property-missing : findPropertyOf tree store (lettersOf "/a/d") (lettersOf "x") 
 unfolding findPropertyOf placeOf foundFrom findNodeOf downFrom childFrom valueIn heldFrom sameBytes lessNull malformed splitOf anyEmpty wholeTree everyBelow liveAmong lettersOf store tree
 property-missing = refl
 
--- no lookup judges a name: what 26 refuses is just not there
-name-unjudged : findPropertyOf tree store (lettersOf "/a") (lettersOf "X:") ≡ Unfound 30
+-- no lookup judges a name: one that 26 refuses is just not there
+bad-name-missing : findPropertyOf tree store (lettersOf "/a") (lettersOf "X:") ≡ Unfound 30
 unfolding findPropertyOf placeOf foundFrom findNodeOf downFrom childFrom valueIn heldFrom sameBytes lessNull malformed splitOf anyEmpty wholeTree everyBelow liveAmong lettersOf store tree
-name-unjudged = refl
+bad-name-missing = refl
 
-part-unjudged : findNodeOf tree store (lettersOf "/A:[a]") ≡ Refused 30
+bad-part-missing : findNodeOf tree store (lettersOf "/A:[a]") ≡ Refused 30
 unfolding findNodeOf downFrom childFrom valueIn heldFrom sameBytes lessNull malformed splitOf anyEmpty wholeTree everyBelow liveAmong lettersOf store tree
-part-unjudged = refl
+bad-part-missing = refl
 
 -- the node table, whose unused rows are zero
 parents-are : parentsOf tree ≡ 0 ∷ 0 ∷ 0 ∷ 2 ∷ 1 ∷ 0 ∷ replicate 26 0

@@ -35,8 +35,8 @@ untold n (x ∷ xs) = not (eqb (x .0) n && x .1) && untold n xs
 pub never-told : (n : ℕ) (xs : List (ℕ × Bool)) → T (untold n xs) → (0 ≡ n → ⊥) → firstOf xs ≡ n → ⊥
 never-told n [] h z = z
 never-told n (x ∷ xs) h z =
-    let (a, b) = both-hold (not (eqb (x .0) n && x .1)) (untold n xs) h in
     let same = eqb (x .0) n in
+    let (a, b) = both-hold (not (same && x .1)) (untold n xs) h in
     pick-is (λ (m : ℕ). m ≡ n → ⊥) (x .1) (x .0) (firstOf xs)
     (λ t e. T-not (same && x .1) a (join-hold same (x .1) (holds same (eq-eqb (x .0) n e)) t)) (λ t. never-told n xs b z)
 
