@@ -4,6 +4,7 @@ use native.Mathlib.Nat.{pow-suc, zero-add}
 use native.Mathlib.Numerals.{add-one}
 use native.Mathlib.Decide.{decLt}
 use native.Mathlib.Omega.{arith}
+use mathlib.Core.Bool.{true, false}
 use mathlib.Core.List.{List, [], _∷_, _++_, append-nil}
 use mathlib.Core.Path.{_≡_, refl, sym, ap, _∙_}
 use lib.ListN.{length, getD, drop, replicate, length-append, length-replicate, drop-of-length-le}
@@ -20,8 +21,9 @@ use Rattle.tree.specs.Whole.{parentOf}
 use Rattle.tree.specs.declared.tree.Tree.{Tree}
 use Rattle.lines.specs.Digits.{digit, decimalFrom, decimalOf, hexDigit, hexOf}
 use Rattle.lines.specs.Lines.{shown, nodeLine, propertyLine, ownLines, nodeLines}
+use Rattle.lines.specs.Printed.{printed, allPrinted}
 use Rattle.lines.specs.Told.{told, filledTo, toldIn}
-use Rattle.lines.specs.Wrote.{Wrote}
+use Rattle.lines.specs.Wrote.{Wrote, wrote-whole}
 
 -- a number of one digit, and the last digit of another
 pub decimal-one : (k n : ℕ) → n < 10 → decimalFrom (suc k) n ≡ digit n ∷ []
@@ -96,6 +98,26 @@ no-zero-first (suc k) n z h =
     let p = pow-suc 10 k in
     let i = no-zero-first k (n / 10) (omega (arith, tests)) (omega arith) in
     rw (first-of (decimalFrom k (n / 10)) (digit (n % 10) ∷ []) 0x30 i) i)
+
+-- a list from a place on: an element more, or none
+pub drop-more : (xs : List ℕ) (k : ℕ) → k < length xs → drop k xs ≡ (getD xs k 0 ∷ []) ++ drop (k + 1) xs
+drop-more xs k h = rw (drop-cons xs k 0 h, add-one k)
+
+pub drop-none : (xs : List ℕ) (k : ℕ) → length xs ≤ k → drop k xs ≡ []
+drop-none xs k h = drop-of-length-le xs {i = k} h
+
+-- bytes that are printed, from a place on
+pub printed-more : (a : List ℕ) (k : ℕ) → k < length a → printed (getD a k 0) ≡ true → allPrinted (drop (k + 1) a) ≡ allPrinted (drop k a)
+unfolding allPrinted
+printed-more a k h g = rw (drop-cons a k 0 h, g, add-one k)
+
+pub printed-stops : (a : List ℕ) (k : ℕ) → k < length a → printed (getD a k 0) ≡ false → allPrinted (drop k a) ≡ false
+unfolding allPrinted
+printed-stops a k h g = rw (drop-cons a k 0 h, g)
+
+pub printed-end : (a : List ℕ) (k : ℕ) → length a ≤ k → allPrinted (drop k a) ≡ true
+unfolding allPrinted
+printed-end a k h = rw (drop-none a k h)
 
 -- hexadecimal digits, a byte more
 abbrev pub hexPair : ℕ → List ℕ
@@ -206,5 +228,5 @@ cleared-text size m words e h =
 pub told-whole : {m n k : List ℕ} {end : ℕ} {words : List ℕ} (size : ℕ) → length m ≡ size → length words ≤ size → Wrote m n 0 end words → k ≡ clearedOf n end
     → told end k ≡ toldIn size words
 told-whole {m} {words = words} size s f w e =
-    let p : _ ≡ length words = w .place ∙ zero-add (length words) in
+    let p = wrote-whole (omega arith) w in
     rw (e, w .text, p) (ap (λ (t : List ℕ). told (length words) t) (cleared-text size m words s f))

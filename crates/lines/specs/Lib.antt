@@ -1,5 +1,6 @@
 pub mod Digits
 pub mod Lines
+pub mod Printed
 pub mod TokenLines
 pub mod Told
 pub mod Wrote

@@ -3,12 +3,11 @@ ghost use mathlib.Core.Path.{_≡_};
 ghost use Prim.Native.Nat.{_<_};
 ghost use Rattle.lines.specs.Digits.{decimalOf, hexDigit, hexOf};
 ghost use Rattle.lines.specs.Laws.{hexPair};
-ghost use Rattle.lines.specs.Wrote.{Fits, Wrote};
+ghost use Rattle.lines.specs.Wrote.{Wrote};
 use crate::words::letter;
 
 // The digits of the tenth, and behind them the last one.
 pub fn decimal(text: &mut [u8], at: usize, n: u32) -> usize
-    requires { ⌜ Fits at (decimalOf n) ⌝ }
     ensures { λ r. ⌜ Wrote (now (text .entry)) (now (text .exit)) at r (decimalOf n) ⌝ }
 {
     if n < 10 {
@@ -27,7 +26,6 @@ fn hex_digit(half: u8) -> u8
 }
 
 pub fn hex_byte(text: &mut [u8], at: usize, byte: u8) -> usize
-    requires { ⌜ Fits at (hexPair byte) ⌝ }
     ensures { λ r. ⌜ Wrote (now (text .entry)) (now (text .exit)) at r (hexPair byte) ⌝ }
 {
     let at = letter(text, at, hex_digit(byte / 16));
@@ -35,7 +33,6 @@ pub fn hex_byte(text: &mut [u8], at: usize, byte: u8) -> usize
 }
 
 pub fn hex(text: &mut [u8], at: usize, value: &[u8]) -> usize
-    requires { ⌜ Fits at (hexOf (now value)) ⌝ }
     ensures { λ r. ⌜ Wrote (now (text .entry)) (now (text .exit)) at r (hexOf (now (value .entry))) ⌝ }
 {
     let mut end = at;

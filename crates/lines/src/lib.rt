@@ -2,6 +2,7 @@
 mod digits;
 mod lines;
 mod pieces;
+mod printed;
 mod telling;
 mod words;
 

@@ -7,7 +7,7 @@ ghost use mathlib.Core.List.{[]};
 ghost use Rattle.cells.specs.Choice.{pick};
 ghost use Rattle.tree.specs.Held.{heldOf, liveOf};
 ghost use Rattle.lines.specs.Lines.{shown as Lines·shown, nodeLine, propertyLine, ownLines, nodeLines, stepsLine, refusedLine, closingLine};
-ghost use Rattle.lines.specs.Wrote.{Fits, Wrote};
+ghost use Rattle.lines.specs.Wrote.{Wrote};
 use crate::digits::decimal;
 use crate::digits::hex;
 use crate::words::letter;
@@ -21,7 +21,6 @@ fn wide(x: u32) -> usize
 }
 
 fn node_line(text: &mut [u8], at: usize, k: u32, parent: u32) -> usize
-    requires { ⌜ Fits at (nodeLine k parent) ⌝ }
     ensures { λ r. ⌜ Wrote (now (text .entry)) (now (text .exit)) at r (nodeLine k parent) ⌝ }
 {
     let at = say(text, at, b"node ");
@@ -33,7 +32,6 @@ fn node_line(text: &mut [u8], at: usize, k: u32, parent: u32) -> usize
 
 // A value behind its name; an empty one shows nothing, not even the space.
 pub fn shown(text: &mut [u8], at: usize, value: &[u8]) -> usize
-    requires { ⌜ Fits at (Lines·shown (now value)) ⌝ }
     ensures { λ r. ⌜ Wrote (now (text .entry)) (now (text .exit)) at r (Lines·shown (now (value .entry))) ⌝ }
 {
     if value.len() == 0 {
@@ -44,7 +42,6 @@ pub fn shown(text: &mut [u8], at: usize, value: &[u8]) -> usize
 }
 
 fn property_line(text: &mut [u8], at: usize, name: &[u8], value: &[u8]) -> usize
-    requires { ⌜ Fits at (propertyLine (now name) (now value)) ⌝ }
     ensures { λ r. ⌜ Wrote (now (text .entry)) (now (text .exit)) at r (propertyLine (now (name .entry)) (now (value .entry))) ⌝ }
 {
     let at = say(text, at, name);
@@ -54,7 +51,6 @@ fn property_line(text: &mut [u8], at: usize, name: &[u8], value: &[u8]) -> usize
 
 // A property's line where its owner is the node, else nothing.
 fn own_line(text: &mut [u8], at: usize, owner: u32, node: u32, name: &[u8], value: &[u8]) -> usize
-    requires { ⌜ Fits at (pick (eqb owner node) (propertyLine (now name) (now value)) []) ⌝ }
     ensures { λ r. ⌜ Wrote (now (text .entry)) (now (text .exit)) at r
         (pick (eqb owner node) (propertyLine (now (name .entry)) (now (value .entry))) []) ⌝ }
 {
@@ -66,7 +62,7 @@ fn own_line(text: &mut [u8], at: usize, owner: u32, node: u32, name: &[u8], valu
 
 // The properties of a node, in store order: a record's name and value stand behind those of the record before it.
 fn own_lines(text: &mut [u8], at: usize, store: &[u8], tree: Tree, node: u32) -> usize
-    requires { ⌜ Fits at (ownLines (heldOf tree (now store)) node) × (tree .held ≤ 128) × (liveOf tree ≤ length (now store)) ⌝ }
+    requires { ⌜ (tree .held ≤ 128) × (liveOf tree ≤ length (now store)) ⌝ }
     ensures { λ r. ⌜ Wrote (now (text .entry)) (now (text .exit)) at r (ownLines (heldOf tree (now (store .entry))) node) ⌝ }
 {
     let mut end = at;
@@ -90,7 +86,7 @@ fn own_lines(text: &mut [u8], at: usize, store: &[u8], tree: Tree, node: u32) ->
 }
 
 pub fn node_lines(text: &mut [u8], at: usize, store: &[u8], tree: Tree) -> usize
-    requires { ⌜ Fits at (nodeLines tree (heldOf tree (now store)) (tree .nodes) 0) × (tree .nodes ≤ 32) × (tree .held ≤ 128)
+    requires { ⌜ (tree .nodes ≤ 32) × (tree .held ≤ 128)
         × (liveOf tree ≤ length (now store)) ⌝ }
     ensures { λ r. ⌜ Wrote (now (text .entry)) (now (text .exit)) at r (nodeLines tree (heldOf tree (now (store .entry))) (tree .nodes) 0) ⌝ }
 {
@@ -105,7 +101,6 @@ pub fn node_lines(text: &mut [u8], at: usize, store: &[u8], tree: Tree) -> usize
 }
 
 pub fn steps_line(text: &mut [u8], at: usize, steps: u32) -> usize
-    requires { ⌜ Fits at (stepsLine steps) ⌝ }
     ensures { λ r. ⌜ Wrote (now (text .entry)) (now (text .exit)) at r (stepsLine steps) ⌝ }
 {
     let at = say(text, at, b"steps ");
@@ -114,7 +109,6 @@ pub fn steps_line(text: &mut [u8], at: usize, steps: u32) -> usize
 }
 
 pub fn refused_line(text: &mut [u8], at: usize, number: u32) -> usize
-    requires { ⌜ Fits at (refusedLine number) ⌝ }
     ensures { λ r. ⌜ Wrote (now (text .entry)) (now (text .exit)) at r (refusedLine number) ⌝ }
 {
     let at = say(text, at, b"refused ");
@@ -124,7 +118,6 @@ pub fn refused_line(text: &mut [u8], at: usize, number: u32) -> usize
 
 // How a run ended: 0 is a finish.
 pub fn closing_line(text: &mut [u8], at: usize, number: u32) -> usize
-    requires { ⌜ Fits at (closingLine number) ⌝ }
     ensures { λ r. ⌜ Wrote (now (text .entry)) (now (text .exit)) at r (closingLine number) ⌝ }
 {
     if number == 0 {

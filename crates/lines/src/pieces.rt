@@ -7,7 +7,7 @@ ghost use Rattle.tokens.specs.Name.{nameOf, unpacked};
 ghost use Rattle.tokens.specs.Reader.{walkOf};
 ghost use Rattle.lines.specs.TokenLines.{placeOf, cutsOf, partsAt, allShown, lineText, rawLine, tokenLine, pieceLines};
 ghost use Rattle.lines.specs.TokenLaws.{Ordered, Lying};
-ghost use Rattle.lines.specs.Wrote.{Fits, Wrote};
+ghost use Rattle.lines.specs.Wrote.{Wrote};
 use crate::digits::hex_byte;
 use crate::lines::shown;
 use crate::words::letter;
@@ -30,7 +30,7 @@ pub struct Cuts {
 }
 
 fn place_digits(text: &mut [u8], at: usize, place: usize) -> usize
-    requires { ⌜ Fits at (placeOf place) × (place < 65536) ⌝ }
+    requires { ⌜ (place < 65536) ⌝ }
     ensures { λ r. ⌜ Wrote (now (text .entry)) (now (text .exit)) at r (placeOf place) ⌝ }
 {
     let at = hex_byte(text, at, (place / 256) as u8);
@@ -39,7 +39,6 @@ fn place_digits(text: &mut [u8], at: usize, place: usize) -> usize
 
 // The letters that a number packs: those of the number without its last letter, and then that.
 fn letters(text: &mut [u8], at: usize, packed: u64) -> usize
-    requires { ⌜ Fits at (unpacked 8 packed) ⌝ }
     ensures { λ r. ⌜ Wrote (now (text .entry)) (now (text .exit)) at r (unpacked 8 packed) ⌝ }
 {
     if packed == 0 {
@@ -50,7 +49,6 @@ fn letters(text: &mut [u8], at: usize, packed: u64) -> usize
 }
 
 fn name(text: &mut [u8], at: usize, number: u32) -> usize
-    requires { ⌜ Fits at (nameOf number) ⌝ }
     ensures { λ r. ⌜ Wrote (now (text .entry)) (now (text .exit)) at r (nameOf number) ⌝ }
 {
     let at = letters(text, at, name_front(number));
@@ -88,7 +86,7 @@ fn cuts_of(rom: &[u8], start: usize, next: usize, form: u32) -> Cuts
 }
 
 fn parts(text: &mut [u8], at: usize, rom: &[u8], start: usize, meet: Cuts, next: usize) -> usize
-    requires { ⌜ Fits at (allShown (partsAt (now rom) start meet next)) × Ordered start meet next × (next ≤ length (now rom)) ⌝ }
+    requires { ⌜ Ordered start meet next × (next ≤ length (now rom)) ⌝ }
     ensures { λ r. ⌜ Wrote (now (text .entry)) (now (text .exit)) at r (allShown (partsAt (now (rom .entry)) start meet next)) ⌝ }
 {
     let first = meet.first;
@@ -102,7 +100,7 @@ fn parts(text: &mut [u8], at: usize, rom: &[u8], start: usize, meet: Cuts, next:
 
 // Bytes that no token of the list covers.
 fn raw_line(text: &mut [u8], at: usize, rom: &[u8], place: usize, next: usize) -> usize
-    requires { ⌜ Fits at (lineText (rawLine (now rom) place next)) × (place ≤ next) × (next ≤ length (now rom)) × (place < 65536) ⌝ }
+    requires { ⌜ (place ≤ next) × (next ≤ length (now rom)) × (place < 65536) ⌝ }
     ensures { λ r. ⌜ Wrote (now (text .entry)) (now (text .exit)) at r (lineText (rawLine (now (rom .entry)) place next)) ⌝ }
 {
     let at = place_digits(text, at, place);
@@ -120,7 +118,7 @@ fn token_line(
     start: usize,
     token: Token,
 ) -> usize
-    requires { ⌜ Fits at (lineText (tokenLine (now rom) place start token)) × Lying (now rom) place start token ⌝ }
+    requires { ⌜ Lying (now rom) place start token ⌝ }
     ensures { λ r. ⌜ Wrote (now (text .entry)) (now (text .exit)) at r (lineText (tokenLine (now (rom .entry)) place start token)) ⌝ }
 {
     let next = token.next as usize;

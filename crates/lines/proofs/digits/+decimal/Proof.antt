@@ -1,11 +1,9 @@
 use Prim.Native.Nat.{ℕ, _<_}
 use native.Mathlib.Omega.{arith}
-use mathlib.Core.Path.{ap}
-use lib.ListN.{length}
 use borrow.Author.Needs.{needs}
 use borrow.Fn.Kinds.{In}
 use borrow.Fn.PlainCycle.{Measures, is, falls, and}
-use Rattle.lines.specs.Laws.{decimal-one, decimal-more, length-more}
+use Rattle.lines.specs.Laws.{decimal-one, decimal-more}
 use Rattle.lines.specs.Wrote.{wrote-then}
 use Rattle.lines.proofs.digits.decimal.Reads as decimal
 use Rattle.lines.proofs.digits.decimal.Kinds as decimal-kinds
@@ -34,14 +32,12 @@ pub +decimal-spec : {M : Type 1} → statement M
     decimal.Post
     (λ c. search needs)
     (λ c. search needs)
-    (λ c κs. let l = ap length (decimal-one 9 (c .before .before .before .args .n) (search needs)) in omega arith)
+    (λ c κs. search needs)
     (λ c. search needs)
     (λ c. rw (decimal-one 9 (c .before .before .before .before .before .before .args .n) (search needs)) (c .before .before .letter .ensures))
-    (λ c κs.
-    let l = length-more (c .before .before .before .args .n) (search needs) (search needs) in
-    (omega (arith, c .before .before .before .pre .0), omega arith))
+    (λ c κs. omega (arith, c .before .before .before .pre .0))
     (λ c. search needs)
     (λ c. search needs)
-    (λ c κs. let l = length-more (c .before .before .before .before .before .before .before .args .n) (search needs) (search needs) in omega arith)
+    (λ c κs. search needs)
     (λ c. search needs)
     (λ c. rw (decimal-more (c .before .before .before .before .before .before .before .before .before .before .args .n) (search needs) (search needs)) (wrote-then (c .before .before .before .before .before .before .decimal .ensures) (c .before .before .letter2 .ensures))))

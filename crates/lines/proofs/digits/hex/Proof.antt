@@ -1,10 +1,9 @@
 use Prim.Native.Nat.{_+_, _-_, _≤_}
-use native.Mathlib.Omega.{arith}
-use lib.ListN.{length, getD, drop, length-drop}
+use lib.ListN.{length, getD, drop}
 use denote.Ref.{now}
 use borrow.Author.Needs.{needs}
 use Rattle.lines.specs.Digits.{hexOf}
-use Rattle.lines.specs.Laws.{hexPair, hex-more, hex-none, length-hex}
+use Rattle.lines.specs.Laws.{hexPair, hex-more, hex-none}
 use Rattle.lines.specs.Wrote.{Ahead, ahead-all, ahead-on, ahead-none}
 use Rattle.lines.proofs.digits.hex.Statement.{statement}
 use Rattle.lines.proofs.digits.hex.Tie as tie
@@ -23,12 +22,7 @@ hex-spec =
     μ-loop
     (λ c. (search needs, ahead-all))
     (λ c. search needs)
-    (λ c κs.
-    let value = now (c .before .before .before .before .before .before .args .value) in
-    let k = c .before .before .before .loop .k in
-    let l = length-hex (drop k value) in
-    let d = length-drop k value in
-    omega arith)
+    (λ c κs. search needs)
     (λ c. search needs)
     (λ c. search needs)
     (λ c.

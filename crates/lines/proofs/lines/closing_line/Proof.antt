@@ -11,9 +11,9 @@ closing-line-spec =
     tie.close
     (tie.spec
     (λ c. search needs)
-    (λ c κs. rw (eq-eqb (c .before .before .before .before .args .number) 0 (omega arith)) at (c .before .before .before .before .pre))
+    (λ c κs. search needs)
     (λ c. search needs)
     (λ c. rw (eq-eqb (c .before .before .before .before .before .before .before .args .number) 0 (omega arith)) (c .before .before .say .ensures))
-    (λ c κs. rw (ne-eqb (c .before .before .before .args .number) 0 (λ e. omega arith)) at (c .before .before .before .pre))
+    (λ c κs. search needs)
     (λ c. search needs)
     (λ c. rw (ne-eqb (c .before .before .before .before .before .before .args .number) 0 (λ e. omega arith)) (c .before .before .refused-line .ensures)))

@@ -13,12 +13,12 @@ node-line-spec =
     tie.close
     (tie.spec
     (λ c. search needs)
-    (λ c κs. let a = c .before .before .before .args in let l = length-node-line (a .k) (a .parent) in omega arith)
-    (λ c κs. let a = c .before .before .before .before .before .before .before .args in let l = length-node-line (a .k) (a .parent) in omega arith)
+    (λ c κs. search needs)
+    (λ c κs. search needs)
     (λ c. search needs)
-    (λ c κs. let a = c .before .before .before .before .before .before .before .before .before .before .before .before .args in let l = length-node-line (a .k) (a .parent) in omega arith)
-    (λ c κs. let a = c .before .before .before .before .before .before .before .before .before .before .before .before .before .before .before .before .args in let l = length-node-line (a .k) (a .parent) in omega arith)
-    (λ c κs. let a = c .before .before .before .before .before .before .before .before .before .before .before .before .before .before .before .before .before .before .before .before .args in let l = length-node-line (a .k) (a .parent) in omega arith)
+    (λ c κs. search needs)
+    (λ c κs. search needs)
+    (λ c κs. search needs)
     (λ c. search needs)
     (λ c.
     wrote-then (c .before .before .before .before .before .before .before .before .before .before .before .before .before .before .before .before .before .before .before .say .ensures)

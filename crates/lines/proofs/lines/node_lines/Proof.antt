@@ -8,7 +8,7 @@ use Rattle.tree.specs.Held.{heldOf}
 use Rattle.tree.specs.Whole.{parentOf}
 use Rattle.lines.specs.Lines.{nodeLine, ownLines, nodeLines}
 use Rattle.lines.specs.Laws.{nodes-more, nodes-none}
-use Rattle.lines.specs.Wrote.{Ahead, ahead-all, ahead-on, ahead-fits, ahead-none}
+use Rattle.lines.specs.Wrote.{Ahead, ahead-all, ahead-on, ahead-none}
 use Rattle.lines.proofs.lines.node_lines.Statement.{statement}
 use Rattle.lines.proofs.lines.node_lines.Tie as tie
 
@@ -62,19 +62,9 @@ node-lines-spec =
     (λ c. search needs)
     (λ c. search needs)
     (λ c. search needs)
-    (λ c κs.
-    let k = c .before .before .before .loop .k in
-    let a = c .before .before .before .before .before .before .args in
-    let t = a .t4 in
-    let ps = heldOf t (now (a .store)) in
-    ahead-fits (nodeLine k (parentOf t k)) (ownLines ps k ++ nodeLines t ps (t .nodes - (k + 1)) (k + 1)) (ahead (c .before .before)) (c .before .before .before .before .before .before .pre .0))
+    (λ c κs. search needs)
     (λ c. search needs)
-    (λ c κs.
-    let k = c .before .before .before .before .before .before .before .loop .k in
-    let a = c .before .before .before .before .before .before .before .before .before .before .args in
-    let t = a .t4 in
-    let ps = heldOf t (now (a .store)) in
-    (ahead-fits (ownLines ps k) (nodeLines t ps (t .nodes - (k + 1)) (k + 1)) (own-ahead (c .before .before .before)) (c .before .before .before .before .before .before .before .before .before .before .pre .0), search needs, search needs))
+    (λ c κs. (search needs, search needs))
     (λ c. search needs)
     (λ c. search needs)
     (λ c.

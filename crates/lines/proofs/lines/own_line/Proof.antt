@@ -10,6 +10,6 @@ own-line-spec =
     tie.close
     (tie.spec
     (λ c. let a = c .before .before .before .before .args in rw (ne-eqb (a .owner) (a .node) (λ e. omega arith)) wrote-none)
-    (λ c κs. let a = c .before .before .before .before .before .args in rw (eq-eqb (a .owner) (a .node) (omega arith)) at (c .before .before .before .before .before .pre))
+    (λ c κs. search needs)
     (λ c. search needs)
     (λ c. let a = c .before .before .before .before .before .before .before .before .args in rw (eq-eqb (a .owner) (a .node) (omega arith)) (c .before .before .property-line .ensures)))

@@ -7,7 +7,7 @@ use Rattle.tree.specs.Held.{nameSize, valueSize, heldFrom, heldOf, liveFrom, li
 use Rattle.tree.specs.Laws.{live-more}
 use Rattle.lines.specs.Lines.{ownLines}
 use Rattle.lines.specs.Laws.{ownLine, line-at, own-more, own-none}
-use Rattle.lines.specs.Wrote.{Ahead, ahead-all, ahead-on, ahead-fits, ahead-none}
+use Rattle.lines.specs.Wrote.{Ahead, ahead-all, ahead-on, ahead-none}
 use Rattle.lines.proofs.lines.own_lines.Statement.{statement}
 use Rattle.lines.proofs.lines.own_lines.Tie as tie
 
@@ -56,16 +56,7 @@ own-lines-spec =
     (λ c. search needs)
     (λ c. search needs)
     (λ c. let w = within (c .before .before .before .before .before .before .before) in search needs)
-    (λ c κs.
-    let l = c .before .before .before .before .before .before .before .before .before .loop in
-    let a = c .before .before .before .before .before .before .before .before .before .before .before .before .args in
-    let s = now (a .store) in
-    let n = nameSize (a .t4) (l .i) in
-    let v = valueSize (a .t4) (l .i) in
-    rw (line-at (a .t4) s (l .i) (l .name) (a .node) (c .before .before .before .before .before .before .wide .result) (c .before .before .before .before .wide2 .result) (c .before .before .before .before .before .before .wide .ensures) (c .before .before .before .before .wide2 .ensures))
-    (ahead-fits (ownLine (a .t4) s (l .i) (l .name) (a .node))
-    (ownLines (heldFrom (a .t4) s (a .t4 .held - (l .i + 1)) (l .i + 1) (l .name + n + v)) (a .node))
-    (rw (own-more (a .t4) s (a .t4 .held - l .i) (l .i) (l .name) (a .node) (a .t4 .held) (search needs) refl) at (l .inv .2)) (c .before .before .before .before .before .before .before .before .before .before .before .before .pre .0)))
+    (λ c κs. search needs)
     (λ c. search needs)
     (λ c. search needs)
     (λ c.

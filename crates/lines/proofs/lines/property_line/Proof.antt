@@ -12,8 +12,8 @@ unfolding propertyLine
 property-line-spec =
     tie.close
     (tie.spec
-    (λ c κs. let a = c .before .before .before .before .args in let l = length-property-line (now (a .name)) (now (a .value)) in omega arith)
-    (λ c κs. let a = c .before .before .before .before .before .before .before .before .args in let l = length-property-line (now (a .name)) (now (a .value)) in omega arith)
-    (λ c κs. let a = c .before .before .before .before .before .before .before .before .before .before .before .before .args in let l = length-property-line (now (a .name)) (now (a .value)) in omega arith)
+    (λ c κs. search needs)
+    (λ c κs. search needs)
+    (λ c κs. search needs)
     (λ c. search needs)
     (λ c. wrote-then (c .before .before .before .before .before .before .before .before .before .before .say .ensures) (wrote-then (c .before .before .before .before .before .before .shown .ensures) (c .before .before .letter .ensures))))

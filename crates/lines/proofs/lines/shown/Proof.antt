@@ -13,7 +13,7 @@ shown-spec =
     tie.close
     (tie.spec
     (λ c. rw (shown-none (now (c .before .before .before .args .value)) (omega arith)) wrote-none)
-    (λ c κs. let l = ap length (shown-some (now (c .before .before .before .before .args .value)) (λ e. omega arith)) in omega arith)
-    (λ c κs. let l = ap length (shown-some (now (c .before .before .before .before .before .before .before .before .args .value)) (λ e. omega arith)) in omega arith)
+    (λ c κs. search needs)
+    (λ c κs. search needs)
     (λ c. search needs)
     (λ c. rw (shown-some (now (c .before .before .before .before .before .before .before .before .before .before .before .args .value)) (λ e. omega arith)) (wrote-then (c .before .before .before .before .before .before .letter .ensures) (c .before .before .hex .ensures))))

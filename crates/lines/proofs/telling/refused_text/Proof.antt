@@ -4,6 +4,7 @@ use borrow.Author.Tests.{eq-eqb, ne-eqb}
 use Rattle.lines.specs.Told.{refusedTold}
 use Rattle.lines.specs.Fits.{refused-fits}
 use Rattle.lines.specs.Laws.{told-whole}
+use Rattle.lines.specs.Wrote.{wrote-whole}
 use Rattle.lines.proofs.telling.refused_text.Statement.{statement}
 use Rattle.lines.proofs.telling.refused_text.Tie as tie
 
@@ -13,8 +14,8 @@ refused-text-spec =
     tie.close
     (tie.spec
     (λ c. rw (ne-eqb _ _ (c .if1 .taken)))
-    (λ c κs. let f = refused-fits (c .before .before .before .args .number) in omega arith)
-    (λ c. let f = refused-fits (c .before .before .before .before .before .before .before .args .number) in omega arith)
+    (λ c κs. search needs)
+    (λ c. let f = refused-fits (c .before .before .before .before .before .before .before .args .number) in let e = wrote-whole (omega arith) (c .before .before .before .refused-line .ensures) in omega arith)
     (λ c κs. search needs)
     (λ c. search needs)
     (λ c.

@@ -9,9 +9,9 @@ use Rattle.tree.specs.Whole.{wholeTree}
 use Rattle.tree.specs.Laws.{whole-facts}
 use Rattle.lines.specs.Lines.{runText}
 use Rattle.lines.specs.Told.{runTold}
-use Rattle.lines.specs.Fits.{fits, length-run-text}
+use Rattle.lines.specs.Fits.{fits}
 use Rattle.lines.specs.Laws.{told-whole}
-use Rattle.lines.specs.Wrote.{wrote-then}
+use Rattle.lines.specs.Wrote.{wrote-then, wrote-whole}
 use Rattle.lines.proofs.telling.run_text.Statement.{statement}
 use Rattle.lines.proofs.telling.run_text.Tie as tie
 
@@ -31,26 +31,20 @@ run-text-spec =
     (λ c. search needs)
     (λ c κs. search needs)
     (λ c κs.
-    let a = c .before .before .before .before .before .before .before .before .before .before .before .before .args in
     let w = whole (c .before .before .before .before .before .before) in
-    let n = whole-facts (a .tree) w .nodes in
-    let f = fits (a .tree) (now (a .store)) (a .steps) (a .number) w in
-    let l = length-run-text (a .tree) (now (a .store)) (a .steps) (a .number) in
-    (omega arith, n .nodes-most, n .held-most, omega (arith, n .live-most)))
-    (λ c κs.
-    let a = c .before .before .before .before .before .before .before .before .before .before .before .before .before .before .before .before .args in
-    let f = fits (a .tree) (now (a .store)) (a .steps) (a .number) (whole (c .before .before .before .before .before .before .before .before .before .before)) in
-    let l = length-run-text (a .tree) (now (a .store)) (a .steps) (a .number) in
-    omega arith)
-    (λ c κs.
-    let a = c .before .before .before .before .before .before .before .before .before .before .before .before .before .before .before .before .before .before .before .before .args in
-    let f = fits (a .tree) (now (a .store)) (a .steps) (a .number) (whole (c .before .before .before .before .before .before .before .before .before .before .before .before .before .before)) in
-    let l = length-run-text (a .tree) (now (a .store)) (a .steps) (a .number) in
-    omega arith)
+    let n = whole-facts (c .before .before .before .before .before .before .before .before .before .before .before .before .args .tree) w .nodes in
+    (n .nodes-most, n .held-most, omega (arith, n .live-most)))
+    (λ c κs. search needs)
+    (λ c κs. search needs)
     (λ c.
     let a = c .before .before .before .before .before .before .before .before .before .before .before .before .before .before .before .before .before .before .before .before .before .before .before .before .args in
-    let f = fits (a .tree) (now (a .store)) (a .steps) (a .number) (whole (c .before .before .before .before .before .before .before .before .before .before .before .before .before .before .before .before .before .before)) in
-    let l = length-run-text (a .tree) (now (a .store)) (a .steps) (a .number) in
+    let e = c .before .before .before .before .before .before .before .before .before .before .before .before .before .before .before .before .before .before in
+    let f = fits (a .tree) (now (a .store)) (a .steps) (a .number) (whole e) in
+    let s = e .before .before .before .if1 .left in
+    let x =
+    wrote-whole (omega arith)
+    (wrote-then (c .before .before .before .before .before .before .before .before .before .before .before .before .before .before .before .say .ensures) (wrote-then (c .before .before .before .before .before .before .before .before .before .before .before .node-lines .ensures) (wrote-then (c .before .before .before .before .before .before .before .steps-line .ensures) (c .before .before .before .closing-line .ensures))))
+    in
     omega arith)
     (λ c κs. search needs)
     (λ c. search needs)

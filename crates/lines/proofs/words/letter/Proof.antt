@@ -1,5 +1,6 @@
+use mathlib.Core.Path.{refl}
 use borrow.Author.Needs.{needs}
-use Rattle.lines.specs.Wrote.{wrote-one}
+use Rattle.lines.specs.Wrote.{wrote-one, wrote-out}
 use Rattle.lines.proofs.words.letter.Statement.{statement}
 use Rattle.lines.proofs.words.letter.Tie as tie
 
@@ -7,7 +8,8 @@ pub letter-spec : {M : Type 1} → statement M
 letter-spec =
     tie.close
     (tie.spec
-    (λ c κs. search needs)
+    (λ c. wrote-out _ (c .if1 .taken))
     (λ c. search needs)
     (λ c. search needs)
-    (λ c. wrote-one _ (c .before .before .put .ensures)))
+    (λ c. search needs)
+    (λ c. wrote-one _ (c .if1 .left) refl))

@@ -1,0 +1,18 @@
+-- Bytes as a person reads them: those from 20 to 7E are letters that are printed as they are. Assumes nothing.
+use Prim.Native.Nat.{ℕ}
+use mathlib.Core.Bool.{Bool, true, _&&_}
+use mathlib.Core.List.{List, [], _∷_, _++_}
+use lib.Dec.{leb}
+use Rattle.cells.specs.Choice.{pick}
+use Rattle.rom.specs.Words.{lettersOf}
+
+abbrev pub printed : ℕ → Bool
+printed b = leb 0x20 b && leb b 0x7E
+
+unfoldable pub allPrinted : List ℕ → Bool
+allPrinted [] = true
+allPrinted (b ∷ bs) = printed b && allPrinted bs
+
+-- bytes in quotes behind a space, where all of them are printed; else nothing
+unfoldable pub quoted : List ℕ → List ℕ
+quoted bs = pick (allPrinted bs) (lettersOf " \"" ++ (bs ++ lettersOf "\"")) []
