@@ -117,3 +117,14 @@ propertyValueOf t store path name =
       | Node k ↦ elim (valueIn (heldOf t store) k name) [ none ↦ [] | some value ↦ value ]
       | Refused why ↦ []
     ]
+
+-- the bytes of a node's own property, the node known by its number; none where there is none, or where the store has another size or the tree is damaged
+abbrev pub bytesOr : Option (List ℕ) → List ℕ
+bytesOr none = []
+bytesOr (some value) = value
+
+unfoldable pub ownValueOf : Tree → List ℕ → ℕ → List ℕ → List ℕ
+ownValueOf t store node name =
+    pick (not (eqb (length store) storeSize)) []
+    (pick (not (wholeTree t)) []
+    (bytesOr (valueIn (heldOf t store) node name)))

@@ -22,6 +22,7 @@ use Rattle.tree.specs.Steps.{foundFrom}
 use Rattle.tree.specs.Laws.{whole-facts}
 use Rattle.tree.specs.Layout.{either, walked}
 use Rattle.tree.specs.Path.{slash, splitOf, partsOf, isEmpty, anyEmpty, malformed, valueIn, lessNull, isCalled, childFrom, childNamed, downFrom, behindSlash, findNodeOf, placeOf, findPropertyOf, propertyValueOf}
+use Rattle.tree.specs.Path.{ownValueOf}
 use Rattle.tree.specs.declared.tree.Tree.{Tree}
 use Rattle.tree.specs.declared.property.Found.{Found}
 use Rattle.tree.specs.declared.lookup.NodeSought.{NodeSought}
@@ -351,6 +352,30 @@ module _ (t : Tree) (store path : List ℕ) where
 
     pub property-holds : (v : ValueSought) → findPropertyOf t store path name ≡ v → Holds v
     property-holds v e = holds-by (findNodeOf t store path) refl v e
+
+-- ---- a node's own property, by the tests that the code makes
+module _ (t : Tree) (store : List ℕ) (node : ℕ) (name : List ℕ) where
+  pub own-size : (length store ≡ 16384 → ⊥) → ownValueOf t store node name ≡ []
+  unfolding ownValueOf
+  own-size n = rw (ne-eqb (length store) 16384 n)
+
+  module _ (e : length store ≡ 16384) where
+    pub own-damaged : wholeTree t ≡ false → ownValueOf t store node name ≡ []
+    unfolding ownValueOf
+    own-damaged w = rw (eq-eqb (length store) 16384 e, w)
+
+    module _ (w : wholeTree t ≡ true) where
+      pub own-there : (at size : ℕ) → placeOf t store node name ≡ Value at size → (at + size ≤ length store) × (ownValueOf t store node name ≡ partOf store at size)
+      unfolding ownValueOf
+      own-there at size p =
+          let v = place-value t store node name at size p in
+          let l = whole-facts t w .nodes .live-most in
+          let a = v .0 in
+          (omega arith, rw (eq-eqb (length store) 16384 e, w, v .1))
+
+      pub own-missing : (why : ℕ) → placeOf t store node name ≡ Unfound why → ownValueOf t store node name ≡ []
+      unfolding ownValueOf
+      own-missing why p = rw (eq-eqb (length store) 16384 e, w, place-empty t store node name why p)
 
 -- ---- lookups judge no name: a path of good form, and any property's name, bring nothing but 30
 module _ (t : Tree) (store : List ℕ) where

@@ -9,6 +9,7 @@ pub use lookup::NodeSought;
 pub use lookup::ValueSought;
 pub use lookup::find_node;
 pub use lookup::find_property;
+pub use lookup::own_value;
 pub use lookup::property_value;
 pub use node::finish_device;
 pub use node::fresh_tree;

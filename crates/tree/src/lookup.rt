@@ -7,6 +7,7 @@ ghost use lib.Dec.{eqb};
 ghost use Rattle.tree.specs.Held.{liveOf};
 ghost use Rattle.tree.specs.Whole.{parentOf};
 ghost use Rattle.tree.specs.Path.{splitOf, anyEmpty, malformed as Path·malformed, lessNull, isCalled, childNamed, downFrom, placeOf, findNodeOf, findPropertyOf, propertyValueOf};
+ghost use Rattle.tree.specs.Path.{ownValueOf};
 ghost use Rattle.tree.specs.PathLaws.{endOf, childSought};
 use crate::property::find;
 use crate::property::name_size;
@@ -197,6 +198,23 @@ pub fn property_value<'a>(store: &'a [u8], tree: Tree, path: &[u8], name: &[u8])
     ensures { λ r. ⌜ now r ≡ propertyValueOf tree (now (store .entry)) (now (path .entry)) (now (name .entry)) ⌝ }
 {
     match find_property(store, tree, path, name) {
+        ValueSought::Value(at, size) => &store[at..at + size],
+        ValueSought::Refused(_) => &store[..0],
+    }
+}
+
+// The value of a node's own property, for whoever knows the node by its number: a part of the store, the oldest of that name; the empty part where there is
+// none, or where the store has another size or the tree is damaged.
+pub fn own_value<'a>(store: &'a [u8], tree: Tree, node: u32, name: &[u8]) -> &'a [u8]
+    ensures { λ r. ⌜ now r ≡ ownValueOf tree (now (store .entry)) node (now (name .entry)) ⌝ }
+{
+    if store.len() != STORE_SIZE {
+        return &store[..0];
+    }
+    if !is_whole(tree) {
+        return &store[..0];
+    }
+    match place_of(store, tree, node, name) {
         ValueSought::Value(at, size) => &store[at..at + size],
         ValueSought::Refused(_) => &store[..0],
     }
