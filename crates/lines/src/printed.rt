@@ -1,6 +1,7 @@
 // Bytes as a person reads them.
+ghost use Prim.Native.Nat.{_-_};
 ghost use mathlib.Core.Path.{_≡_};
-ghost use Rattle.lines.specs.Printed.{printed, allPrinted, quoted as Printed·quoted};
+ghost use Rattle.lines.specs.Printed.{printed, allPrinted, isText, textOf, quoted as Printed·quoted};
 ghost use Rattle.lines.specs.Wrote.{Wrote};
 use crate::words::letter;
 use crate::words::say;
@@ -34,4 +35,33 @@ pub fn quoted(text: &mut [u8], at: usize, bytes: &[u8]) -> usize
     let at = say(text, at, b" \"");
     let at = say(text, at, bytes);
     letter(text, at, b'"')
+}
+
+// Where a value's last byte stands; 0 where it has none.
+fn last_of(size: usize) -> usize
+    ensures { λ r. ⌜ r ≡ size - 1 ⌝ }
+{
+    if size == 0 { 0 } else { size - 1 }
+}
+
+// A value less its last byte; an empty one has none to lose.
+pub fn text_of(value: &[u8]) -> &[u8]
+    ensures { λ r. ⌜ now r ≡ textOf (now (value .entry)) ⌝ }
+{
+    let last = last_of(value.len());
+    &value[..last]
+}
+
+// Whether a value ends with a null, and all before it is printed.
+pub fn is_text(value: &[u8]) -> bool
+    ensures { λ r. ⌜ r ≡ isText (now (value .entry)) ⌝ }
+{
+    if value.len() == 0 {
+        return false;
+    }
+    let last = last_of(value.len());
+    if value[last] != 0 {
+        return false;
+    }
+    all_printed(text_of(value))
 }

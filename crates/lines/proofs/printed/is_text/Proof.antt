@@ -1,0 +1,21 @@
+use mathlib.Core.Path.{sym, _∙_}
+use borrow.Author.Needs.{needs}
+use borrow.Author.Tests.{eq-eqb, ne-eqb}
+use Rattle.lines.specs.Printed.{isText}
+use Rattle.lines.proofs.printed.is_text.Statement.{statement}
+use Rattle.lines.proofs.printed.is_text.Tie as tie
+
+pub is-text-spec : {M : Type 1} → statement M
+unfolding isText
+is-text-spec =
+    tie.close
+    (tie.spec
+    (λ c. rw (eq-eqb _ 0 (c .if1 .taken)))
+    (λ c κs. search needs)
+    (λ c. search needs)
+    (λ c. rw (ne-eqb _ 0 (c .before .before .before .if1 .left), ← c .before .before .last-of .ensures, ne-eqb _ 0 (c .if2 .taken)))
+    (λ c κs. search needs)
+    (λ c κs. search needs)
+    (λ c.
+    rw (ne-eqb _ 0 (c .before .before .before .before .before .if1 .left), ← c .before .text-of .ensures, ← c .before .before .before .before .last-of .ensures, eq-eqb _ 0 (c .before .before .if2 .left))
+    (c .all-printed .ensures)))
