@@ -22,6 +22,13 @@ decimalOf n = decimalFrom 10 n
 abbrev pub hexDigit : ℕ → ℕ
 hexDigit n = pick (ltb n 10) (0x30 + n) (0x37 + n)
 
+-- a byte's two digits, and a word's four
+abbrev pub hexPair : ℕ → List ℕ
+hexPair b = hexDigit (b / 16) ∷ hexDigit (b % 16) ∷ []
+
+unfoldable pub hexWord : ℕ → List ℕ
+hexWord w = hexPair (w / 256) ++ hexPair (w % 256)
+
 unfoldable pub hexOf : List ℕ → List ℕ
 hexOf [] = []
 hexOf (b ∷ bs) = hexDigit (b / 16) ∷ hexDigit (b % 16) ∷ hexOf bs

@@ -2,7 +2,7 @@
 -- node at most, so that the lines of properties have at most twice the store's bytes and two for each property. Assumes nothing.
 use Prim.Native.Nat.{ℕ, zero, suc, _+_, _*_, _≤_, _<_}
 use native.Mathlib.Omega.{arith}
-use mathlib.Core.Bool.{true}
+use mathlib.Core.Bool.{true, false}
 use mathlib.Core.List.{List, [], _∷_, _++_}
 use mathlib.Core.Path.{_≡_, refl}
 use lib.ListN.{length, drop, length-append, length-take}
@@ -80,7 +80,7 @@ held-sizes t store (suc k) i at =
 -- the lines under so many nodes from node k on
 abbrev ownSizes : List Property → ℕ → ℕ → ℕ
 ownSizes ps zero k = 0
-ownSizes ps (suc n) k = length (ownLines ps k) + ownSizes ps n (k + 1)
+ownSizes ps (suc n) k = length (ownLines false ps k) + ownSizes ps n (k + 1)
 
 -- a property adds nothing under the nodes behind its own, and its line once at most
 own-behind : (p : Property) (ps : List Property) (n k : ℕ) → p .node < k → ownSizes (p ∷ ps) n k ≡ ownSizes ps n k
@@ -93,9 +93,9 @@ unfolding ownLines
 own-once p ps zero k = omega arith
 own-once p ps (suc n) k =
     let line = propertyLine (p .name) (p .value) in
-    let l = length-append line (ownLines ps k) in
+    let l = length-append line (ownLines false ps k) in
     let i = own-once p ps n (k + 1) in
-    pick-is (λ z. length (z ++ ownLines ps k) + ownSizes (p ∷ ps) n (k + 1) ≤ length line + (length (ownLines ps k) + ownSizes ps n (k + 1)))
+    pick-is (λ z. length (z ++ ownLines false ps k) + ownSizes (p ∷ ps) n (k + 1) ≤ length line + (length (ownLines false ps k) + ownSizes ps n (k + 1)))
     (eqb (p .node) k) line []
     (λ t. let b = own-behind p ps n (k + 1) (omega (arith, tests)) in omega arith)
     (λ t. omega arith)
@@ -115,8 +115,8 @@ unfolding nodeLines
 nodes-fit t ps zero k = omega arith
 nodes-fit t ps (suc n) k =
     let parent = parentOf t k in
-    let a = length-append (nodeLine k parent) (ownLines ps k ++ nodeLines t ps n (k + 1)) in
-    let b = length-append (ownLines ps k) (nodeLines t ps n (k + 1)) in
+    let a = length-append (nodeLine k parent) (ownLines false ps k ++ nodeLines t ps n (k + 1)) in
+    let b = length-append (ownLines false ps k) (nodeLines t ps n (k + 1)) in
     let c = length-node-line k parent in
     let d = length-decimal 10 k in
     let e = length-decimal 10 parent in

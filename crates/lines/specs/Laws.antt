@@ -4,7 +4,7 @@ use native.Mathlib.Nat.{pow-suc, zero-add}
 use native.Mathlib.Numerals.{add-one}
 use native.Mathlib.Decide.{decLt}
 use native.Mathlib.Omega.{arith}
-use mathlib.Core.Bool.{true, false}
+use mathlib.Core.Bool.{Bool, true, false}
 use mathlib.Core.List.{List, [], _∷_, _++_, append-nil}
 use mathlib.Core.Path.{_≡_, refl, sym, ap, _∙_}
 use lib.ListN.{length, getD, drop, replicate, length-append, length-replicate, drop-of-length-le}
@@ -13,14 +13,15 @@ use lib.Dec.{ltb, eqb}
 use Rattle.cells.specs.Choice.{pick}
 use borrow.Author.Tests.{lt-ltb, le-ltb}
 use Rattle.cells.specs.Tests.{when-is, pick-is, chosen-below, chosen-from, tests}
+use Rattle.rom.specs.Words.{lettersOf}
 use Rattle.memory.specs.Window.{partOf}
 use Rattle.memory.specs.Writing.{writtenOf, clearedOf}
 use Rattle.memory.specs.Laws.{written-append, written-is, length-written}
 use Rattle.tree.specs.Held.{Property, ownerOf, nameSize, valueSize, heldFrom}
 use Rattle.tree.specs.Whole.{parentOf}
 use Rattle.tree.specs.declared.tree.Tree.{Tree}
-use Rattle.lines.specs.Digits.{digit, decimalFrom, decimalOf, hexDigit, hexOf}
-use Rattle.lines.specs.Lines.{shown, nodeLine, propertyLine, ownLines, nodeLines}
+use Rattle.lines.specs.Digits.{digit, decimalFrom, decimalOf, hexDigit, hexPair, hexOf}
+use Rattle.lines.specs.Lines.{shown, bytesRead, nodeLine, lineFor, ownLines, nodeLines}
 use Rattle.lines.specs.Printed.{printed, allPrinted}
 use Rattle.lines.specs.Told.{told, filledTo, toldIn}
 use Rattle.lines.specs.Wrote.{Wrote, wrote-whole}
@@ -120,9 +121,6 @@ unfolding allPrinted
 printed-end a k h = rw (drop-none a k h)
 
 -- hexadecimal digits, a byte more
-abbrev pub hexPair : ℕ → List ℕ
-hexPair b = hexDigit (b / 16) ∷ hexDigit (b % 16) ∷ []
-
 pub hex-more : (value : List ℕ) (k : ℕ) → k < length value → hexOf (drop k value) ≡ hexPair (getD value k 0) ++ hexOf (drop (k + 1) value)
 unfolding hexOf
 hex-more value k h = rw (drop-cons value k 0 h, add-one k)
@@ -173,6 +171,15 @@ pub shown-some : (value : List ℕ) → (length value ≡ 0 → ⊥) → shown v
 shown-some [] n = absurd (n refl)
 shown-some (b ∷ bs) n = refl
 
+-- the same for people
+pub read-none : (value : List ℕ) → length value ≡ 0 → bytesRead value ≡ []
+read-none [] e = refl
+read-none (b ∷ bs) e = absurd (omega arith)
+
+pub read-some : (value : List ℕ) → (length value ≡ 0 → ⊥) → bytesRead value ≡ lettersOf " =" ++ shown value
+read-some [] n = absurd (n refl)
+read-some (b ∷ bs) n = refl
+
 -- a space and two digits for each byte; nothing for none
 pub length-shown : (value : List ℕ) → (length (shown value) ≤ 2 * length value + 1) × (length (shown value) ≤ 3 * length value)
 length-shown [] = (omega arith, omega arith)
@@ -180,31 +187,33 @@ length-shown (b ∷ bs) = let h = length-hex (b ∷ bs) in (omega arith, omega a
 
 -- what is left of a walk over the records, and over the nodes
 module _ (t : Tree) (store : List ℕ) where
-  -- what a record adds to the lines of a node
-  abbrev pub ownLine : ℕ → ℕ → ℕ → List ℕ
-  ownLine i at node = pick (eqb (ownerOf t i) node) (propertyLine (partOf store at (nameSize t i)) (partOf store (at + nameSize t i) (valueSize t i))) []
+  -- what a record adds to the lines of a node, in either form
+  abbrev pub ownLine : Bool → ℕ → ℕ → ℕ → List ℕ
+  ownLine people i at node =
+      pick (eqb (ownerOf t i) node) (lineFor people (partOf store at (nameSize t i)) (partOf store (at + nameSize t i) (valueSize t i))) []
 
   -- the same, of lengths that were read and parts between places
-  pub line-at : (i at node n v : ℕ) → n ≡ nameSize t i → v ≡ valueSize t i
-      → pick (eqb (ownerOf t i) node) (propertyLine (partOf store at (at + n - at)) (partOf store (at + n) (at + n + v - (at + n)))) [] ≡ ownLine i at node
-  line-at i at node n v e f =
+  pub line-at : (people : Bool) (i at node n v : ℕ) → n ≡ nameSize t i → v ≡ valueSize t i
+      → pick (eqb (ownerOf t i) node) (lineFor people (partOf store at (at + n - at)) (partOf store (at + n) (at + n + v - (at + n)))) []
+      ≡ ownLine people i at node
+  line-at people i at node n v e f =
       let x : at + n - at ≡ n = omega arith in
       let y : at + n + v - (at + n) ≡ v = omega arith in
       rw (x, y, e, f)
 
-  pub own-more : (k i at node n : ℕ) → i < n → k ≡ n - i
-      → ownLines (heldFrom t store k i at) node
-      ≡ ownLine i at node ++ ownLines (heldFrom t store (n - (i + 1)) (i + 1) (at + nameSize t i + valueSize t i)) node
+  pub own-more : (people : Bool) (k i at node n : ℕ) → i < n → k ≡ n - i
+      → ownLines people (heldFrom t store k i at) node
+      ≡ ownLine people i at node ++ ownLines people (heldFrom t store (n - (i + 1)) (i + 1) (at + nameSize t i + valueSize t i)) node
   unfolding heldFrom ownLines
-  own-more k i at node n h e = let f : k ≡ suc (n - (i + 1)) = omega arith in rw f
+  own-more people k i at node n h e = let f : k ≡ suc (n - (i + 1)) = omega arith in rw f
 
-  pub own-none : (k i at node : ℕ) → k ≡ 0 → ownLines (heldFrom t store k i at) node ≡ []
+  pub own-none : (people : Bool) (k i at node : ℕ) → k ≡ 0 → ownLines people (heldFrom t store k i at) node ≡ []
   unfolding heldFrom ownLines
-  own-none k i at node e = rw e
+  own-none people k i at node e = rw e
 
 module _ (t : Tree) (ps : List Property) where
   pub nodes-more : (m k n : ℕ) → k < n → m ≡ n - k
-      → nodeLines t ps m k ≡ nodeLine k (parentOf t k) ++ (ownLines ps k ++ nodeLines t ps (n - (k + 1)) (k + 1))
+      → nodeLines t ps m k ≡ nodeLine k (parentOf t k) ++ (ownLines false ps k ++ nodeLines t ps (n - (k + 1)) (k + 1))
   unfolding nodeLines
   nodes-more m k n h e = let f : m ≡ suc (n - (k + 1)) = omega arith in rw f
 

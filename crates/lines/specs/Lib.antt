@@ -1,6 +1,7 @@
 pub mod Digits
 pub mod Lines
 pub mod Printed
+pub mod Explain
 pub mod TokenLines
 pub mod Told
 pub mod Wrote

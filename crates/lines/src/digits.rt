@@ -1,8 +1,7 @@
 // Numbers, written into a text.
 ghost use mathlib.Core.Path.{_≡_};
 ghost use Prim.Native.Nat.{_<_};
-ghost use Rattle.lines.specs.Digits.{decimalOf, hexDigit, hexOf};
-ghost use Rattle.lines.specs.Laws.{hexPair};
+ghost use Rattle.lines.specs.Digits.{decimalOf, hexDigit, hexPair, hexWord, hexOf};
 ghost use Rattle.lines.specs.Wrote.{Wrote};
 use crate::words::letter;
 
@@ -30,6 +29,13 @@ pub fn hex_byte(text: &mut [u8], at: usize, byte: u8) -> usize
 {
     let at = letter(text, at, hex_digit(byte / 16));
     letter(text, at, hex_digit(byte % 16))
+}
+
+pub fn hex_word(text: &mut [u8], at: usize, word: u16) -> usize
+    ensures { λ r. ⌜ Wrote (now (text .entry)) (now (text .exit)) at r (hexWord word) ⌝ }
+{
+    let at = hex_byte(text, at, (word / 256) as u8);
+    hex_byte(text, at, (word % 256) as u8)
 }
 
 pub fn hex(text: &mut [u8], at: usize, value: &[u8]) -> usize

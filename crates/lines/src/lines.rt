@@ -6,12 +6,17 @@ ghost use lib.ListN.{length};
 ghost use mathlib.Core.List.{[]};
 ghost use Rattle.cells.specs.Choice.{pick};
 ghost use Rattle.tree.specs.Held.{heldOf, liveOf};
-ghost use Rattle.lines.specs.Lines.{shown as Lines·shown, nodeLine, propertyLine, ownLines, nodeLines, stepsLine, refusedLine, closingLine};
+ghost use Rattle.lines.specs.Lines.{shown as Lines·shown, nodeLine, propertyLine, lineFor, ownLines, nodeLines, stepsLine, refusedLine, closingLine};
+ghost use Rattle.lines.specs.Lines.{numberRead, textRead, bytesRead, readLine};
 ghost use Rattle.lines.specs.Wrote.{Wrote};
 use crate::digits::decimal;
 use crate::digits::hex;
+use crate::printed::is_text;
+use crate::printed::quoted;
+use crate::printed::text_of;
 use crate::words::letter;
 use crate::words::say;
+use rom::word32;
 use tree::Tree;
 
 fn wide(x: u32) -> usize
@@ -49,21 +54,81 @@ fn property_line(text: &mut [u8], at: usize, name: &[u8], value: &[u8]) -> usize
     letter(text, at, b'\n')
 }
 
-// A property's line where its owner is the node, else nothing.
-fn own_line(text: &mut [u8], at: usize, owner: u32, node: u32, name: &[u8], value: &[u8]) -> usize
+// The number of a value of four bytes.
+fn number_read(text: &mut [u8], at: usize, value: &[u8]) -> usize
+    ensures { λ r. ⌜ Wrote (now (text .entry)) (now (text .exit)) at r (numberRead (now (value .entry))) ⌝ }
+{
+    if value.len() != 4 {
+        return at;
+    }
+    let at = letter(text, at, b' ');
+    decimal(text, at, word32(value, 0))
+}
+
+fn text_read(text: &mut [u8], at: usize, value: &[u8]) -> usize
+    ensures { λ r. ⌜ Wrote (now (text .entry)) (now (text .exit)) at r (textRead (now (value .entry))) ⌝ }
+{
+    if !is_text(value) {
+        return at;
+    }
+    quoted(text, at, text_of(value))
+}
+
+fn bytes_read(text: &mut [u8], at: usize, value: &[u8]) -> usize
+    ensures { λ r. ⌜ Wrote (now (text .entry)) (now (text .exit)) at r (bytesRead (now (value .entry))) ⌝ }
+{
+    if value.len() == 0 {
+        return at;
+    }
+    let at = say(text, at, b" =");
+    shown(text, at, value)
+}
+
+// A property's line for people.
+fn read_line(text: &mut [u8], at: usize, name: &[u8], value: &[u8]) -> usize
+    ensures { λ r. ⌜ Wrote (now (text .entry)) (now (text .exit)) at r (readLine (now (name .entry)) (now (value .entry))) ⌝ }
+{
+    let at = say(text, at, b"  ");
+    let at = say(text, at, name);
+    let at = text_read(text, at, value);
+    let at = number_read(text, at, value);
+    let at = bytes_read(text, at, value);
+    letter(text, at, b'\n')
+}
+
+// A property's line in either form where its owner is the node, else nothing.
+fn own_line(
+    text: &mut [u8],
+    at: usize,
+    people: bool,
+    owner: u32,
+    node: u32,
+    name: &[u8],
+    value: &[u8],
+) -> usize
     ensures { λ r. ⌜ Wrote (now (text .entry)) (now (text .exit)) at r
-        (pick (eqb owner node) (propertyLine (now (name .entry)) (now (value .entry))) []) ⌝ }
+        (pick (eqb owner node) (lineFor people (now (name .entry)) (now (value .entry))) []) ⌝ }
 {
     if owner != node {
         return at;
+    }
+    if people {
+        return read_line(text, at, name, value);
     }
     property_line(text, at, name, value)
 }
 
 // The properties of a node, in store order: a record's name and value stand behind those of the record before it.
-fn own_lines(text: &mut [u8], at: usize, store: &[u8], tree: Tree, node: u32) -> usize
+pub fn own_lines(
+    text: &mut [u8],
+    at: usize,
+    people: bool,
+    store: &[u8],
+    tree: Tree,
+    node: u32,
+) -> usize
     requires { ⌜ (tree .held ≤ 128) × (liveOf tree ≤ length (now store)) ⌝ }
-    ensures { λ r. ⌜ Wrote (now (text .entry)) (now (text .exit)) at r (ownLines (heldOf tree (now (store .entry))) node) ⌝ }
+    ensures { λ r. ⌜ Wrote (now (text .entry)) (now (text .exit)) at r (ownLines people (heldOf tree (now (store .entry))) node) ⌝ }
 {
     let mut end = at;
     let mut i = 0;
@@ -74,6 +139,7 @@ fn own_lines(text: &mut [u8], at: usize, store: &[u8], tree: Tree, node: u32) ->
         end = own_line(
             text,
             end,
+            people,
             tree.owners[i],
             node,
             &store[name..value],
@@ -94,7 +160,7 @@ pub fn node_lines(text: &mut [u8], at: usize, store: &[u8], tree: Tree) -> usize
     let mut k = 0;
     while k < tree.nodes {
         let own = node_line(text, end, k as u32, tree.parents[k]);
-        end = own_lines(text, own, store, tree, k as u32);
+        end = own_lines(text, own, false, store, tree, k as u32);
         k += 1;
     }
     end

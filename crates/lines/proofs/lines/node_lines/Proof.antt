@@ -1,4 +1,5 @@
 use Prim.Native.Nat.{_+_, _-_, _≤_}
+use mathlib.Core.Bool.{false}
 use mathlib.Core.List.{_++_}
 use mathlib.Core.Path.{_≡_, refl}
 use native.Mathlib.Omega.{arith}
@@ -27,7 +28,7 @@ ahead : (c : tie.In-loop Inv-loop μ-loop)
     let t = a .t4 in
     let ps = heldOf t (now (a .store)) in
     Ahead (now (a .text)) (a .at) (nodeLines t ps (t .nodes) 0) (l .text) (l .end)
-    (nodeLine (l .k) (parentOf t (l .k)) ++ (ownLines ps (l .k) ++ nodeLines t ps (t .nodes - (l .k + 1)) (l .k + 1)))
+    (nodeLine (l .k) (parentOf t (l .k)) ++ (ownLines false ps (l .k) ++ nodeLines t ps (t .nodes - (l .k + 1)) (l .k + 1)))
 ahead c =
     let l = c .before .loop in
     let a = c .before .before .before .before .args in
@@ -41,13 +42,13 @@ own-ahead : (c : tie.After-node-line Inv-loop μ-loop)
     let t = a .t4 in
     let ps = heldOf t (now (a .store)) in
     Ahead (now (a .text)) (a .at) (nodeLines t ps (t .nodes) 0) (c .node-line .last .0) (c .node-line .result)
-    (ownLines ps (l .k) ++ nodeLines t ps (t .nodes - (l .k + 1)) (l .k + 1))
+    (ownLines false ps (l .k) ++ nodeLines t ps (t .nodes - (l .k + 1)) (l .k + 1))
 own-ahead c =
     let k = c .before .before .before .before .loop .k in
     let a = c .before .before .before .before .before .before .before .args in
     let t = a .t4 in
     let ps = heldOf t (now (a .store)) in
-    ahead-on (nodeLine k (parentOf t k)) (ownLines ps k ++ nodeLines t ps (t .nodes - (k + 1)) (k + 1)) (ahead (c .before .before .before)) (c .node-line .ensures)
+    ahead-on (nodeLine k (parentOf t k)) (ownLines false ps k ++ nodeLines t ps (t .nodes - (k + 1)) (k + 1)) (ahead (c .before .before .before)) (c .node-line .ensures)
 
 pub node-lines-spec : {M : Type 1} → statement M
 node-lines-spec =
@@ -72,7 +73,7 @@ node-lines-spec =
     let a = c .before .before .before .before .before .before .before .before .before .before .before .before .before .args in
     let t = a .t4 in
     let ps = heldOf t (now (a .store)) in
-    (search needs, ahead-on (ownLines ps k) (nodeLines t ps (t .nodes - (k + 1)) (k + 1)) (own-ahead (c .before .before .before .before .before .before)) (c .before .before .own-lines .ensures)))
+    (search needs, ahead-on (ownLines false ps k) (nodeLines t ps (t .nodes - (k + 1)) (k + 1)) (own-ahead (c .before .before .before .before .before .before)) (c .before .before .own-lines .ensures)))
     (λ c. c .before .loop .inv .1 .size)
     (λ c.
     let l = c .before .loop in

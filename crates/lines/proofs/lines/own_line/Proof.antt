@@ -12,4 +12,11 @@ own-line-spec =
     (λ c. let a = c .before .before .before .before .args in rw (ne-eqb (a .owner) (a .node) (λ e. omega arith)) wrote-none)
     (λ c κs. search needs)
     (λ c. search needs)
-    (λ c. let a = c .before .before .before .before .before .before .before .before .args in rw (eq-eqb (a .owner) (a .node) (omega arith)) (c .before .before .property-line .ensures)))
+    (λ c.
+    let a = c .before .before .before .before .before .before .before .before .before .args in
+    rw (eq-eqb (a .owner) (a .node) (omega arith), c .before .before .before .before .if2 .taken) (c .before .before .read-line .ensures))
+    (λ c κs. search needs)
+    (λ c. search needs)
+    (λ c.
+    let a = c .before .before .before .before .before .before .before .before .before .args in
+    rw (eq-eqb (a .owner) (a .node) (omega arith), c .before .before .before .before .if2 .left) (c .before .before .property-line .ensures)))

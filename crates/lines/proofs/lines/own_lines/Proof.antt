@@ -12,22 +12,22 @@ use Rattle.lines.proofs.lines.own_lines.Statement.{statement}
 use Rattle.lines.proofs.lines.own_lines.Tie as tie
 
 abbrev Inv-loop : tie.InvT-loop
-Inv-loop text₀ at store node tree end₀ i₀ name₀ text end i name =
+Inv-loop text₀ at people store node tree end₀ i₀ name₀ text end i name =
     (i ≤ tree .held) × (name + liveFrom tree (tree .held - i) i ≡ liveOf tree)
-    × Ahead text₀ at (ownLines (heldOf tree store) node) text end (ownLines (heldFrom tree store (tree .held - i) i name) node)
+    × Ahead text₀ at (ownLines people (heldOf tree store) node) text end (ownLines people (heldFrom tree store (tree .held - i) i name) node)
 
 abbrev μ-loop : tie.MeasureT-loop
-μ-loop text₀ at store node tree end₀ i₀ name₀ text end i name = tree .held - i
+μ-loop text₀ at people store node tree end₀ i₀ name₀ text end i name = tree .held - i
 
 -- a record's bytes lie among the live ones
 within : (c : tie.In-loop Inv-loop μ-loop)
     → let l = c .before .loop in
     let a = c .before .before .before .before .args in
-    l .name + nameSize (a .t4) (l .i) + valueSize (a .t4) (l .i) + liveFrom (a .t4) (a .t4 .held - (l .i + 1)) (l .i + 1) ≡ liveOf (a .t4)
+    l .name + nameSize (a .t5) (l .i) + valueSize (a .t5) (l .i) + liveFrom (a .t5) (a .t5 .held - (l .i + 1)) (l .i + 1) ≡ liveOf (a .t5)
 within c =
     let l = c .before .loop in
     let a = c .before .before .before .before .args in
-    let e = live-more (a .t4 .names) (a .t4 .values) (a .t4 .held - l .i) (l .i) (a .t4 .held) (search needs) refl in
+    let e = live-more (a .t5 .names) (a .t5 .values) (a .t5 .held - l .i) (l .i) (a .t5 .held) (search needs) refl in
     omega arith
 
 pub own-lines-spec : {M : Type 1} → statement M
@@ -38,7 +38,7 @@ own-lines-spec =
     μ-loop
     (λ c.
     let a = c .before .before .args in
-    let e : a .t4 .held - 0 ≡ a .t4 .held = omega arith in
+    let e : a .t5 .held - 0 ≡ a .t5 .held = omega arith in
     (search needs, rw e (omega arith), rw e ahead-all))
     (λ c. search needs)
     (λ c. search needs)
@@ -63,21 +63,21 @@ own-lines-spec =
     let l = c .before .before .before .before .before .before .before .before .before .before .before .before .loop in
     let a = c .before .before .before .before .before .before .before .before .before .before .before .before .before .before .before .args in
     let s = now (a .store) in
-    let n = nameSize (a .t4) (l .i) in
-    let v = valueSize (a .t4) (l .i) in
+    let n = nameSize (a .t5) (l .i) in
+    let v = valueSize (a .t5) (l .i) in
     let w = within (c .before .before .before .before .before .before .before .before .before .before .before) in
     let e = c .before .before .before .before .before .before .before .before .before .wide .ensures in
     let f = c .before .before .before .before .before .before .before .wide2 .ensures in (
       search needs,
       omega arith,
       rw (e, f)
-          (ahead-on (ownLine (a .t4) s (l .i) (l .name) (a .node))
-          (ownLines (heldFrom (a .t4) s (a .t4 .held - (l .i + 1)) (l .i + 1) (l .name + n + v)) (a .node))
-          (rw (own-more (a .t4) s (a .t4 .held - l .i) (l .i) (l .name) (a .node) (a .t4 .held) (search needs) refl) at (l .inv .2))
-          (rw (line-at (a .t4) s (l .i) (l .name) (a .node) (c .before .before .before .before .before .before .before .before .before .wide .result) (c .before .before .before .before .before .before .before .wide2 .result) e f) at (c .before .before .own-line .ensures))),
+          (ahead-on (ownLine (a .t5) s (a .people) (l .i) (l .name) (a .node))
+          (ownLines (a .people) (heldFrom (a .t5) s (a .t5 .held - (l .i + 1)) (l .i + 1) (l .name + n + v)) (a .node))
+          (rw (own-more (a .t5) s (a .people) (a .t5 .held - l .i) (l .i) (l .name) (a .node) (a .t5 .held) (search needs) refl) at (l .inv .2))
+          (rw (line-at (a .t5) s (a .people) (l .i) (l .name) (a .node) (c .before .before .before .before .before .before .before .before .before .wide .result) (c .before .before .before .before .before .before .before .wide2 .result) e f) at (c .before .before .own-line .ensures))),
     ))
     (λ c. c .before .loop .inv .2 .size)
     (λ c.
     let l = c .before .loop in
     let a = c .before .before .before .before .args in
-    ahead-none (rw (own-none (a .t4) (now (a .store)) (a .t4 .held - l .i) (l .i) (l .name) (a .node) (search needs)) at (l .inv .2))))
+    ahead-none (rw (own-none (a .t5) (now (a .store)) (a .people) (a .t5 .held - l .i) (l .i) (l .name) (a .node) (search needs)) at (l .inv .2))))

@@ -1,0 +1,17 @@
+use borrow.Author.Needs.{needs}
+use Rattle.lines.specs.Digits.{hexWord}
+use Rattle.lines.specs.Wrote.{wrote-none, wrote-then}
+use Rattle.lines.proofs.digits.hex_word.Statement.{statement}
+use Rattle.lines.proofs.digits.hex_word.Tie as tie
+
+pub hex-word-spec : {M : Type 1} → statement M
+unfolding hexWord
+hex-word-spec =
+    tie.close
+    (tie.spec
+    (λ c. search needs)
+    (λ c κs. search needs)
+    (λ c. search needs)
+    (λ c κs. search needs)
+    (λ c. search needs)
+    (λ c. wrote-then (c .before .before .before .before .before .before .hex-byte .ensures) (c .before .before .hex-byte2 .ensures)))

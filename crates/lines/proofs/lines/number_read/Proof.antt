@@ -1,0 +1,16 @@
+use borrow.Author.Needs.{needs}
+use borrow.Author.Tests.{eq-eqb, ne-eqb}
+use Rattle.lines.specs.Wrote.{wrote-none, wrote-then}
+use Rattle.lines.proofs.lines.number_read.Statement.{statement}
+use Rattle.lines.proofs.lines.number_read.Tie as tie
+
+pub number-read-spec : {M : Type 1} → statement M
+number-read-spec =
+    tie.close
+    (tie.spec
+    (λ c. rw (ne-eqb _ _ (c .if1 .taken)) wrote-none)
+    (λ c κs. search needs)
+    (λ c κs. search needs)
+    (λ c κs. search needs)
+    (λ c. search needs)
+    (λ c. rw (eq-eqb _ _ (c .before .before .before .before .before .before .before .before .before .if1 .left), ← c .before .before .before .word32 .ensures) (wrote-then (c .before .before .before .before .before .before .before .letter .ensures) (c .before .before .decimal .ensures))))

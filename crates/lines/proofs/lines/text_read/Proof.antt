@@ -1,0 +1,17 @@
+use mathlib.Core.Path.{sym, _∙_}
+use Rattle.cells.specs.Facts.{not-off, not-on}
+use borrow.Author.Needs.{needs}
+use Rattle.lines.specs.Wrote.{wrote-none}
+use Rattle.lines.proofs.lines.text_read.Statement.{statement}
+use Rattle.lines.proofs.lines.text_read.Tie as tie
+
+pub text-read-spec : {M : Type 1} → statement M
+text-read-spec =
+    tie.close
+    (tie.spec
+    (λ c κs. search needs)
+    (λ c. rw (sym (c .before .is-text .ensures) ∙ not-off _ (c .if1 .taken)) wrote-none)
+    (λ c κs. search needs)
+    (λ c κs. search needs)
+    (λ c. search needs)
+    (λ c. rw (sym (c .before .before .before .before .before .before .is-text .ensures) ∙ not-on _ (c .before .before .before .before .before .if1 .left), ← c .before .before .before .text-of .ensures) (c .before .before .quoted .ensures)))

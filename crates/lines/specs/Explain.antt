@@ -1,0 +1,88 @@
+-- What explain says of a ROM, line by line, for people: the header's fields, the tree with paths and with values as they are read. Document 01 leaves the
+-- lines open. Assumes nothing.
+use Prim.Native.Nat.{ℕ, zero, suc}
+use mathlib.Core.Bool.{Bool, true, false, not, _&&_, _||_}
+use mathlib.Core.List.{List, [], _∷_, _++_}
+use lib.ListN.{length}
+use lib.Dec.{ltb, leb, eqb}
+use Rattle.cells.specs.Choice.{pick}
+use Rattle.rom.specs.Words.{lettersOf}
+use Rattle.rom.specs.Sizes.{romLeast, romMost, nodesMost, storeSize}
+use Rattle.rom.specs.Bytes.{byteOf}
+use Rattle.rom.specs.Header.{checksumOf, lengthOf}
+use Rattle.rom.specs.Sum.{sumOf}
+use Rattle.tree.specs.Held.{heldOf}
+use Rattle.tree.specs.Whole.{parentOf, wholeTree}
+use Rattle.tree.specs.Path.{ownValueOf}
+use Rattle.tree.specs.declared.tree.Tree.{Tree}
+use Rattle.lines.specs.Digits.{decimalOf, hexPair, hexWord}
+use Rattle.lines.specs.Printed.{textOf, isText}
+use Rattle.lines.specs.Lines.{lineEnd, ownLines}
+
+-- ---- the header: "start: FD, 8-bit branch offsets"
+abbrev pub startWords : ℕ → List ℕ
+startWords b =
+    pick (eqb b 0xFD) (lettersOf ", 8-bit branch offsets")
+    (pick (eqb b 0xF1) (lettersOf ", 16-bit branch offsets") (lettersOf ", which starts no FCode program"))
+
+unfoldable pub startLine : List ℕ → List ℕ
+startLine rom = lettersOf "start: " ++ (hexPair (byteOf rom 0) ++ (startWords (byteOf rom 0) ++ lineEnd))
+
+-- "format: 08"
+unfoldable pub formatLine : List ℕ → List ℕ
+formatLine rom = lettersOf "format: " ++ (hexPair (byteOf rom 1) ++ lineEnd)
+
+-- "length: 30"
+unfoldable pub lengthLine : List ℕ → List ℕ
+lengthLine rom = lettersOf "length: " ++ (decimalOf (lengthOf rom) ++ lineEnd)
+
+-- "checksum: 0517, as the program's bytes add up"; both sums where they differ. Where the length is bad nothing says which bytes are the program's
+abbrev pub badLength : List ℕ → Bool
+badLength rom = ltb (lengthOf rom) 9 || ltb (length rom) (lengthOf rom)
+
+abbrev pub sumWords : ℕ → ℕ → List ℕ
+sumWords field sum =
+    pick (eqb field sum) (lettersOf ", as the program's bytes add up") (lettersOf ", but the program's bytes add up to " ++ hexWord sum)
+
+unfoldable pub sumLine : List ℕ → List ℕ
+sumLine rom =
+    lettersOf "checksum: " ++ (hexWord (checksumOf rom)
+    ++ (pick (badLength rom) [] (sumWords (checksumOf rom) (sumOf rom (lengthOf rom))) ++ lineEnd))
+
+-- "file: 30 bytes"
+unfoldable pub sizeLine : ℕ → List ℕ
+sizeLine n = lettersOf "file: " ++ (decimalOf n ++ (lettersOf " bytes" ++ lineEnd))
+
+abbrev pub overLine : List ℕ
+overLine = lettersOf "file: more than 16,384 bytes" ++ lineEnd
+
+-- a file that is no ROM for its size has no header to show
+unfoldable pub headerLines : List ℕ → List ℕ
+headerLines rom =
+    pick (ltb romMost (length rom)) overLine
+    (sizeLine (length rom)
+    ++ pick (ltb (length rom) romLeast) [] (startLine rom ++ (formatLine rom ++ (lengthLine rom ++ sumLine rom))))
+
+-- ---- the tree: a node's path, and under it its properties
+-- a node is called by its "name" where that is text of 1 to 31 letters, as the standard has a node's name; another by its number, "(node 3)"
+abbrev pub isTitle : List ℕ → Bool
+isTitle value = isText value && (leb 2 (length value) && leb (length value) 32)
+
+unfoldable pub titleOf : Tree → List ℕ → ℕ → List ℕ
+titleOf t store k =
+    pick (isTitle (ownValueOf t store k (lettersOf "name"))) (textOf (ownValueOf t store k (lettersOf "name")))
+    (lettersOf "(node " ++ (decimalOf k ++ lettersOf ")"))
+
+-- from the root down to a node that is at most so deep, a slash before each
+unfoldable pub pathTo : Tree → List ℕ → ℕ → ℕ → List ℕ
+pathTo t store zero k = []
+pathTo t store (suc n) k =
+    elim (eqb k 0) [ true ↦ [] | false ↦ pathTo t store n (parentOf t k) ++ (lettersOf "/" ++ titleOf t store k) ]
+
+-- "/scale/hopper"; the root is "/"
+unfoldable pub pathLine : Tree → List ℕ → ℕ → List ℕ
+pathLine t store k = pick (eqb k 0) (lettersOf "/") (pathTo t store nodesMost k) ++ lineEnd
+
+-- a node's properties; a store of another size or a damaged tree shows none
+unfoldable pub readLines : Tree → List ℕ → ℕ → List ℕ
+readLines t store k = pick (not (eqb (length store) storeSize) || not (wholeTree t)) [] (ownLines true (heldOf t store) k)
