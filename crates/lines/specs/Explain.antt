@@ -44,10 +44,11 @@ abbrev pub sumWords : ℕ → ℕ → List ℕ
 sumWords field sum =
     pick (eqb field sum) (lettersOf ", as the program's bytes add up") (lettersOf ", but the program's bytes add up to " ++ hexWord sum)
 
+abbrev pub sumsShown : List ℕ → List ℕ
+sumsShown rom = pick (badLength rom) [] (sumWords (checksumOf rom) (sumOf rom (lengthOf rom)))
+
 unfoldable pub sumLine : List ℕ → List ℕ
-sumLine rom =
-    lettersOf "checksum: " ++ (hexWord (checksumOf rom)
-    ++ (pick (badLength rom) [] (sumWords (checksumOf rom) (sumOf rom (lengthOf rom))) ++ lineEnd))
+sumLine rom = lettersOf "checksum: " ++ (hexWord (checksumOf rom) ++ (sumsShown rom ++ lineEnd))
 
 -- "file: 30 bytes"
 unfoldable pub sizeLine : ℕ → List ℕ
@@ -56,17 +57,17 @@ sizeLine n = lettersOf "file: " ++ (decimalOf n ++ (lettersOf " bytes" ++ lineEn
 abbrev pub overLine : List ℕ
 overLine = lettersOf "file: more than 16,384 bytes" ++ lineEnd
 
+unfoldable pub fieldLines : List ℕ → List ℕ
+fieldLines rom = startLine rom ++ (formatLine rom ++ (lengthLine rom ++ sumLine rom))
+
 -- a file that is no ROM for its size has no header to show
 unfoldable pub headerLines : List ℕ → List ℕ
-headerLines rom =
-    pick (ltb romMost (length rom)) overLine
-    (sizeLine (length rom)
-    ++ pick (ltb (length rom) romLeast) [] (startLine rom ++ (formatLine rom ++ (lengthLine rom ++ sumLine rom))))
+headerLines rom = pick (ltb romMost (length rom)) overLine (sizeLine (length rom) ++ pick (ltb (length rom) romLeast) [] (fieldLines rom))
 
 -- ---- the tree: a node's path, and under it its properties
 -- a node is called by its "name" where that is text of 1 to 31 letters, as the standard has a node's name; another by its number, "(node 3)"
 abbrev pub isTitle : List ℕ → Bool
-isTitle value = isText value && (leb 2 (length value) && leb (length value) 32)
+isTitle value = leb 2 (length value) && (leb (length value) 32 && isText value)
 
 unfoldable pub titleOf : Tree → List ℕ → ℕ → List ℕ
 titleOf t store k =

@@ -7,5 +7,6 @@ pub mod Told
 pub mod Wrote
 pub mod Laws
 pub mod Fits
+pub mod ExplainLaws
 pub mod TokenLaws
 pub mod Examples

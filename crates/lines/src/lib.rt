@@ -1,11 +1,15 @@
 // The lines of a listing and of a token list, written into a buffer that is lent for them. Every call is total.
 mod digits;
+mod explain;
 mod lines;
 mod pieces;
 mod printed;
 mod telling;
 mod words;
 
+pub use explain::header_lines;
+pub use explain::path_line;
+pub use explain::read_lines;
 pub use telling::refused_text;
 pub use telling::run_text;
 pub use telling::token_text;

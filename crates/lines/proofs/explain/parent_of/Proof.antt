@@ -1,0 +1,16 @@
+use mathlib.Core.Path.{_≡_, sym}
+use native.Mathlib.Omega.{arith}
+use lib.ListN.{length, List·getD-eq-default}
+use borrow.Author.Needs.{needs}
+use Rattle.lines.specs.Wrote.{wrote-none}
+use Rattle.lines.proofs.explain.parent_of.Statement.{statement}
+use Rattle.lines.proofs.explain.parent_of.Tie as tie
+
+pub parent-of-spec : {M : Type 1} → statement M
+parent-of-spec =
+    tie.close
+    (tie.spec
+    (λ c. search needs)
+    (λ c. search needs)
+    (λ c. search needs)
+    (λ c. let n : length (c .before .args .t1 .parents) ≡ 32 = search needs in sym (List·getD-eq-default (c .before .args .t1 .parents) 0 (omega arith))))

@@ -1,0 +1,21 @@
+use borrow.Author.Tests.{eq-eqb, ne-eqb}
+use borrow.Author.Needs.{needs}
+use Rattle.rom.specs.Words.{lettersOf}
+use Rattle.lines.specs.Wrote.{wrote-then}
+use Rattle.lines.proofs.explain.sum_words.Statement.{statement}
+use Rattle.lines.proofs.explain.sum_words.Tie as tie
+
+pub sum-words-spec : {M : Type 1} → statement M
+unfolding lettersOf
+sum-words-spec =
+    tie.close
+    (tie.spec
+    (λ c. search needs)
+    (λ c κs. search needs)
+    (λ c. search needs)
+    (λ c. rw (eq-eqb _ _ (c .before .before .before .before .before .if1 .taken)) (c .before .before .say .ensures))
+    (λ c. search needs)
+    (λ c κs. search needs)
+    (λ c κs. search needs)
+    (λ c. search needs)
+    (λ c. rw (ne-eqb _ _ (c .before .before .before .before .before .before .before .before .before .if1 .left)) (wrote-then (c .before .before .before .before .before .before .say2 .ensures) (c .before .before .hex-word .ensures))))

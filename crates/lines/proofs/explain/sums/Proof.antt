@@ -1,0 +1,18 @@
+use mathlib.Core.Path.{sym, _∙_}
+use borrow.Author.Needs.{needs}
+use Rattle.lines.specs.Wrote.{wrote-none}
+use Rattle.lines.proofs.explain.sums.Statement.{statement}
+use Rattle.lines.proofs.explain.sums.Tie as tie
+
+pub sums-spec : {M : Type 1} → statement M
+sums-spec =
+    tie.close
+    (tie.spec
+    (λ c κs. search needs)
+    (λ c. rw (sym (c .before .bad-length .ensures) ∙ c .if1 .taken) wrote-none)
+    (λ c κs. search needs)
+    (λ c κs. search needs)
+    (λ c κs. search needs)
+    (λ c κs. search needs)
+    (λ c. search needs)
+    (λ c. rw (sym (c .before .before .before .before .before .before .before .before .bad-length .ensures) ∙ c .before .before .before .before .before .before .before .if1 .left, ← c .before .before .before .before .before .word16 .ensures, ← c .before .before .before .before .program-length .ensures, ← c .before .before .before .body-sum .ensures) (c .before .before .sum-words .ensures)))

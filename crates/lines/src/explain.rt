@@ -1,0 +1,214 @@
+// What explain says of a ROM: its header's fields, and the tree that a run left, with paths and with values as people read them. Each call writes its lines
+// into a text from a place on and gives the place behind; what passes the text's end is left out. Every call is total.
+ghost use mathlib.Core.Path.{_≡_};
+ghost use mathlib.Core.Bool.{_&&_, _||_};
+ghost use Rattle.rom.specs.Header.{lengthOf};
+ghost use Rattle.tree.specs.Whole.{parentOf};
+ghost use Rattle.lines.specs.Explain.{startWords, startLine, formatLine, lengthLine, badLength, sumWords, sumsShown, sumLine, sizeLine};
+ghost use Rattle.lines.specs.Explain.{fieldLines, headerLines, isTitle, titleOf, pathTo, pathLine, readLines};
+ghost use Rattle.lines.specs.Wrote.{Wrote};
+use crate::digits::decimal;
+use crate::digits::hex_byte;
+use crate::digits::hex_word;
+use crate::lines::own_lines;
+use crate::printed::is_text;
+use crate::printed::text_of;
+use crate::words::letter;
+use crate::words::say;
+use rom::body_sum;
+use rom::byte;
+use rom::program_length;
+use rom::sizes::NODES_MOST;
+use rom::sizes::ROM_LEAST;
+use rom::sizes::ROM_MOST;
+use rom::sizes::STORE_SIZE;
+use rom::word16;
+use tree::Tree;
+use tree::is_whole;
+use tree::own_value;
+
+// Which start a byte is.
+fn start_words(text: &mut [u8], at: usize, byte: u8) -> usize
+    ensures { λ r. ⌜ Wrote (now (text .entry)) (now (text .exit)) at r (startWords byte) ⌝ }
+{
+    if byte == 0xFD {
+        return say(text, at, b", 8-bit branch offsets");
+    }
+    if byte == 0xF1 {
+        return say(text, at, b", 16-bit branch offsets");
+    }
+    say(text, at, b", which starts no FCode program")
+}
+
+fn start_line(text: &mut [u8], at: usize, rom: &[u8]) -> usize
+    ensures { λ r. ⌜ Wrote (now (text .entry)) (now (text .exit)) at r (startLine (now (rom .entry))) ⌝ }
+{
+    let start = byte(rom, 0);
+    let at = say(text, at, b"start: ");
+    let at = hex_byte(text, at, start);
+    let at = start_words(text, at, start);
+    letter(text, at, b'\n')
+}
+
+fn format_line(text: &mut [u8], at: usize, rom: &[u8]) -> usize
+    ensures { λ r. ⌜ Wrote (now (text .entry)) (now (text .exit)) at r (formatLine (now (rom .entry))) ⌝ }
+{
+    let at = say(text, at, b"format: ");
+    let at = hex_byte(text, at, byte(rom, 1));
+    letter(text, at, b'\n')
+}
+
+fn length_line(text: &mut [u8], at: usize, rom: &[u8]) -> usize
+    ensures { λ r. ⌜ Wrote (now (text .entry)) (now (text .exit)) at r (lengthLine (now (rom .entry))) ⌝ }
+{
+    let at = say(text, at, b"length: ");
+    let at = decimal(text, at, program_length(rom));
+    letter(text, at, b'\n')
+}
+
+// Both sums where they differ.
+fn sum_words(text: &mut [u8], at: usize, field: u16, sum: u16) -> usize
+    ensures { λ r. ⌜ Wrote (now (text .entry)) (now (text .exit)) at r (sumWords field sum) ⌝ }
+{
+    if field == sum {
+        return say(text, at, b", as the program's bytes add up");
+    }
+    let at = say(text, at, b", but the program's bytes add up to ");
+    hex_word(text, at, sum)
+}
+
+// Whether the length says which bytes are the program's.
+fn bad_length(rom: &[u8]) -> bool
+    ensures { λ r. ⌜ r ≡ badLength (now (rom .entry)) ⌝ }
+{
+    let length = program_length(rom);
+    if length < 9 {
+        return true;
+    }
+    rom.len() < (length as usize)
+}
+
+// What a program's bytes add up to, beside the header's sum, where its length is good.
+fn sums(text: &mut [u8], at: usize, rom: &[u8]) -> usize
+    ensures { λ r. ⌜ Wrote (now (text .entry)) (now (text .exit)) at r (sumsShown (now (rom .entry))) ⌝ }
+{
+    if bad_length(rom) {
+        return at;
+    }
+    sum_words(text, at, word16(rom, 2), body_sum(rom, program_length(rom)))
+}
+
+fn sum_line(text: &mut [u8], at: usize, rom: &[u8]) -> usize
+    ensures { λ r. ⌜ Wrote (now (text .entry)) (now (text .exit)) at r (sumLine (now (rom .entry))) ⌝ }
+{
+    let at = say(text, at, b"checksum: ");
+    let at = hex_word(text, at, word16(rom, 2));
+    let at = sums(text, at, rom);
+    letter(text, at, b'\n')
+}
+
+fn size_line(text: &mut [u8], at: usize, size: u32) -> usize
+    ensures { λ r. ⌜ Wrote (now (text .entry)) (now (text .exit)) at r (sizeLine size) ⌝ }
+{
+    let at = say(text, at, b"file: ");
+    let at = decimal(text, at, size);
+    let at = say(text, at, b" bytes");
+    letter(text, at, b'\n')
+}
+
+// The fields of a header that is there.
+fn field_lines(text: &mut [u8], at: usize, rom: &[u8]) -> usize
+    ensures { λ r. ⌜ Wrote (now (text .entry)) (now (text .exit)) at r (fieldLines (now (rom .entry))) ⌝ }
+{
+    let at = start_line(text, at, rom);
+    let at = format_line(text, at, rom);
+    let at = length_line(text, at, rom);
+    sum_line(text, at, rom)
+}
+
+// A file's size, and the fields of its header where it can have one.
+pub fn header_lines(text: &mut [u8], at: usize, rom: &[u8]) -> usize
+    ensures { λ r. ⌜ Wrote (now (text .entry)) (now (text .exit)) at r (headerLines (now (rom .entry))) ⌝ }
+{
+    if ROM_MOST < rom.len() {
+        let at = say(text, at, b"file: more than 16,384 bytes");
+        return letter(text, at, b'\n');
+    }
+    let at = size_line(text, at, rom.len() as u32);
+    if rom.len() < ROM_LEAST {
+        return at;
+    }
+    field_lines(text, at, rom)
+}
+
+// Whether a value is text of 1 to 31 letters.
+fn is_title(value: &[u8]) -> bool
+    ensures { λ r. ⌜ r ≡ isTitle (now (value .entry)) ⌝ }
+{
+    if value.len() < 2 {
+        return false;
+    }
+    if 32 < value.len() {
+        return false;
+    }
+    is_text(value)
+}
+
+fn title(text: &mut [u8], at: usize, store: &[u8], tree: Tree, node: u32) -> usize
+    ensures { λ r. ⌜ Wrote (now (text .entry)) (now (text .exit)) at r (titleOf tree (now (store .entry)) node) ⌝ }
+{
+    let name = own_value(store, tree, node, b"name");
+    if is_title(name) {
+        return say(text, at, text_of(name));
+    }
+    let at = say(text, at, b"(node ");
+    let at = decimal(text, at, node);
+    letter(text, at, b')')
+}
+
+fn parent_of(tree: Tree, node: u32) -> u32
+    ensures { λ r. ⌜ r ≡ parentOf tree node ⌝ }
+{
+    let k = node as usize;
+    if k < NODES_MOST { tree.parents[k] } else { 0 }
+}
+
+// The way to a node's parent, and then the node. A tree is at most so deep.
+fn path_to(text: &mut [u8], at: usize, store: &[u8], tree: Tree, deep: u32, node: u32) -> usize
+    ensures { λ r. ⌜ Wrote (now (text .entry)) (now (text .exit)) at r (pathTo tree (now (store .entry)) deep node) ⌝ }
+{
+    if deep == 0 {
+        return at;
+    }
+    if node == 0 {
+        return at;
+    }
+    let at = path_to(text, at, store, tree, deep - 1, parent_of(tree, node));
+    let at = letter(text, at, b'/');
+    title(text, at, store, tree, node)
+}
+
+// A node's path on a line of its own.
+pub fn path_line(text: &mut [u8], at: usize, store: &[u8], tree: Tree, node: u32) -> usize
+    ensures { λ r. ⌜ Wrote (now (text .entry)) (now (text .exit)) at r (pathLine tree (now (store .entry)) node) ⌝ }
+{
+    if node == 0 {
+        let at = letter(text, at, b'/');
+        return letter(text, at, b'\n');
+    }
+    let at = path_to(text, at, store, tree, NODES_MOST as u32, node);
+    letter(text, at, b'\n')
+}
+
+// The properties of a node, in store order.
+pub fn read_lines(text: &mut [u8], at: usize, store: &[u8], tree: Tree, node: u32) -> usize
+    ensures { λ r. ⌜ Wrote (now (text .entry)) (now (text .exit)) at r (readLines tree (now (store .entry)) node) ⌝ }
+{
+    if store.len() != STORE_SIZE {
+        return at;
+    }
+    if !is_whole(tree) {
+        return at;
+    }
+    own_lines(text, at, true, store, tree, node)
+}
