@@ -7,6 +7,8 @@ pub mod Told
 pub mod Wrote
 pub mod Laws
 pub mod Fits
+pub mod Tally
+pub mod TallyLaws
 pub mod ExplainLaws
 pub mod TokenLaws
 pub mod Examples

@@ -4,6 +4,7 @@ mod explain;
 mod lines;
 mod pieces;
 mod printed;
+mod tally;
 mod telling;
 mod words;
 

@@ -1,0 +1,15 @@
+use borrow.Author.Needs.{needs}
+use borrow.Author.Tests.{eq-eqb, ne-eqb}
+use Rattle.lines.proofs.tally.raw_more.Statement.{statement}
+use Rattle.lines.proofs.tally.raw_more.Tie as tie
+
+pub raw-more-spec : {M : Type 1} → statement M
+raw-more-spec =
+    tie.close
+    (tie.spec
+    (λ c. search needs)
+    (λ c. search needs)
+    (λ c. rw (eq-eqb _ _ (c .before .before .if1 .taken)))
+    (λ c. search needs)
+    (λ c. search needs)
+    (λ c. rw (ne-eqb _ _ (c .before .before .if1 .left))))
