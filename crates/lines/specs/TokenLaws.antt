@@ -1,36 +1,46 @@
--- Laws of the token list: the parts of an operand lie in order, every text fits its buffer, and the lines show the bytes of the program, every byte once
--- and in order. Assumes nothing.
-use Prim.Native.Nat.{ℕ, _+_, _*_, _-_, _≤_, _<_}
+-- Laws of the token list: the parts of an operand lie in order; the lines show the bytes of the program, every byte once and in order; written one
+-- by one they are the list; and none is longer than `lineMost`. Assumes nothing.
+use Prim.Native.Nat.{ℕ, zero, suc, _+_, _*_, _-_, _≤_, _<_}
+use native.Mathlib.Decide.{decLt}
 use native.Mathlib.Omega.{arith}
-use mathlib.Core.Bool.{Bool}
+use mathlib.Core.Bool.{Bool, _||_}
 use mathlib.Core.List.{List, [], _∷_, _++_, append-nil}
 use mathlib.Core.Path.{_≡_, refl, sym, ap, _∙_}
-use lib.ListN.{length, drop, replicate, length-append, length-take}
-use borrow.Author.Tests.{eq-eqb, ne-eqb}
-use lib.Dec.{eqb, eqb→eq}
-use Rattle.cells.specs.Tests.{pick-is}
+use lib.ListN.{length, drop, length-append, length-take}
+use borrow.Author.Tests.{eq-eqb, le-ltb}
+use lib.Dec.{ltb, leb, eqb, eqb→eq}
+use Rattle.cells.specs.Tests.{pick-is, tests}
+use Rattle.rom.specs.Bytes.{byteOf}
 use Rattle.rom.specs.Words.{lettersOf}
 use Rattle.rom.specs.Header.{headerOf, lengthOf, wideOf}
 use Rattle.rom.specs.HeaderLaws.{header-facts}
-use Rattle.rom.specs.Sizes.{tokenTextSize}
+use Rattle.rom.specs.Sizes.{romMost}
+use Rattle.rom.specs.declared.branch.Aim.{Aim}
+use Rattle.rom.specs.declared.branch.Aim.the-variants.{Inside, Outside}
 use Rattle.tree.specs.Layout.{part-join}
 use Rattle.tokens.specs.Row.{string, head, namedHead}
-use Rattle.tokens.specs.Code.{formIn}
-use Rattle.tokens.specs.Decode.{behindNumber, behindString, behindOf}
-use Rattle.tokens.specs.Laws.{number-ahead, behind-ahead}
-use Rattle.tokens.specs.Name.{nameOf}
+use Rattle.tokens.specs.Code.{codeOf, formIn}
+use Rattle.tokens.specs.Decode.{isDouble, numberOf, behindNumber, behindString, behinds, behindOf, operandOf}
+use Rattle.tokens.specs.Decode.{listed, tokenOf, wholeOf, decodeOf}
+use Rattle.tokens.specs.Laws.{find-is, number-ahead, behind-ahead}
 use Rattle.tokens.specs.NameLaws.{name-size}
-use Rattle.tokens.specs.Reader.{endOf, pieceOf, walkFrom, walkOf}
-use Rattle.tokens.specs.ReaderLaws.{Formed, lies-as, past, walkAt, walk-is, walk-holds, good-end}
+use Rattle.tokens.specs.Reader.{endOf, pieceIn, pieceOf, walkFrom, walkOf}
+use Rattle.tokens.specs.ReaderLaws.{Formed, Lies, lies-as, past, walkAt, walk-is, walk-holds, good-end, piece-end}
+use Rattle.tokens.specs.declared.decoding.Operand.{Operand}
+use Rattle.tokens.specs.declared.decoding.Operand.the-variants.{Nothing, Literal, Text, Branch, Number, Definition}
 use Rattle.tokens.specs.declared.decoding.Token.{Token}
+use Rattle.tokens.specs.declared.decoding.Decoded.{Decoded}
+use Rattle.tokens.specs.declared.decoding.Decoded.the-variants.{Cut, Unlisted, Whole}
+use Rattle.tokens.specs.declared.reader.Piece.{Piece}
 use Rattle.tokens.specs.declared.reader.Piece.the-variants.{End, Raw, Listed}
 use Rattle.lines.specs.Digits.{hexOf}
-use Rattle.lines.specs.Lines.{lineEnd, shown, refusedLine}
-use Rattle.lines.specs.Told.{Told, told, filledTo, toldIn, tokenTold}
+use Rattle.lines.specs.Lines.{lineEnd, shown}
+use Rattle.lines.specs.Printed.{allPrinted, quoted}
 use Rattle.lines.specs.Laws.{length-shown}
-use Rattle.lines.specs.TokenLines.{between, placeOf, cuts, cutsOf, partsAt, operandParts, allShown, Line, lineText, joined, lineBytes, rawLine, tokenLine}
-use Rattle.lines.specs.TokenLines.{pieceLines, tokenText, OwnBytes, bytesShown}
-use Rattle.lines.specs.Wrote.{Fits}
+use Rattle.lines.specs.TokenLines.{between, placeOf, cuts, cutsOf, partsAt, tokenCuts, allShown}
+use Rattle.lines.specs.TokenLines.{aimRemark, branchRemark, stringRemark, rawRemark}
+use Rattle.lines.specs.TokenLines.{Line, lineText, joined, lineBytes, rawLine, tokenLine, pieceLines, tokenText, OwnBytes, bytesShown}
+use Rattle.lines.specs.TokenLines.{listedAt, textIn, nextIn, wideIn, pieceText, nextOf, wideBehind, linesFrom, lineMost}
 use Rattle.lines.specs.declared.pieces.Cuts.{Cuts}
 
 -- ---- the parts of an operand lie in order
@@ -61,132 +71,50 @@ cuts-ordered rom wide start next form e =
         let n = number-ahead rom (behindString rom start) in
         (omega arith, omega arith, omega arith, omega arith)
 
--- a token of the list as it lies in a ROM
-abbrev pub Lying : List ℕ → ℕ → ℕ → Token → Type 0
-Lying rom p start t =
-    (p ≤ start) × (start ≤ t .next) × (0 < t .next) × (t .next ≤ 16384) × (t .next ≤ length rom)
-    × Ordered start (cutsOf rom start (t .next) (formIn (t .code))) (t .next)
+-- so the second of them, which a string's bytes are, lies in the ROM where the whole operand does
+pub second-inside : (start : ℕ) (c : Cuts) (next size : ℕ) → Ordered start c next → next ≤ size
+    → (c .first ≤ c .second) × (c .second ≤ size)
+second-inside start c next size o h =
+    let a = o .1 in
+    let b = o .2 in
+    let d = o .3 in
+    (a, omega arith)
 
-listed-lying : (rom : List ℕ) (wide : Bool) (p start : ℕ) (t : Token) → headerOf rom ≡ 0 → start ≡ behindNumber rom p → Formed rom (endOf rom) wide p t
-    → Lying rom p start t
-listed-lying rom wide p start t g e f =
-    let h = header-facts rom g in
-    let n = number-ahead rom p in
-    let s = f .starts in
-    let b = f .before in
-    let l = good-end rom g in
-    let most = h .most in
-    let to = h .romTo in (
-      omega arith,
-      omega arith,
-      omega arith,
-      omega arith,
-      omega arith,
-      cuts-ordered rom wide start (t .next) (formIn (t .code)) (rw e (f .ends)),
-    )
+-- a program's end is no further than the bytes that are lent
+end-inside : (rom : List ℕ) → endOf rom ≤ length rom
+end-inside rom =
+    pick-is (λ n. n ≤ length rom) (ltb (length rom) (lengthOf rom)) (length rom) (lengthOf rom) (λ t. omega arith)
+    (λ t. omega (arith, tests))
 
--- ---- sizes
-length-between : (rom : List ℕ) (from to : ℕ) → length (between rom from to) ≤ to - from
-length-between rom from to = let a = length-take (to - from) (drop from rom) in omega arith
+-- an operand as it lies in a ROM, and a token of the list with it
+abbrev pub OperandLies : List ℕ → ℕ → Token → Type 0
+OperandLies rom start t = (start ≤ 16384) × (0 < t .next) × (t .next ≤ length rom) × Ordered start (tokenCuts rom start t) (t .next)
 
-shown-between : (rom : List ℕ) (from to : ℕ) → length (shown (between rom from to)) ≤ 3 * (to - from)
-shown-between rom from to =
-    let a = length-shown (between rom from to) .1 in
-    let b = length-between rom from to in
-    omega arith
+abbrev pub TokenLies : List ℕ → ℕ → ℕ → Token → Type 0
+TokenLies rom p start t = (p ≤ start) × (start ≤ length rom) × OperandLies rom start t
 
-pub length-all-shown : (rom : List ℕ) (start : ℕ) (c : Cuts) (next : ℕ)
-    → length (allShown (partsAt rom start c next))
-    ≡ length (shown (between rom start (c .first))) + length (shown (between rom (c .first) (c .second)))
-    + length (shown (between rom (c .second) (c .third))) + length (shown (between rom (c .third) next))
-unfolding allShown
-length-all-shown rom start c next =
-    let x = shown (between rom start (c .first)) in
-    let y = shown (between rom (c .first) (c .second)) in
-    let z = shown (between rom (c .second) (c .third)) in
-    let v = shown (between rom (c .third) next) in
-    let d = length-append v [] in
-    let e = length-append z (v ++ []) in
-    let f = length-append y (z ++ (v ++ [])) in
-    let g = length-append x (y ++ (z ++ (v ++ []))) in
-    omega arith
+module _ (rom : List ℕ) (few : length rom ≤ romMost) (wide : Bool) (p : ℕ) where
+  pub raw-lies : (next : ℕ) → pieceOf rom wide p ≡ Raw next → (p ≤ next) × (next ≤ length rom)
+  raw-lies next e =
+      let l = lies-as rom wide p (Raw next) e in
+      let a = l .0 in
+      let b = l .1 in
+      let i = end-inside rom in
+      (omega arith, omega arith)
 
-all-shown-size : (rom : List ℕ) (start : ℕ) (c : Cuts) (next : ℕ) → Ordered start c next → length (allShown (partsAt rom start c next)) ≤ 3 * (next - start)
-all-shown-size rom start c next o =
-    let l = length-all-shown rom start c next in
-    let a = shown-between rom start (c .first) in
-    let b = shown-between rom (c .first) (c .second) in
-    let d = shown-between rom (c .second) (c .third) in
-    let e = shown-between rom (c .third) next in
-    let h = o .0 in
-    let i = o .1 in
-    let j = o .2 in
-    let k = o .3 in
-    omega arith
-
-pub length-place : (p : ℕ) → length (placeOf p) ≡ 4
-unfolding placeOf hexOf
-length-place p = refl
-
-shown-one : (x : List ℕ) → length (allShown (x ∷ [])) ≡ length (shown x)
-unfolding allShown
-shown-one x = ap length (append-nil (shown x))
-
--- what a line has beside its parts
-length-line : (l : Line) → length (lineText l) ≡ 6 + length (allShown (l .number)) + length (l .word) + length (allShown (l .rest))
-unfolding lineText lettersOf
-length-line l =
-    let number = allShown (l .number) in
-    let rest = allShown (l .rest) in
-    let a = length-place (l .place) in
-    let b = length-append rest lineEnd in
-    let c = length-append (l .word) (rest ++ lineEnd) in
-    let d = length-append number (lettersOf " " ++ (l .word ++ (rest ++ lineEnd))) in
-    let e = length-append (placeOf (l .place)) (number ++ (lettersOf " " ++ (l .word ++ (rest ++ lineEnd)))) in
-    omega arith
-
-pub length-raw-line : (rom : List ℕ) (p next : ℕ) → length (lineText (rawLine rom p next)) ≡ 9 + length (shown (between rom p next))
-unfolding allShown lettersOf
-length-raw-line rom p next =
-    let a = length-line (rawLine rom p next) in
-    let b = shown-one (between rom p next) in
-    omega arith
-
-pub length-token-line : (rom : List ℕ) (p start : ℕ) (t : Token)
-    → length (lineText (tokenLine rom p start t))
-    ≡ 6 + length (shown (between rom p start)) + length (nameOf (t .number)) + length (allShown (operandParts rom start t))
-length-token-line rom p start t =
-    let a = length-line (tokenLine rom p start t) in
-    let b = shown-one (between rom p start) in
-    omega arith
-
--- the line end fits behind what was written of a token's line, place by place
-pub token-line-ends : (rom : List ℕ) (p start : ℕ) (t : Token) (c : Cuts) (at d e f g h : ℕ) → Fits at (lineText (tokenLine rom p start t))
-    → c ≡ cutsOf rom start (t .next) (formIn (t .code)) → d ≡ at + length (placeOf p) → e ≡ d + length (shown (between rom p start)) → f ≡ e + 1
-    → g ≡ f + length (nameOf (t .number)) → h ≡ g + length (allShown (partsAt rom start c (t .next))) → Fits h lineEnd
-token-line-ends rom p start t c at d e f g h fits cut i j k l m =
-    let n = length-token-line rom p start t in
-    let o = length-place p in
-    let q : h ≡ g + length (allShown (operandParts rom start t)) = m ∙ rw cut in
-    omega arith
-
-raw-size : (rom : List ℕ) (p next : ℕ) → p < next → length (lineText (rawLine rom p next)) ≤ 24 * (next - p)
-raw-size rom p next h =
-    let a = length-raw-line rom p next in
-    let b = shown-between rom p next in
-    omega arith
-
-token-size : (rom : List ℕ) (wide : Bool) (p start : ℕ) (t : Token) → start ≡ behindNumber rom p → Formed rom (endOf rom) wide p t
-    → length (lineText (tokenLine rom p start t)) ≤ 24 * (t .next - p)
-token-size rom wide p start t e f =
-    let a = length-token-line rom p start t in
-    let b = shown-between rom p start in
-    let c = name-size (t .number) in
-    let o = cuts-ordered rom wide start (t .next) (formIn (t .code)) (rw e (f .ends)) in
-    let d = all-shown-size rom start (cutsOf rom start (t .next) (formIn (t .code))) (t .next) o in
-    let n = number-ahead rom p in
-    let s = f .starts in
-    omega arith
+  pub listed-lies : (t : Token) (s : ℕ) (w : Bool) → pieceOf rom wide p ≡ Listed t s w → TokenLies rom p s t
+  listed-lies t s w e =
+      let l = lies-as rom wide p (Listed t s w) e in
+      let f = l .1 in
+      let n = number-ahead rom p in
+      let b = f .before in
+      let i = end-inside rom in
+      let st = f .starts in
+      let at = l .0 in (
+        omega arith,
+        omega arith,
+        (omega arith, omega arith, omega arith, cuts-ordered rom wide s (t .next) (formIn (t .code)) (rw at (f .ends))),
+      )
 
 -- ---- the bytes that are shown
 between-join : (rom : List ℕ) (a b c : ℕ) → a ≤ b → b ≤ c → between rom a b ++ between rom b c ≡ between rom a c
@@ -217,27 +145,10 @@ token-bytes rom wide p start t e f =
     let n = number-ahead rom p in
     let x = f .starts in
     let o = cuts-ordered rom wide start (t .next) (formIn (t .code)) (rw e (f .ends)) in
-    rw (append-nil (between rom p start), joined-parts rom start (cutsOf rom start (t .next) (formIn (t .code))) (t .next) o)
+    rw (append-nil (between rom p start), joined-parts rom start (tokenCuts rom start t) (t .next) o)
     (between-join rom p start (t .next) (omega arith) (omega arith))
 
 module _ (rom : List ℕ) where
-  lines-size : (k : ℕ) (wide : Bool) (p : ℕ) → p ≤ endOf rom → endOf rom - p ≤ k → length (pieceLines rom (walkFrom k rom wide p)) ≤ 24 * (endOf rom - p)
-  unfolding pieceLines
-  lines-size k wide p =
-      walk-holds rom (λ w q ss. length (pieceLines rom ss) ≤ 24 * (endOf rom - q)) (λ w q e. omega arith)
-      (λ w q next ss e a b on.
-      let l = length-append (lineText (rawLine rom q next)) (pieceLines rom ss) in
-      let s = raw-size rom q next a in
-      omega arith)
-      (λ w v q s t ss e b f on.
-      let l = length-append (lineText (tokenLine rom q s t)) (pieceLines rom ss) in
-      let z = token-size rom w q s t b f in
-      let n = number-ahead rom q in
-      let x = f .starts in
-      let y = f .before in
-      omega arith)
-      k wide p
-
   -- each line shows the bytes from its place to the next
   own-bytes : (k : ℕ) (wide : Bool) (p : ℕ) → p ≤ endOf rom → endOf rom - p ≤ k → OwnBytes rom (walkFrom k rom wide p)
   own-bytes k wide p =
@@ -260,39 +171,54 @@ module _ (rom : List ℕ) where
       nothing : (q : ℕ) → q ≡ endOf rom → [] ≡ between rom q (endOf rom)
       nothing q e = let f : endOf rom - q ≡ 0 = omega arith in rw f
 
--- ---- the lines of a walk, by the piece that it has come to
-module _ (rom : List ℕ) (wide : Bool) (p : ℕ) where
-  pub lines-end : pieceOf rom wide p ≡ End → pieceLines rom (walkAt rom wide p) ≡ []
-  unfolding pieceLines
-  lines-end e = rw (walk-is rom wide p, e)
+-- ---- a line at a time
+module _ (rom : List ℕ) (few : length rom ≤ romMost) (wide : Bool) (p : ℕ) where
+  pub listed-is : listedAt rom wide p ≡ pieceOf rom wide p
+  listed-is = rw (le-ltb romMost (length rom) few)
 
-  pub lines-raw : (next : ℕ) → pieceOf rom wide p ≡ Raw next → pieceLines rom (walkAt rom wide p) ≡ lineText (rawLine rom p next) ++ pieceLines rom (walkAt rom wide next)
-  unfolding pieceLines
-  lines-raw next e = rw (walk-is rom wide p, e)
+  -- the lines of a walk are the line at its place, and those of the walk from the next place on
+  pub lines-on : pieceLines rom (walkAt rom wide p)
+      ≡ pieceText rom wide p ++ pieceLines rom (walkAt rom (wideBehind rom wide p) (nextOf rom wide p))
+  unfolding pieceLines pieceText nextOf wideBehind
+  lines-on = rw (listed-is) (by (pieceOf rom wide p) refl)
+    where
+      by : (x : Piece) → pieceOf rom wide p ≡ x
+          → pieceLines rom (walkAt rom wide p) ≡ textIn rom p x ++ pieceLines rom (walkAt rom (wideIn wide x) (nextIn p x))
+      by End e = refl
+      by (Raw next) e = rw (walk-is rom wide p, e)
+      by (Listed t s w) e = rw (walk-is rom wide p, e)
 
-  pub lines-listed : (t : Token) (s : ℕ) (w : Bool) → pieceOf rom wide p ≡ Listed t s w
-      → pieceLines rom (walkAt rom wide p) ≡ lineText (tokenLine rom p s t) ++ pieceLines rom (walkAt rom w (t .next))
-  unfolding pieceLines
-  lines-listed t s w e = rw (walk-is rom wide p, e)
+  -- the place stays at the program's end, and before it goes on
+  pub next-stays : endOf rom ≤ p → nextOf rom wide p ≡ p
+  unfolding nextOf
+  next-stays h = rw (listed-is, piece-end rom wide p h)
+
+  pub next-ahead : p < endOf rom → (p < nextOf rom wide p) × (nextOf rom wide p ≤ endOf rom)
+  unfolding nextOf
+  next-ahead h = rw (listed-is) (by (pieceOf rom wide p) (lies-as rom wide p (pieceOf rom wide p) refl))
+    where
+      by : (x : Piece) → Lies rom wide p x → (p < nextIn p x) × (nextIn p x ≤ endOf rom)
+      by End l = absurd (omega arith)
+      by (Raw next) l = l
+      by (Listed t s w) l = (past rom wide p t (l .1), l .1 .before)
+
+-- so many lines from a place on as there are bytes left, or more, are all lines from there on
+lines-all : (rom : List ℕ) → length rom ≤ romMost → (k : ℕ) (wide : Bool) (p : ℕ) → endOf rom - p ≤ k
+    → linesFrom k rom wide p ≡ pieceLines rom (walkAt rom wide p)
+unfolding linesFrom walkFrom pieceLines
+lines-all rom few zero wide p m = let e : endOf rom - p ≡ 0 = omega arith in rw e
+lines-all rom few (suc k) wide p m =
+    let nearer : endOf rom - nextOf rom wide p ≤ k =
+    elim (decLt p (endOf rom)) [
+      | yes l ↦ let n = next-ahead rom few wide p l .0 in omega arith
+      | no l ↦ let n = next-stays rom few wide p (omega arith) in omega arith
+    ]
+    in
+    rw (lines-all rom few k (wideBehind rom wide p) (nextOf rom wide p) nearer) (sym (lines-on rom few wide p))
 
 -- ---- a ROM with a good header
 module _ (rom : List ℕ) (good : headerOf rom ≡ 0) where
-  pub raw-lies : (wide : Bool) (p next : ℕ) → p < endOf rom → pieceOf rom wide p ≡ Raw next → (p < next) × (next ≤ endOf rom) × (next ≤ length rom) × (p < 65536)
-  raw-lies wide p next h e =
-      let l = lies-as rom wide p (Raw next) e in
-      let a = l .0 in
-      let b = l .1 in
-      let g = good-end rom good in
-      let m = header-facts rom good .most in
-      let to = header-facts rom good .romTo in
-      (a, b, omega arith, omega arith)
-
-  pub listed-lies : (wide : Bool) (p : ℕ) (t : Token) (s : ℕ) (w : Bool) → pieceOf rom wide p ≡ Listed t s w → (p < t .next) × (t .next ≤ endOf rom) × Lying rom p s t
-  listed-lies wide p t s w e =
-      let l = lies-as rom wide p (Listed t s w) e in
-      (past rom wide p t (l .1), l .1 .before, listed-lying rom wide p s t good (l .0) (l .1))
-
-  pub starts-inside : 8 ≤ endOf rom
+  starts-inside : 8 ≤ endOf rom
   starts-inside =
       let l = header-facts rom good .least in
       let e = good-end rom good in
@@ -303,40 +229,186 @@ module _ (rom : List ℕ) (good : headerOf rom ≡ 0) where
   program-lines = own-bytes rom (endOf rom - 8) (wideOf rom) 8 starts-inside (omega arith)
 
   pub program-bytes : bytesShown rom (walkOf rom) ≡ between rom 8 (lengthOf rom)
-  program-bytes =
-      let l = header-facts rom good .least in
+  program-bytes = bytes-shown rom (endOf rom - 8) (wideOf rom) 8 starts-inside (omega arith) ∙ rw (good-end rom good)
+
+  -- the list is its lines, written one by one from place 8 on, as many as the program has bytes or more: from its end on there are none
+  pub line-by-line : (k : ℕ) → lengthOf rom - 8 ≤ k → linesFrom k rom (wideOf rom) 8 ≡ tokenText rom
+  unfolding tokenText
+  line-by-line k h =
       let e = good-end rom good in
-      bytes-shown rom (endOf rom - 8) (wideOf rom) 8 (omega arith) (omega arith) ∙ rw e
+      rw (eq-eqb (headerOf rom) 0 good) (lines-all rom (header-facts rom good .romTo) k (wideOf rom) 8 (omega arith))
 
-  pub program-fits : Fits 0 (pieceLines rom (walkOf rom))
-  program-fits =
-      let h = header-facts rom good in
-      let l = h .least in
-      let m = h .most in
-      let to = h .romTo in
-      let e = good-end rom good in
-      let s = lines-size rom (endOf rom - 8) (wideOf rom) 8 (omega arith) (omega arith) in
-      omega arith
+-- ---- how long a line can be
+-- a token has a number of at most two bytes and an operand of at most 260
+module _ (rom : List ℕ) (bytes : (i : ℕ) → byteOf rom i < 256) where
+  number-near : (p : ℕ) → behindNumber rom p ≤ p + 2
+  number-near p = pick-is (λ n. p + n ≤ p + 2) (isDouble (byteOf rom p)) 2 1 (λ t. omega arith) (λ t. omega arith)
 
--- ---- the text, by what the header test says, and the buffer that has it
-pub text-refused : (rom : List ℕ) (why : ℕ) → why ≡ headerOf rom → (why ≡ 0 → ⊥) → tokenText rom ≡ refusedLine why
-unfolding tokenText
-text-refused rom why e n = rw (← e, ne-eqb why 0 n)
+  behind-near : (wide : Bool) (p form : ℕ) → behindOf rom wide p form ≤ p + 260
+  unfolding behindOf
+  behind-near wide p form =
+      let b = bytes p in
+      let n = number-near p in
+      let m = number-near (behindString rom p) in
+      find-is (λ q. q ≤ p + 260) (behinds rom wide p) p form (
+        omega arith,
+        (
+          omega arith,
+          (
+            pick-is (λ n. p + n ≤ p + 260) wide 2 1 (λ t. omega arith) (λ t. omega arith),
+            (omega arith, (omega arith, (omega arith, tt))),
+          ),
+        ),
+      )
+      (omega arith)
 
-pub text-good : (rom : List ℕ) → headerOf rom ≡ 0 → tokenText rom ≡ pieceLines rom (walkOf rom)
-unfolding tokenText
-text-good rom e = rw (eq-eqb (headerOf rom) 0 e)
+  -- so a piece is near its place, also one that is cut off
+  abbrev Near : ℕ → Piece → Type 0
+  Near p End = Unit {0}
+  Near p (Raw next) = next ≤ p + 262
+  Near p (Listed t s w) = (s ≤ p + 2) × (t .next ≤ s + 260)
 
-pub wrong-size : (text rom : List ℕ) → (length text ≡ tokenTextSize → ⊥) → told 0 text ≡ tokenTold text rom
-unfolding tokenTold
-wrong-size text rom n = rw (ne-eqb (length text) tokenTextSize n)
+  piece-near : (wide : Bool) (p : ℕ) → Near p (pieceOf rom wide p)
+  unfolding pieceOf decodeOf wholeOf
+  piece-near wide p =
+      let end = endOf rom in
+      let start = behindNumber rom p in
+      let code = codeOf (numberOf rom p) in
+      let next = behindOf rom wide start (formIn code) in
+      let o = operandOf rom end wide start (formIn code) in
+      let n = number-near p in
+      let b = behind-near wide start (formIn code) in
+      let In : Decoded → Type 0 = λ d. Near p (pieceIn rom end wide p d) in
+      pick-is (Near p) (leb end p) End _ (λ t. tt)
+      (λ t. pick-is In (ltb end next) Cut _ (λ u. omega (arith, tests))
+      (λ u. pick-is In (listed code o) (Whole (tokenOf (numberOf rom p) code o next)) (Unlisted code) (λ v. (n, b)) (λ v. omega arith)))
 
-pub right-size : (text rom k words : List ℕ) (end : ℕ) → length text ≡ tokenTextSize → tokenText rom ≡ words → told end k ≡ toldIn tokenTextSize words
-    → (told end k ≡ tokenTold text rom) × (end ≤ length k)
-unfolding tokenTold
-right-size text rom k words end e w t =
-    let n : end ≡ length words = ap (λ (x : Told). x .length) t in
-    let m : k ≡ filledTo tokenTextSize words = ap (λ (x : Told). x .text) t in
-    let l = length-append words (replicate (tokenTextSize - length words) 0) in
-    let j = ap length m in
-    (t ∙ sym (rw (eq-eqb (length text) tokenTextSize e, w)), omega arith)
+length-between : (rom : List ℕ) (from to : ℕ) → length (between rom from to) ≤ to - from
+length-between rom from to = let a = length-take (to - from) (drop from rom) in omega arith
+
+shown-between : (rom : List ℕ) (from to : ℕ) → length (shown (between rom from to)) ≤ 2 * (to - from) + 1
+shown-between rom from to =
+    let a = length-shown (between rom from to) .0 in
+    let b = length-between rom from to in
+    omega arith
+
+length-one : (x : List ℕ) → length (allShown (x ∷ [])) ≡ length (shown x)
+unfolding allShown
+length-one x = ap length (append-nil (shown x))
+
+length-parts : (rom : List ℕ) (start : ℕ) (c : Cuts) (next : ℕ) → Ordered start c next
+    → length (allShown (partsAt rom start c next)) ≤ 2 * (next - start) + 4
+unfolding allShown
+length-parts rom start c next o =
+    let x = shown (between rom start (c .first)) in
+    let y = shown (between rom (c .first) (c .second)) in
+    let z = shown (between rom (c .second) (c .third)) in
+    let v = shown (between rom (c .third) next) in
+    let d = length-append v [] in
+    let e = length-append z (v ++ []) in
+    let f = length-append y (z ++ (v ++ [])) in
+    let g = length-append x (y ++ (z ++ (v ++ []))) in
+    let h = shown-between rom start (c .first) in
+    let i = shown-between rom (c .first) (c .second) in
+    let j = shown-between rom (c .second) (c .third) in
+    let k = shown-between rom (c .third) next in
+    let l = o .0 in
+    let m = o .1 in
+    let n = o .2 in
+    let q = o .3 in
+    omega arith
+
+length-place : (p : ℕ) → length (placeOf p) ≡ 4
+unfolding placeOf hexOf
+length-place p = refl
+
+-- the remarks
+length-aim : (aim : Aim) → length (aimRemark aim) ≤ 27
+unfolding lettersOf
+length-aim (Inside to) = let a = length-place to in omega arith
+length-aim Outside = omega arith
+
+length-branch : (o : Operand) → length (branchRemark o) ≤ 27
+length-branch Nothing = omega arith
+length-branch (Literal n) = omega arith
+length-branch (Text start count) = omega arith
+length-branch (Branch bits aim) = length-aim aim
+length-branch (Number n) = omega arith
+length-branch (Definition n k) = omega arith
+
+length-quoted : (bs : List ℕ) → length (quoted bs) ≤ length bs + 3
+unfolding quoted lettersOf
+length-quoted bs =
+    let a = length-append bs (lettersOf "\"") in
+    pick-is (λ z. length z ≤ length bs + 3) (allPrinted bs) (lettersOf " \"" ++ (bs ++ lettersOf "\"")) [] (λ t. omega arith)
+    (λ t. omega arith)
+
+length-string : (rom : List ℕ) (start : ℕ) (c : Cuts) (next form : ℕ) → Ordered start c next
+    → length (stringRemark rom c form) ≤ next - start + 3
+length-string rom start c next form o =
+    let bs = between rom (c .first) (c .second) in
+    let a = length-quoted bs in
+    let b = length-between rom (c .first) (c .second) in
+    let l = o .0 in
+    let m = o .1 in
+    let n = o .2 in
+    let q = o .3 in
+    pick-is (λ z. length z ≤ next - start + 3) (eqb form string || eqb form namedHead) (quoted bs) [] (λ t. omega arith) (λ t. omega arith)
+
+length-raw : (rom : List ℕ) (next : ℕ) → length (rawRemark rom next) ≤ 58
+unfolding lettersOf
+length-raw rom next = pick-is (λ z. length z ≤ 58) (ltb next (endOf rom)) _ [] (λ t. omega arith) (λ t. omega arith)
+
+-- what a line has beside its parts
+length-line : (l : Line)
+    → length (lineText l) ≡ 6 + length (allShown (l .number)) + length (l .word) + length (allShown (l .rest)) + length (l .remark)
+unfolding lineText lettersOf
+length-line l =
+    let number = allShown (l .number) in
+    let rest = allShown (l .rest) in
+    let a = length-place (l .place) in
+    let b = length-append rest (l .remark) in
+    let c = length-append (rest ++ l .remark) lineEnd in
+    let d = length-append (l .word) ((rest ++ l .remark) ++ lineEnd) in
+    let e = length-append number (lettersOf " " ++ (l .word ++ ((rest ++ l .remark) ++ lineEnd))) in
+    let f = length-append (placeOf (l .place)) (number ++ (lettersOf " " ++ (l .word ++ ((rest ++ l .remark) ++ lineEnd)))) in
+    omega arith
+
+raw-short : (rom : List ℕ) (p next : ℕ) → next ≤ p + 262 → length (lineText (rawLine rom p next)) ≤ lineMost
+unfolding allShown lettersOf
+raw-short rom p next h =
+    let a = length-line (rawLine rom p next) in
+    let b = length-one (between rom p next) in
+    let c = shown-between rom p next in
+    let d = length-raw rom next in
+    omega arith
+
+token-short : (rom : List ℕ) (p start : ℕ) (t : Token) → start ≤ p + 2 → t .next ≤ start + 260
+    → Ordered start (tokenCuts rom start t) (t .next) → length (lineText (tokenLine rom p start t)) ≤ lineMost
+token-short rom p start t near ends o =
+    let branch = branchRemark (t .operand) in
+    let string = stringRemark rom (tokenCuts rom start t) (formIn (t .code)) in
+    let a = length-line (tokenLine rom p start t) in
+    let b = length-one (between rom p start) in
+    let c = shown-between rom p start in
+    let d = name-size (t .number) in
+    let e = length-parts rom start (tokenCuts rom start t) (t .next) o in
+    let f = length-append branch string in
+    let g = length-branch (t .operand) in
+    let h = length-string rom start (tokenCuts rom start t) (t .next) (formIn (t .code)) o in
+    omega arith
+
+-- no line is longer than that, whatever the bytes are
+pub line-short : (rom : List ℕ) (wide : Bool) (p : ℕ) → ((i : ℕ) → byteOf rom i < 256) → length (pieceText rom wide p) ≤ lineMost
+unfolding pieceText
+line-short rom wide p bytes =
+    pick-is (λ x. length (textIn rom p x) ≤ lineMost) (ltb romMost (length rom)) End (pieceOf rom wide p) (λ t. omega arith)
+    (λ t. by (pieceOf rom wide p) refl (piece-near rom bytes wide p))
+  where
+    by : (x : Piece) → pieceOf rom wide p ≡ x → Near rom bytes p x → length (textIn rom p x) ≤ lineMost
+    by End e n = omega arith
+    by (Raw next) e n = raw-short rom p next n
+    by (Listed t s w) e n =
+        let l = lies-as rom wide p (Listed t s w) e in
+        let at = l .0 in
+        token-short rom p s t (n .0) (n .1) (cuts-ordered rom wide s (t .next) (formIn (t .code)) (rw at (l .1 .ends)))

@@ -1,33 +1,42 @@
--- The token list of a ROM, a line for each piece of its program in the order of places. A token of the list: its place, its number, its name, and its
--- operand in parts, "0008 12 b(") 05 7363616C65". Bytes that no token of the list covers: their place and they themselves, "001C raw 01FE". All but the
--- names are upper-case hexadecimal digits. Document 01 leaves the lines open. Assumes nothing.
-use Prim.Native.Nat.{ℕ, _+_, _-_, _/_, _%_}
+-- The token list of a ROM, a line for each piece of its program in the order of places. A token of the list: its place, its number, its name, its
+-- operand in parts, and a remark for a person to read, `0008 12 b(") 05 7363616C65 "scale"`. Bytes that no token of the list covers: their place and
+-- they themselves, "001C raw 01FE". All but the names and the remarks are upper-case hexadecimal digits. Document 01 leaves the lines open.
+-- Assumes nothing.
+use Prim.Native.Nat.{ℕ, zero, suc, _+_, _-_, _/_, _%_}
+use mathlib.Core.Bool.{Bool, _||_}
 use mathlib.Core.List.{List, [], _∷_, _++_}
 use mathlib.Core.Path.{_≡_}
-use lib.Dec.{eqb}
+use lib.Dec.{ltb, eqb}
+use lib.ListN.{length}
 use Rattle.cells.specs.Choice.{pick}
 use Rattle.rom.specs.Words.{lettersOf}
 use Rattle.rom.specs.Header.{headerOf}
+use Rattle.rom.specs.Sizes.{romMost}
+use Rattle.rom.specs.declared.branch.Aim.{Aim}
+use Rattle.rom.specs.declared.branch.Aim.the-variants.{Inside, Outside}
 use Rattle.memory.specs.Window.{partOf}
 use Rattle.tokens.specs.Row.{string, head, namedHead}
 use Rattle.tokens.specs.Code.{formIn}
 use Rattle.tokens.specs.Decode.{behindString}
 use Rattle.tokens.specs.Name.{nameOf}
-use Rattle.tokens.specs.Reader.{Stretch, walkOf}
+use Rattle.tokens.specs.Reader.{endOf, pieceOf, Stretch, walkOf}
+use Rattle.tokens.specs.declared.decoding.Operand.{Operand}
+use Rattle.tokens.specs.declared.decoding.Operand.the-variants.{Nothing, Literal, Text, Branch, Number, Definition}
 use Rattle.tokens.specs.declared.decoding.Token.{Token}
 use Rattle.tokens.specs.declared.reader.Piece.{Piece}
 use Rattle.tokens.specs.declared.reader.Piece.the-variants.{End, Raw, Listed}
 use Rattle.lines.specs.Digits.{hexOf}
 use Rattle.lines.specs.Lines.{lineEnd, shown, refusedLine}
+use Rattle.lines.specs.Printed.{quoted}
 use Rattle.lines.specs.declared.pieces.Cuts.{Cuts}
 
 -- the bytes from a place up to another
 abbrev pub between : List ℕ → ℕ → ℕ → List ℕ
 between rom from to = partOf rom from (to - from)
 
--- a place in four digits: a ROM has at most 16,384 bytes
+-- a place in four digits, its lowest two bytes: a ROM has at most 16,384 bytes
 unfoldable pub placeOf : ℕ → List ℕ
-placeOf p = hexOf (p / 256 ∷ p % 256 ∷ [])
+placeOf p = hexOf (p / 256 % 256 ∷ p % 256 ∷ [])
 
 -- where the parts of an operand meet that starts at a place and ends at another: a string's length byte and its bytes; a number and the kind behind it; or
 -- a string, a number and a kind. Any other operand is one part
@@ -44,26 +53,59 @@ abbrev pub partsAt : List ℕ → ℕ → Cuts → ℕ → List (List ℕ)
 partsAt rom start c next =
     between rom start (c .first) ∷ between rom (c .first) (c .second) ∷ between rom (c .second) (c .third) ∷ between rom (c .third) next ∷ []
 
+-- those of a token whose operand starts at a place
+abbrev pub tokenCuts : List ℕ → ℕ → Token → Cuts
+tokenCuts rom start t = cutsOf rom start (t .next) (formIn (t .code))
+
 -- an operand, part by part
 abbrev pub operandParts : List ℕ → ℕ → Token → List (List ℕ)
-operandParts rom start t = partsAt rom start (cutsOf rom start (t .next) (formIn (t .code))) (t .next)
+operandParts rom start t = partsAt rom start (tokenCuts rom start t) (t .next)
 
 -- parts, each behind a space; an empty one shows nothing
 unfoldable pub allShown : List (List ℕ) → List ℕ
 allShown [] = []
 allShown (x ∷ xs) = shown x ++ allShown xs
 
+-- ---- the remarks, each of them empty or behind a space
+-- where a branch leads
+abbrev pub aimRemark : Aim → List ℕ
+aimRemark (Inside to) = lettersOf " to " ++ placeOf to
+aimRemark Outside = lettersOf " to no place of the program"
+
+abbrev pub branchRemark : Operand → List ℕ
+branchRemark Nothing = []
+branchRemark (Literal n) = []
+branchRemark (Text start count) = []
+branchRemark (Branch bits aim) = aimRemark aim
+branchRemark (Number n) = []
+branchRemark (Definition n k) = []
+
+-- the letters of a string, which stands between the first two cuts
+abbrev pub stringRemark : List ℕ → Cuts → ℕ → List ℕ
+stringRemark rom c form = pick (eqb form string || eqb form namedHead) (quoted (between rom (c .first) (c .second))) []
+
+-- a branch has no string
+abbrev pub tokenRemark : List ℕ → ℕ → Token → List ℕ
+tokenRemark rom start t = branchRemark (t .operand) ++ stringRemark rom (tokenCuts rom start t) (formIn (t .code))
+
+-- of what is not in the list it is not known how far an operand reaches, so that the lines behind it may show bytes of one as tokens; at the end
+-- there are none
+abbrev pub rawRemark : List ℕ → ℕ → List ℕ
+rawRemark rom next = pick (ltb next (endOf rom)) (lettersOf " (no token of the list: the next lines may be its operand)") []
+
 -- ---- the lines
--- a line: its place, the parts in front of its word, the word, and the parts behind it
+-- a line: its place, the parts in front of its word, the word, the parts behind it, and the remark
 pub record Line : Type 0 where
   pub place : ℕ
   pub number : List (List ℕ)
   pub word : List ℕ
   pub rest : List (List ℕ)
+  pub remark : List ℕ
 
--- what is written of it, and the bytes that it shows so, one part behind the other
+-- what is written of it, and the bytes that its parts show, one part behind the other
 unfoldable pub lineText : Line → List ℕ
-lineText l = placeOf (l .place) ++ (allShown (l .number) ++ (lettersOf " " ++ (l .word ++ (allShown (l .rest) ++ lineEnd))))
+lineText l =
+    placeOf (l .place) ++ (allShown (l .number) ++ (lettersOf " " ++ (l .word ++ ((allShown (l .rest) ++ l .remark) ++ lineEnd))))
 
 unfoldable pub joined : List (List ℕ) → List ℕ
 joined [] = []
@@ -74,15 +116,23 @@ lineBytes l = joined (l .number) ++ joined (l .rest)
 
 -- bytes that no token of the list covers
 abbrev pub rawLine : List ℕ → ℕ → ℕ → Line
-rawLine rom p next = record { place = p; number = []; word = lettersOf "raw"; rest = between rom p next ∷ [] }
+rawLine rom p next =
+    record { place = p; number = []; word = lettersOf "raw"; rest = between rom p next ∷ []; remark = rawRemark rom next }
 
 -- a token of the list: its number, its name and its operand
 abbrev pub tokenLine : List ℕ → ℕ → ℕ → Token → Line
-tokenLine rom p start t = record { place = p; number = between rom p start ∷ []; word = nameOf (t .number); rest = operandParts rom start t }
+tokenLine rom p start t =
+    record {
+      place = p;
+      number = between rom p start ∷ [];
+      word = nameOf (t .number);
+      rest = operandParts rom start t;
+      remark = tokenRemark rom start t;
+    }
 
 -- the line of a piece; the end is none, and stands in no walk
 abbrev pub lineOf : List ℕ → ℕ → Piece → Line
-lineOf rom p End = record { place = p; number = []; word = []; rest = [] }
+lineOf rom p End = record { place = p; number = []; word = []; rest = []; remark = [] }
 lineOf rom p (Raw next) = rawLine rom p next
 lineOf rom p (Listed t start w) = tokenLine rom p start t
 
@@ -93,6 +143,45 @@ pieceLines rom (s ∷ ss) = lineText (lineOf rom (s .place) (s .piece)) ++ piece
 -- all of it; a refused header is its one line
 unfoldable pub tokenText : List ℕ → List ℕ
 tokenText rom = pick (eqb (headerOf rom) 0) (pieceLines rom (walkOf rom)) (refusedLine (headerOf rom))
+
+-- ---- the list a line at a time, for whoever has no room for all of it
+-- what is listed at a place, with the offset width in force there. What is longer than a ROM can be has no lines
+abbrev pub listedAt : List ℕ → Bool → ℕ → Piece
+listedAt rom wide p = pick (ltb romMost (length rom)) End (pieceOf rom wide p)
+
+-- its line, the place of the next one, and the width in force there. At the end there is no line, and both stay
+abbrev pub textIn : List ℕ → ℕ → Piece → List ℕ
+textIn rom p End = []
+textIn rom p (Raw next) = lineText (rawLine rom p next)
+textIn rom p (Listed t start w) = lineText (tokenLine rom p start t)
+
+abbrev pub nextIn : ℕ → Piece → ℕ
+nextIn p End = p
+nextIn p (Raw next) = next
+nextIn p (Listed t start w) = t .next
+
+abbrev pub wideIn : Bool → Piece → Bool
+wideIn wide End = wide
+wideIn wide (Raw next) = wide
+wideIn wide (Listed t start w) = w
+
+unfoldable pub pieceText : List ℕ → Bool → ℕ → List ℕ
+pieceText rom wide p = textIn rom p (listedAt rom wide p)
+
+unfoldable pub nextOf : List ℕ → Bool → ℕ → ℕ
+nextOf rom wide p = nextIn p (listedAt rom wide p)
+
+unfoldable pub wideBehind : List ℕ → Bool → ℕ → Bool
+wideBehind rom wide p = wideIn wide (listedAt rom wide p)
+
+-- so many lines, one behind the other: each from where the one before it led
+unfoldable pub linesFrom : ℕ → List ℕ → Bool → ℕ → List ℕ
+linesFrom zero rom wide p = []
+linesFrom (suc k) rom wide p = pieceText rom wide p ++ linesFrom k rom (wideBehind rom wide p) (nextOf rom wide p)
+
+-- room for any line: none is longer (`line-short`, TokenLaws.antt)
+abbrev pub lineMost : ℕ
+lineMost = 1024
 
 -- ---- what is promised of the lines of a walk: each shows its own bytes, those from its place to the next
 abbrev pub OwnBytes : List ℕ → List Stretch → Type 0

@@ -6,11 +6,10 @@ use mathlib.Core.List.{List, _++_}
 use lib.ListN.{length, replicate}
 use lib.Dec.{eqb}
 use Rattle.cells.specs.Choice.{pick}
-use Rattle.rom.specs.Sizes.{storeSize, textSize, tokenTextSize}
+use Rattle.rom.specs.Sizes.{storeSize, textSize}
 use Rattle.tree.specs.Whole.{wholeTree}
 use Rattle.tree.specs.declared.tree.Tree.{Tree}
 use Rattle.lines.specs.Lines.{refusedLine, runText}
-use Rattle.lines.specs.TokenLines.{tokenText}
 
 pub record Told : Type 0 where
   pub length : ℕ
@@ -44,7 +43,3 @@ refusedTold text number = pick (wrongText text) (told 0 text) (toldAs (refusedLi
 unfoldable pub runTold : List ℕ → List ℕ → Tree → ℕ → ℕ → Told
 runTold text store t steps number =
     pick (wrongText text || (not (eqb (length store) storeSize) || not (wholeTree t))) (told 0 text) (toldAs (runText t store steps number))
-
--- the token list of a ROM
-unfoldable pub tokenTold : List ℕ → List ℕ → Told
-tokenTold text rom = pick (not (eqb (length text) tokenTextSize)) (told 0 text) (toldIn tokenTextSize (tokenText rom))

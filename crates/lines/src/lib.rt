@@ -11,6 +11,7 @@ mod words;
 pub use explain::header_lines;
 pub use explain::path_line;
 pub use explain::read_lines;
+pub use pieces::PieceTold;
+pub use pieces::piece_line;
 pub use telling::refused_text;
 pub use telling::run_text;
-pub use telling::token_text;

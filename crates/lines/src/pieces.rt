@@ -1,20 +1,23 @@
 // The lines of a token list, each written into a text from a place of the text on; the place behind is given.
 ghost use Prim.Native.Nat.{_<_, _≤_};
 ghost use mathlib.Core.Path.{_≡_};
+ghost use mathlib.Core.List.{_++_};
 ghost use lib.ListN.{length};
-ghost use Rattle.rom.specs.Header.{headerOf};
 ghost use Rattle.tokens.specs.Name.{nameOf, unpacked};
-ghost use Rattle.tokens.specs.Reader.{walkOf};
-ghost use Rattle.lines.specs.TokenLines.{placeOf, cutsOf, partsAt, allShown, lineText, rawLine, tokenLine, pieceLines};
-ghost use Rattle.lines.specs.TokenLaws.{Ordered, Lying};
+ghost use Rattle.lines.specs.TokenLines.{placeOf, cutsOf, partsAt, operandParts, allShown};
+ghost use Rattle.lines.specs.TokenLines.{aimRemark, branchRemark, stringRemark, tokenRemark, rawRemark};
+ghost use Rattle.lines.specs.TokenLines.{lineText, rawLine, tokenLine, pieceText, nextOf, wideBehind};
+ghost use Rattle.lines.specs.TokenLaws.{Ordered, OperandLies, TokenLies};
 ghost use Rattle.lines.specs.Wrote.{Wrote};
 use crate::digits::hex_byte;
 use crate::lines::shown;
+use crate::printed::quoted;
 use crate::words::letter;
 use crate::words::say;
+use rom::Aim;
 use rom::byte;
-use rom::sizes::FIRST_PLACE;
-use rom::wide_start;
+use rom::sizes::ROM_MOST;
+use tokens::Operand;
 use tokens::Token;
 use tokens::name_front;
 use tokens::name_rest;
@@ -29,11 +32,18 @@ pub struct Cuts {
     pub third: usize,
 }
 
+// What `piece_line` hands back: the place behind the line in the text, the place of the next piece in the ROM, and the offset width in force
+// there.
+pub struct PieceTold {
+    pub end: usize,
+    pub next: u32,
+    pub wide: bool,
+}
+
 fn place_digits(text: &mut [u8], at: usize, place: usize) -> usize
-    requires { ⌜ (place < 65536) ⌝ }
     ensures { λ r. ⌜ Wrote (now (text .entry)) (now (text .exit)) at r (placeOf place) ⌝ }
 {
-    let at = hex_byte(text, at, (place / 256) as u8);
+    let at = hex_byte(text, at, (place / 256 % 256) as u8);
     hex_byte(text, at, (place % 256) as u8)
 }
 
@@ -55,8 +65,8 @@ fn name(text: &mut [u8], at: usize, number: u32) -> usize
     letters(text, at, name_rest(number))
 }
 
-// Where the parts meet of an operand from a place to another, by the form of the token: a string's length byte and its bytes, a number and its kind, or
-// all four.
+// Where the parts meet of an operand from a place to another, by the form of the token: a string's length byte and its bytes, a number and its
+// kind, or all four.
 fn cuts_of(rom: &[u8], start: usize, next: usize, form: u32) -> Cuts
     requires { ⌜ (start ≤ 16384) × (0 < next) ⌝ }
     ensures { λ r. ⌜ r ≡ cutsOf (now (rom .entry)) start next form ⌝ }
@@ -98,67 +108,132 @@ fn parts(text: &mut [u8], at: usize, rom: &[u8], start: usize, meet: Cuts, next:
     shown(text, at, &rom[third..next])
 }
 
+// Where a branch leads.
+fn aim_remark(text: &mut [u8], at: usize, aim: Aim) -> usize
+    ensures { λ r. ⌜ Wrote (now (text .entry)) (now (text .exit)) at r (aimRemark aim) ⌝ }
+{
+    match aim {
+        Aim::Inside(to) => {
+            let at = say(text, at, b" to ");
+            place_digits(text, at, to as usize)
+        }
+        Aim::Outside => say(text, at, b" to no place of the program"),
+    }
+}
+
+fn branch_remark(text: &mut [u8], at: usize, operand: Operand) -> usize
+    ensures { λ r. ⌜ Wrote (now (text .entry)) (now (text .exit)) at r (branchRemark operand) ⌝ }
+{
+    match operand {
+        Operand::Branch { bits: _, aim } => aim_remark(text, at, aim),
+        _ => at,
+    }
+}
+
+// The letters of a string, of a token whose form has one.
+fn string_remark(text: &mut [u8], at: usize, rom: &[u8], meet: Cuts, form: u32) -> usize
+    requires { ⌜ (meet .first ≤ meet .second) × (meet .second ≤ length (now rom)) ⌝ }
+    ensures { λ r. ⌜ Wrote (now (text .entry)) (now (text .exit)) at r (stringRemark (now (rom .entry)) meet form) ⌝ }
+{
+    let first = meet.first;
+    let second = meet.second;
+    match form {
+        2 | 6 => quoted(text, at, &rom[first..second]),
+        _ => at,
+    }
+}
+
+// Before the program's end, what was no token of the list may have an operand that the next lines show.
+fn raw_remark(text: &mut [u8], at: usize, rom: &[u8], next: u32) -> usize
+    ensures { λ r. ⌜ Wrote (now (text .entry)) (now (text .exit)) at r (rawRemark (now (rom .entry)) next) ⌝ }
+{
+    if next < program_end(rom) {
+        return say(
+            text,
+            at,
+            b" (no token of the list: the next lines may be its operand)",
+        );
+    }
+    at
+}
+
 // Bytes that no token of the list covers.
-fn raw_line(text: &mut [u8], at: usize, rom: &[u8], place: usize, next: usize) -> usize
-    requires { ⌜ (place ≤ next) × (next ≤ length (now rom)) × (place < 65536) ⌝ }
+fn raw_line(text: &mut [u8], at: usize, rom: &[u8], place: u32, next: u32) -> usize
+    requires { ⌜ (place ≤ next) × (next ≤ length (now rom)) ⌝ }
     ensures { λ r. ⌜ Wrote (now (text .entry)) (now (text .exit)) at r (lineText (rawLine (now (rom .entry)) place next)) ⌝ }
 {
-    let at = place_digits(text, at, place);
+    let from = place as usize;
+    let to = next as usize;
+    let at = place_digits(text, at, from);
     let at = say(text, at, b" raw");
-    let at = shown(text, at, &rom[place..next]);
+    let at = shown(text, at, &rom[from..to]);
+    let at = raw_remark(text, at, rom, next);
     letter(text, at, b'\n')
+}
+
+// What stands behind a token's name: its operand, which starts at a place, and the remark.
+fn operand_shown(text: &mut [u8], at: usize, rom: &[u8], start: usize, token: Token) -> usize
+    requires { ⌜ OperandLies (now rom) start token ⌝ }
+    ensures { λ r. ⌜ Wrote (now (text .entry)) (now (text .exit)) at r
+        (allShown (operandParts (now (rom .entry)) start token) ++ tokenRemark (now (rom .entry)) start token) ⌝ }
+{
+    let next = token.next as usize;
+    let form = token.code / 0x1_0000 % 16;
+    let operand = token.operand;
+    let meet = cuts_of(rom, start, next, form);
+    let at = parts(text, at, rom, start, meet, next);
+    let at = branch_remark(text, at, operand);
+    string_remark(text, at, rom, meet, form)
 }
 
 // A token of the list, whose operand starts at a place.
-fn token_line(
-    text: &mut [u8],
-    at: usize,
-    rom: &[u8],
-    place: usize,
-    start: usize,
-    token: Token,
-) -> usize
-    requires { ⌜ Lying (now rom) place start token ⌝ }
+fn token_line(text: &mut [u8], at: usize, rom: &[u8], place: u32, start: u32, token: Token) -> usize
+    requires { ⌜ TokenLies (now rom) place start token ⌝ }
     ensures { λ r. ⌜ Wrote (now (text .entry)) (now (text .exit)) at r (lineText (tokenLine (now (rom .entry)) place start token)) ⌝ }
 {
-    let next = token.next as usize;
-    let meet = cuts_of(rom, start, next, token.code / 0x1_0000 % 16);
-    let at = place_digits(text, at, place);
-    let at = shown(text, at, &rom[place..start]);
+    let from = place as usize;
+    let behind = start as usize;
+    let at = place_digits(text, at, from);
+    let at = shown(text, at, &rom[from..behind]);
     let at = letter(text, at, b' ');
     let at = name(text, at, token.number);
-    let at = parts(text, at, rom, start, meet, next);
+    let at = operand_shown(text, at, rom, behind, token);
     letter(text, at, b'\n')
 }
 
-// The whole program, from piece to piece.
-pub fn piece_lines(text: &mut [u8], rom: &[u8]) -> usize
-    requires { ⌜ headerOf (now rom) ≡ 0 ⌝ }
-    ensures { λ r. ⌜ Wrote (now (text .entry)) (now (text .exit)) 0 r (pieceLines (now (rom .entry)) (walkOf (now (rom .entry)))) ⌝ }
+// The line of the piece at a place of a ROM's program, with the offset width in force there, and where the next one starts. So a program is listed
+// a line at a time, from place 8 on until the place stays. At the program's end, and for more bytes than a ROM has, nothing is written, and place and
+// width are handed back as they came. The header is not tested, since its sum would then be taken for each line.
+pub fn piece_line(text: &mut [u8], at: usize, rom: &[u8], wide: bool, place: u32) -> PieceTold
+    ensures { λ r. ⌜ Wrote (now (text .entry)) (now (text .exit)) at (r .end) (pieceText (now (rom .entry)) wide place)
+        × (r .next ≡ nextOf (now (rom .entry)) wide place) × (r .wide ≡ wideBehind (now (rom .entry)) wide place) ⌝ }
 {
-    let length = program_end(rom);
-    let mut wide = wide_start(rom);
-    let mut place = FIRST_PLACE as u32;
-    let mut end = 0;
-    while place < length {
-        match read_piece(rom, wide, place) {
-            Piece::End => {
-                return end;
-            }
-            Piece::Raw(next) => {
-                end = raw_line(text, end, rom, place as usize, next as usize);
-                place = next;
-            }
-            Piece::Listed {
-                token,
-                start,
-                wide: behind,
-            } => {
-                end = token_line(text, end, rom, place as usize, start as usize, token);
-                place = token.next;
-                wide = behind;
-            }
-        }
+    if ROM_MOST < rom.len() {
+        return PieceTold {
+            end: at,
+            next: place,
+            wide: wide,
+        };
     }
-    end
+    match read_piece(rom, wide, place) {
+        Piece::End => PieceTold {
+            end: at,
+            next: place,
+            wide: wide,
+        },
+        Piece::Raw(next) => PieceTold {
+            end: raw_line(text, at, rom, place, next),
+            next: next,
+            wide: wide,
+        },
+        Piece::Listed {
+            token,
+            start,
+            wide: behind,
+        } => PieceTold {
+            end: token_line(text, at, rom, place, start, token),
+            next: token.next,
+            wide: behind,
+        },
+    }
 }

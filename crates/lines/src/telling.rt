@@ -1,19 +1,14 @@
-// The texts: of a ROM that is refused, of one that passed and was run, and the token list of a ROM.
+// The texts: of a ROM that is refused, and of one that passed and was run.
 ghost use mathlib.Core.Path.{_≡_};
-ghost use Prim.Native.Nat.{_≤_};
-ghost use lib.ListN.{length};
-ghost use Rattle.lines.specs.Told.{told, refusedTold, runTold, tokenTold};
+ghost use Rattle.lines.specs.Told.{told, refusedTold, runTold};
 use crate::lines::closing_line;
 use crate::lines::node_lines;
 use crate::lines::refused_line;
 use crate::lines::steps_line;
-use crate::pieces::piece_lines;
 use crate::words::say;
 use memory::clear_from;
-use rom::check_header;
 use rom::sizes::STORE_SIZE;
 use rom::sizes::TEXT_SIZE;
-use rom::sizes::TOKEN_TEXT_SIZE;
 use tree::Tree;
 use tree::is_whole;
 
@@ -49,24 +44,4 @@ pub fn run_text(text: &mut [u8], store: &[u8], tree: Tree, steps: u32, number: u
     let at = closing_line(text, at, number);
     clear_from(text, at as u32);
     at
-}
-
-// The token list of a ROM, a line for each piece of its program in order; the one line of the refusal where its header is refused. A text of the wrong size
-// is left as it was, and its length is then 0.
-pub fn token_text(text: &mut [u8], rom: &[u8]) -> usize
-    ensures { λ r. ⌜ told r (now (text .exit)) ≡ tokenTold (now (text .entry)) (now (rom .entry)) ⌝ }
-    ensures { λ r. ⌜ r ≤ length (now (text .exit)) ⌝ }
-{
-    if text.len() != TOKEN_TEXT_SIZE {
-        return 0;
-    }
-    let why = check_header(rom);
-    if why != 0 {
-        let end = refused_line(text, 0, why);
-        clear_from(text, end as u32);
-        return end;
-    }
-    let end = piece_lines(text, rom);
-    clear_from(text, end as u32);
-    end
 }

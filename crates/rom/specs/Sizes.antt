@@ -45,10 +45,6 @@ marksSize = 16384
 abbrev pub textSize : ℕ
 textSize = 65536
 
--- the buffer for the token list of a ROM: 24 for each byte of the longest ROM
-abbrev pub tokenTextSize : ℕ
-tokenTextSize = 393216
-
 -- all of them, as the code has them
 abbrev pub house : House
 house =
@@ -66,5 +62,4 @@ house =
       «store_size» = storeSize;
       «marks_size» = marksSize;
       «text_size» = textSize;
-      «token_text_size» = tokenTextSize;
     }

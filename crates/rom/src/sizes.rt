@@ -1,5 +1,5 @@
-// The house sizes of document 01, the first place of a program, which stands behind the header, and the sizes of the texts of a listing and of a
-// token list. specs/Sizes.antt has the same names for the definitions, and `house_sizes` shows that the two agree.
+// The house sizes of document 01, the first place of a program, which stands behind the header, and the size of the text of a listing.
+// specs/Sizes.antt has the same names for the definitions, and `house_sizes` shows that the two agree.
 ghost use mathlib.Core.Path.{_≡_};
 ghost use Rattle.rom.specs.Sizes.{house as Sizes·house};
 
@@ -29,8 +29,6 @@ pub const MARKS_SIZE: usize = 16384;
 
 pub const TEXT_SIZE: usize = 65536;
 
-pub const TOKEN_TEXT_SIZE: usize = 393216;
-
 pub struct House {
     pub rom_least: usize,
     pub rom_most: usize,
@@ -45,7 +43,6 @@ pub struct House {
     pub store_size: usize,
     pub marks_size: usize,
     pub text_size: usize,
-    pub token_text_size: usize,
 }
 
 pub fn house_sizes() -> House
@@ -65,6 +62,5 @@ pub fn house_sizes() -> House
         store_size: STORE_SIZE,
         marks_size: MARKS_SIZE,
         text_size: TEXT_SIZE,
-        token_text_size: TOKEN_TEXT_SIZE,
     }
 }

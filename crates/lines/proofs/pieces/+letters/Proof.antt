@@ -1,10 +1,9 @@
 use Prim.Native.Nat.{ℕ, _<_}
 use mathlib.Core.Path.{_≡_}
-use native.Mathlib.Omega.{arith}
 use borrow.Author.Needs.{needs}
 use borrow.Fn.Kinds.{In}
 use borrow.Fn.PlainCycle.{Measures, is, falls, and}
-use Rattle.tokens.specs.NameLaws.{unpacked-none, unpacked-more, length-unpacked}
+use Rattle.tokens.specs.NameLaws.{unpacked-none, unpacked-more}
 use Rattle.lines.specs.Wrote.{wrote-none, wrote-then}
 use Rattle.lines.proofs.pieces.letters.Reads as letters
 use Rattle.lines.proofs.pieces.letters.Kinds as letters-kinds
@@ -32,10 +31,10 @@ pub +letters-spec : {M : Type 1} → statement M
     (letters-at t)
     letters.Post
     (λ c. let e : c .before .before .args .packed ≡ 0 = search needs in rw (e, unpacked-none 8) wrote-none)
-    (λ c κs.
-    let l = length-unpacked (c .before .before .before .args .packed) (search needs) (search needs) in
-    (omega (arith, c .before .before .before .pre .0), omega arith))
+    (λ c κs. search (needs, c .before .before .before .pre .0))
     (λ c. search needs)
-    (λ c κs. let l = length-unpacked (c .before .before .before .before .before .before .before .args .packed) (search needs) (search needs) in omega arith)
+    (λ c κs. search needs)
     (λ c. search needs)
-    (λ c. rw (unpacked-more (c .before .before .before .before .before .before .before .before .before .before .args .packed) (search needs) (search needs)) (wrote-then (c .before .before .before .before .before .before .letters .ensures) (c .before .before .letter .ensures))))
+    (λ c.
+    rw (unpacked-more (c .before .before .before .before .before .before .before .before .before .before .args .packed) (search needs) (search needs))
+    (wrote-then (c .before .before .before .before .before .before .letters .ensures) (c .before .before .letter .ensures))))

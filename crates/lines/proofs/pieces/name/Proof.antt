@@ -1,6 +1,5 @@
-use native.Mathlib.Omega.{arith}
 use borrow.Author.Needs.{needs}
-use Rattle.tokens.specs.NameLaws.{name-unpacked, length-name}
+use Rattle.tokens.specs.NameLaws.{name-unpacked}
 use Rattle.lines.specs.Wrote.{wrote-then}
 use Rattle.lines.proofs.pieces.name.Statement.{statement}
 use Rattle.lines.proofs.pieces.name.Tie as tie
@@ -10,12 +9,9 @@ name-spec =
     tie.close
     (tie.spec
     (λ c κs. search needs)
-    (λ c κs. let l = length-name (c .before .before .before .args .number) in rw (c .name-front .ensures) (omega arith))
     (λ c κs. search needs)
-    (λ c κs.
-    let l = length-name (c .before .before .before .before .before .before .before .before .args .number) in
-    let w = rw (c .before .before .before .before .before .name-front .ensures) at (c .before .before .before .before .letters .ensures .place) in
-    rw (c .name-rest .ensures) (omega arith))
+    (λ c κs. search needs)
+    (λ c κs. search needs)
     (λ c. search needs)
     (λ c.
     rw (← name-unpacked (c .before .before .before .before .before .before .before .before .before .before .before .args .number), ← c .before .before .before .before .before .before .before .before .name-front .ensures, ← c .before .before .before .name-rest .ensures)

@@ -1,9 +1,6 @@
-use native.Mathlib.Omega.{arith}
-use denote.Ref.{now}
 use borrow.Author.Needs.{needs}
 use Rattle.rom.specs.Words.{lettersOf}
 use Rattle.lines.specs.TokenLines.{allShown, lineText}
-use Rattle.lines.specs.TokenLaws.{length-place, length-raw-line}
 use Rattle.lines.specs.Wrote.{wrote-none, wrote-then}
 use Rattle.lines.proofs.pieces.raw_line.Statement.{statement}
 use Rattle.lines.proofs.pieces.raw_line.Tie as tie
@@ -13,15 +10,17 @@ unfolding lineText allShown lettersOf
 raw-line-spec =
     tie.close
     (tie.spec
-    (λ c κs. let a = c .before .before .before .args in let l = length-raw-line (now (a .rom)) (a .place) (a .next) in let p = length-place (a .place) in (omega arith, search needs))
+    (λ c κs. search needs)
     (λ c. search needs)
-    (λ c κs. let a = c .before .before .before .before .before .before .before .before .args in let l = length-raw-line (now (a .rom)) (a .place) (a .next) in let p = length-place (a .place) in omega arith)
+    (λ c κs. search needs)
     (λ c. search needs)
     (λ c. search needs)
     (λ c. search needs)
-    (λ c κs. let a = c .before .before .before .before .before .before .before .before .before .before .before .before .before .args in let l = length-raw-line (now (a .rom)) (a .place) (a .next) in let p = length-place (a .place) in omega arith)
-    (λ c κs. let a = c .before .before .before .before .before .before .before .before .before .before .before .before .before .before .before .before .before .args in let l = length-raw-line (now (a .rom)) (a .place) (a .next) in let p = length-place (a .place) in omega arith)
+    (λ c κs. search needs)
+    (λ c κs. search needs)
+    (λ c κs. search needs)
     (λ c. search needs)
     (λ c.
-    wrote-then (c .before .before .before .before .before .before .before .before .before .before .before .before .before .before .before .before .place-digits .ensures)
-    (wrote-then (c .before .before .before .before .before .before .before .before .before .before .before .say .ensures) (wrote-then (wrote-then (c .before .before .before .before .before .before .shown .ensures) wrote-none) (c .before .before .letter .ensures)))))
+    wrote-then (c .before .before .before .before .before .before .before .before .before .before .before .before .before .before .before .before .before .before .before .before .place-digits .ensures)
+    (wrote-then (c .before .before .before .before .before .before .before .before .before .before .before .before .before .before .before .say .ensures)
+    (wrote-then (wrote-then (wrote-then (c .before .before .before .before .before .before .before .before .before .before .shown .ensures) wrote-none) (c .before .before .before .before .before .before .raw-remark .ensures)) (c .before .before .letter .ensures)))))

@@ -1,0 +1,23 @@
+use borrow.Author.Needs.{needs}
+use Rattle.rom.specs.Words.{lettersOf}
+use Rattle.lines.specs.Wrote.{wrote-then}
+use Rattle.lines.proofs.pieces.aim_remark.Statement.{statement}
+use Rattle.lines.proofs.pieces.aim_remark.Tie as tie
+
+pub aim-remark-spec : {M : Type 1} → statement M
+unfolding lettersOf
+aim-remark-spec =
+    tie.close
+    (tie.spec
+    (λ c. search needs)
+    (λ c. search needs)
+    (λ c κs. search needs)
+    (λ c. search needs)
+    (λ c κs. search needs)
+    (λ c. search needs)
+    (λ c. search needs)
+    (λ c κs. search needs)
+    (λ c. search needs)
+    (λ c. rw (c .before .before .before .before .before .before .before .before .before .before .aim .given .1) (wrote-then (c .before .before .before .before .before .before .say .ensures) (c .before .before .place-digits .ensures)))
+    (λ c. search needs)
+    (λ c. rw (c .before .before .before .before .before .enum-told .given .1) (c .before .before .say2 .ensures)))

@@ -1,0 +1,31 @@
+use mathlib.Core.Path.{refl, sym, _∙_}
+use denote.Ref.{now}
+use borrow.Author.Needs.{needs}
+use borrow.Author.Tests.{lt-ltb, le-ltb}
+use Rattle.lines.specs.TokenLines.{pieceText, nextOf, wideBehind}
+use Rattle.lines.specs.TokenLaws.{raw-lies, listed-lies}
+use Rattle.lines.specs.Wrote.{wrote-none}
+use Rattle.lines.proofs.pieces.piece_line.Statement.{statement}
+use Rattle.lines.proofs.pieces.piece_line.Tie as tie
+
+pub piece-line-spec : {M : Type 1} → statement M
+unfolding pieceText nextOf wideBehind
+piece-line-spec =
+    tie.close
+    (tie.spec
+    (λ c. rw (lt-ltb _ _ (c .if1 .taken)) (wrote-none, refl, refl))
+    (λ c κs. search needs)
+    (λ c. search needs)
+    (λ c. search needs)
+    (λ c κs.
+    let a = c .before .before .before .before .before .before .before .before .args in
+    raw-lies (now (a .rom)) (c .before .before .before .before .before .if1 .left) (a .wide) (a .place) _ (sym (c .before .before .before .before .read-piece .ensures) ∙ c .before .before .next .given .1))
+    (λ c. search needs)
+    (λ c κs.
+    let a = c .before .before .before .before .before .before .before .before .args in
+    listed-lies (now (a .rom)) (c .before .before .before .before .before .if1 .left) (a .wide) (a .place) _ _ _ (sym (c .before .before .before .before .read-piece .ensures) ∙ c .before .before .token .given .1))
+    (λ c. rw (le-ltb _ _ (c .before .before .before .if1 .left), sym (c .before .before .read-piece .ensures) ∙ c .enum-told .given .1) (wrote-none, refl, refl))
+    (λ c. search needs)
+    (λ c. rw (le-ltb _ _ (c .before .before .before .before .before .before .before .before .if1 .left), sym (c .before .before .before .before .before .before .before .read-piece .ensures) ∙ c .before .before .before .before .before .next .given .1) (c .before .before .raw-line .ensures, refl, refl))
+    (λ c. search needs)
+    (λ c. rw (le-ltb _ _ (c .before .before .before .before .before .before .before .before .if1 .left), sym (c .before .before .before .before .before .before .before .read-piece .ensures) ∙ c .before .before .before .before .before .token .given .1) (c .before .before .token-line .ensures, refl, refl)))
