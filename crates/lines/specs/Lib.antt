@@ -1,11 +1,13 @@
 pub mod Digits
 pub mod Lines
+pub mod Numbers
 pub mod Printed
 pub mod Explain
 pub mod TokenLines
 pub mod Told
 pub mod Wrote
 pub mod Laws
+pub mod NumberLaws
 pub mod Fits
 pub mod Tally
 pub mod TallyLaws

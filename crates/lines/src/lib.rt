@@ -2,6 +2,7 @@
 mod digits;
 mod explain;
 mod lines;
+mod numbers;
 mod pieces;
 mod printed;
 mod tally;
@@ -13,5 +14,7 @@ pub use explain::path_line;
 pub use explain::read_lines;
 pub use pieces::PieceTold;
 pub use pieces::piece_line;
+pub use numbers::number_line;
+pub use numbers::words_of;
 pub use telling::refused_text;
 pub use telling::run_text;
