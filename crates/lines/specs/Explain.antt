@@ -17,7 +17,11 @@ use Rattle.tree.specs.Path.{ownValueOf}
 use Rattle.tree.specs.declared.tree.Tree.{Tree}
 use Rattle.lines.specs.Digits.{decimalOf, hexPair, hexWord}
 use Rattle.lines.specs.Printed.{textOf, isText}
+use Rattle.tokens.specs.Reader.{endOf}
 use Rattle.lines.specs.Lines.{lineEnd, ownLines}
+use Rattle.lines.specs.TokenLines.{placeOf, lineText, rawLine, pieceText}
+use Rattle.lines.specs.Tally.{tallyOf}
+use Rattle.lines.specs.declared.tally.Tally.{Tally}
 
 -- ---- the header: "start: FD, 8-bit branch offsets"
 abbrev pub startWords : ℕ → List ℕ
@@ -87,3 +91,28 @@ pathLine t store k = pick (eqb k 0) (lettersOf "/") (pathTo t store nodesMost k)
 -- a node's properties; a store of another size or a damaged tree shows none
 unfoldable pub readLines : Tree → List ℕ → ℕ → List ℕ
 readLines t store k = pick (not (eqb (length store) storeSize) || not (wholeTree t)) [] (ownLines true (heldOf t store) k)
+
+-- ---- the program: "program: 7 tokens, all of the list", or how many of its pieces are none, and the line of the first of these
+abbrev pub scopeWords : List ℕ
+scopeWords = lettersOf ". A board that uses such a token is outside the scope of this tool, not broken. The first:"
+
+unfoldable pub outsideLines : List ℕ → Tally → List ℕ
+outsideLines rom y =
+    lettersOf " pieces, " ++ (decimalOf (y .raws) ++ (lettersOf " of them no token of the list" ++ (scopeWords ++ (lineEnd
+    ++ lineText (rawLine rom (y .place) (y .next))))))
+
+unfoldable pub tallyLines : List ℕ → Tally → List ℕ
+tallyLines rom y =
+    lettersOf "program: " ++ (decimalOf (y .pieces)
+    ++ pick (eqb (y .raws) 0) (lettersOf " tokens, all of the list" ++ lineEnd) (outsideLines rom y))
+
+-- more bytes than a ROM has are no program
+unfoldable pub programLines : List ℕ → List ℕ
+programLines rom = pick (ltb romMost (length rom)) [] (tallyLines rom (tallyOf rom))
+
+-- ---- where a run ended: the token that was refused, or the one that is next where the budget is spent
+unfoldable pub endLine : List ℕ → ℕ → List ℕ
+endLine rom p = pick (leb (endOf rom) p) (placeOf p ++ (lettersOf " the program's end" ++ lineEnd)) []
+
+unfoldable pub atLine : List ℕ → Bool → ℕ → List ℕ
+atLine rom wide p = lettersOf "at: " ++ (endLine rom p ++ pieceText rom wide p)

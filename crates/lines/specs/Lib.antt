@@ -2,14 +2,14 @@ pub mod Digits
 pub mod Lines
 pub mod Numbers
 pub mod Printed
-pub mod Explain
 pub mod TokenLines
+pub mod Tally
+pub mod Explain
 pub mod Told
 pub mod Wrote
 pub mod Laws
 pub mod NumberLaws
 pub mod Fits
-pub mod Tally
 pub mod TallyLaws
 pub mod ExplainLaws
 pub mod TokenLaws

@@ -81,7 +81,7 @@ second-inside start c next size o h =
     (a, omega arith)
 
 -- a program's end is no further than the bytes that are lent
-end-inside : (rom : List ℕ) → endOf rom ≤ length rom
+pub end-inside : (rom : List ℕ) → endOf rom ≤ length rom
 end-inside rom =
     pick-is (λ n. n ≤ length rom) (ltb (length rom) (lengthOf rom)) (length rom) (lengthOf rom) (λ t. omega arith)
     (λ t. omega (arith, tests))

@@ -1,18 +1,26 @@
 // What explain says of a ROM: its header's fields, and the tree that a run left, with paths and with values as people read them. Each call writes its lines
 // into a text from a place on and gives the place behind; what passes the text's end is left out. Every call is total.
+ghost use Prim.Native.Nat.{_≤_};
 ghost use mathlib.Core.Path.{_≡_};
+ghost use lib.ListN.{length};
 ghost use mathlib.Core.Bool.{_&&_, _||_};
 ghost use Rattle.rom.specs.Header.{lengthOf};
 ghost use Rattle.tree.specs.Whole.{parentOf};
 ghost use Rattle.lines.specs.Explain.{startWords, startLine, formatLine, lengthLine, badLength, sumWords, sumsShown, sumLine, sizeLine};
 ghost use Rattle.lines.specs.Explain.{fieldLines, headerLines, isTitle, titleOf, pathTo, pathLine, readLines};
+ghost use Rattle.lines.specs.Explain.{outsideLines, tallyLines, programLines, endLine, atLine};
 ghost use Rattle.lines.specs.Wrote.{Wrote};
 use crate::digits::decimal;
 use crate::digits::hex_byte;
 use crate::digits::hex_word;
 use crate::lines::own_lines;
+use crate::pieces::piece_line;
+use crate::pieces::place_digits;
+use crate::pieces::raw_line;
 use crate::printed::is_text;
 use crate::printed::text_of;
+use crate::tally::Tally;
+use crate::tally::tally_of;
 use crate::words::letter;
 use crate::words::say;
 use rom::body_sum;
@@ -23,6 +31,7 @@ use rom::sizes::ROM_LEAST;
 use rom::sizes::ROM_MOST;
 use rom::sizes::STORE_SIZE;
 use rom::word16;
+use tokens::reader::program_end;
 use tree::Tree;
 use tree::is_whole;
 use tree::own_value;
@@ -211,4 +220,67 @@ pub fn read_lines(text: &mut [u8], at: usize, store: &[u8], tree: Tree, node: u3
         return at;
     }
     own_lines(text, at, true, store, tree, node)
+}
+
+// How many pieces are no token of the list, what that means, and the line of the first of them.
+fn outside_lines(text: &mut [u8], at: usize, rom: &[u8], tally: Tally) -> usize
+    requires { ⌜ (tally .place ≤ tally .next) × (tally .next ≤ length (now rom)) ⌝ }
+    ensures { λ r. ⌜ Wrote (now (text .entry)) (now (text .exit)) at r (outsideLines (now (rom .entry)) tally) ⌝ }
+{
+    let at = say(text, at, b" pieces, ");
+    let at = decimal(text, at, tally.raws);
+    let at = say(text, at, b" of them no token of the list");
+    let at = say(
+        text,
+        at,
+        b". A board that uses such a token is outside the scope of this tool, not broken. The first:",
+    );
+    let at = letter(text, at, b'\n');
+    raw_line(text, at, rom, tally.place, tally.next)
+}
+
+// How many pieces there are, and how many of them are no token of the list.
+fn tally_lines(text: &mut [u8], at: usize, rom: &[u8], tally: Tally) -> usize
+    requires { ⌜ (tally .place ≤ tally .next) × (tally .next ≤ length (now rom)) ⌝ }
+    ensures { λ r. ⌜ Wrote (now (text .entry)) (now (text .exit)) at r (tallyLines (now (rom .entry)) tally) ⌝ }
+{
+    let at = say(text, at, b"program: ");
+    let at = decimal(text, at, tally.pieces);
+    if tally.raws == 0 {
+        let at = say(text, at, b" tokens, all of the list");
+        return letter(text, at, b'\n');
+    }
+    outside_lines(text, at, rom, tally)
+}
+
+// What a program is made of; more bytes than a ROM has are none.
+pub fn program_lines(text: &mut [u8], at: usize, rom: &[u8]) -> usize
+    ensures { λ r. ⌜ Wrote (now (text .entry)) (now (text .exit)) at r (programLines (now (rom .entry))) ⌝ }
+{
+    if ROM_MOST < rom.len() {
+        return at;
+    }
+    tally_lines(text, at, rom, tally_of(rom))
+}
+
+// A place that is behind the program's last.
+fn end_line(text: &mut [u8], at: usize, rom: &[u8], place: u32) -> usize
+    ensures { λ r. ⌜ Wrote (now (text .entry)) (now (text .exit)) at r (endLine (now (rom .entry)) place) ⌝ }
+{
+    if place < program_end(rom) {
+        return at;
+    }
+    let at = place_digits(text, at, place as usize);
+    let at = say(text, at, b" the program's end");
+    letter(text, at, b'\n')
+}
+
+// Where a run ended: the line of the token at its place.
+pub fn at_line(text: &mut [u8], at: usize, rom: &[u8], wide: bool, place: u32) -> usize
+    ensures { λ r. ⌜ Wrote (now (text .entry)) (now (text .exit)) at r (atLine (now (rom .entry)) wide place) ⌝ }
+{
+    let at = say(text, at, b"at: ");
+    let at = end_line(text, at, rom, place);
+    let told = piece_line(text, at, rom, wide, place);
+    told.end
 }

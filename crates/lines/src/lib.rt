@@ -9,12 +9,14 @@ mod tally;
 mod telling;
 mod words;
 
+pub use explain::at_line;
 pub use explain::header_lines;
 pub use explain::path_line;
+pub use explain::program_lines;
 pub use explain::read_lines;
-pub use pieces::PieceTold;
-pub use pieces::piece_line;
 pub use numbers::number_line;
 pub use numbers::words_of;
+pub use pieces::PieceTold;
+pub use pieces::piece_line;
 pub use telling::refused_text;
 pub use telling::run_text;

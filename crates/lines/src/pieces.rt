@@ -40,7 +40,7 @@ pub struct PieceTold {
     pub wide: bool,
 }
 
-fn place_digits(text: &mut [u8], at: usize, place: usize) -> usize
+pub fn place_digits(text: &mut [u8], at: usize, place: usize) -> usize
     ensures { λ r. ⌜ Wrote (now (text .entry)) (now (text .exit)) at r (placeOf place) ⌝ }
 {
     let at = hex_byte(text, at, (place / 256 % 256) as u8);
@@ -158,7 +158,7 @@ fn raw_remark(text: &mut [u8], at: usize, rom: &[u8], next: u32) -> usize
 }
 
 // Bytes that no token of the list covers.
-fn raw_line(text: &mut [u8], at: usize, rom: &[u8], place: u32, next: u32) -> usize
+pub fn raw_line(text: &mut [u8], at: usize, rom: &[u8], place: u32, next: u32) -> usize
     requires { ⌜ (place ≤ next) × (next ≤ length (now rom)) ⌝ }
     ensures { λ r. ⌜ Wrote (now (text .entry)) (now (text .exit)) at r (lineText (rawLine (now (rom .entry)) place next)) ⌝ }
 {

@@ -1,0 +1,18 @@
+use Rattle.lines.specs.Explain.{atLine}
+use borrow.Author.Needs.{needs}
+use Rattle.rom.specs.Words.{lettersOf}
+use Rattle.lines.specs.Wrote.{wrote-then}
+use Rattle.lines.proofs.explain.at_line.Statement.{statement}
+use Rattle.lines.proofs.explain.at_line.Tie as tie
+
+pub at-line-spec : {M : Type 1} → statement M
+unfolding atLine lettersOf
+at-line-spec =
+    tie.close
+    (tie.spec
+    (λ c. search needs)
+    (λ c κs. search needs)
+    (λ c κs. search needs)
+    (λ c κs. search needs)
+    (λ c. search needs)
+    (λ c. wrote-then (c .before .before .before .before .before .before .before .before .before .before .say .ensures) (wrote-then (c .before .before .before .before .before .before .end-line .ensures) (c .before .before .piece-line .ensures .0))))
