@@ -1,145 +1,111 @@
-// Reads a ROM from the file that the first argument names, or from standard input where there is none, and prints its listing. The second argument is the
-// budget, 100,000 steps where there is none. Where the first argument is --tokens, the second one names the file, and the program's tokens are listed.
-// What is no ROM to judge, or no budget, gets a line on standard error, and nothing is printed.
+// The program behind ./lamp. Its first word says what is asked: list FILE BUDGET, tokens FILE, explain FILE BUDGET, scan text|csv BUDGET, numbers. A FILE of
+// a dash is standard input. Lines go to standard output, what is wrong to standard error, and the exit status, one digit, to descriptor 3.
 mod budget;
+mod dump;
+mod judge;
+mod print;
+mod scan;
+mod show;
 
 use budget::Budget;
 use budget::budget_of;
-use libc::STDERR_FILENO;
-use libc::STDIN_FILENO;
-use libc::STDOUT_FILENO;
-use lines::token_text;
-use listing::list;
-use rom::sizes::MARKS_SIZE;
-use rom::sizes::ROM_MOST;
-use rom::sizes::STORE_SIZE;
-use rom::sizes::TEXT_SIZE;
-use rom::sizes::TOKEN_TEXT_SIZE;
-use rom::sizes::WORK_SIZE;
+use lines::number_line;
+use print::LOST;
+use print::WELL;
+use print::complain;
+use print::end_with;
+use print::print;
+use print::status_if;
+use scan::scan;
+use show::explain_file;
+use show::list_file;
+use show::tokens_file;
 use tree::same_bytes;
 
-// What is to be printed of a ROM: its listing, run for so many steps at most, or its tokens.
+// What is wanted of a file, or of many.
 enum Wish {
-    Listing(u32),
-    Tokens,
+    List,
+    Explain,
+    ScanText,
+    ScanCsv,
 }
 
-const USUAL_BUDGET: u32 = 100_000;
-
-// One byte more than a ROM may have, so that a longer file is seen to be one.
-const SPACE: usize = ROM_MOST + 1;
-
-fn complain(name: &[u8], why: &[u8]) {
-    io::write_all(STDERR_FILENO, name);
-    io::write_all(STDERR_FILENO, why);
+// The numbers with their words, a line for each that has some.
+fn numbers() -> u8 {
+    let mut text = [0u8; 4096];
+    let mut at = 0;
+    let mut k = 0;
+    while k < 32 {
+        at = number_line(&mut text, at, k);
+        k += 1;
+    }
+    status_if(print(&text, at), WELL)
 }
 
-fn show(rom: &[u8], budget: u32) {
-    let mut marks = [0u8; MARKS_SIZE];
-    let mut work = [0u8; WORK_SIZE];
-    let mut store = [0u8; STORE_SIZE];
-    let mut text = [0u8; TEXT_SIZE];
-    let n = list(rom, &mut marks, &mut work, &mut store, budget, &mut text);
-    if !io::write_all(STDOUT_FILENO, &text[..n]) {
-        os::fail(b"standard output");
-    }
+fn unknown(word: &[u8]) -> u8 {
+    complain(word, b": no such word\n");
+    LOST
 }
 
-fn show_tokens(rom: &[u8]) {
-    let mut text = [0u8; TOKEN_TEXT_SIZE];
-    let n = token_text(&mut text, rom);
-    if !io::write_all(STDOUT_FILENO, &text[..n]) {
-        os::fail(b"standard output");
-    }
-}
-
-// Whether a file that seemed to end did end, and no read failed.
-fn ended(fd: i32) -> bool {
-    let mut more = [0u8; 1];
-    libc::read(fd, &mut more) == 0
-}
-
-fn judge(fd: i32, name: &[u8], wish: Wish) {
-    let mut space = [0u8; SPACE];
-    let n = io::read_full(fd, &mut space);
-    if ROM_MOST < n {
-        complain(name, b": over 16,384 bytes, no ROM\n");
-        return;
-    }
-    if !ended(fd) {
-        os::fail(name);
-        return;
-    }
-    if n == 0 {
-        complain(name, b": empty, no ROM\n");
-        return;
-    }
+fn done_within(wish: Wish, name: &[u8], budget: u32) -> u8 {
     match wish {
-        Wish::Listing(budget) => show(&space[..n], budget),
-        Wish::Tokens => show_tokens(&space[..n]),
+        Wish::List => list_file(name, budget),
+        Wish::Explain => explain_file(name, budget),
+        Wish::ScanText => scan(false, budget),
+        Wish::ScanCsv => scan(true, budget),
     }
 }
 
-fn judge_file(name: &[u8], wish: Wish) {
-    let fd = os::open_read(name);
-    if fd < 0 {
-        os::fail(name);
-        return;
-    }
-    judge(fd, name, wish);
-    libc::close(fd);
-}
-
-fn judge_argument(k: usize, wish: Wish) {
-    let mut name = io::buffer();
-    let n = os::arg(k, &mut name);
-    judge_file(&name[..n], wish);
-}
-
-// What stands behind --tokens: a file, or nothing for standard input.
-fn main_tokens(count: usize) {
-    if count < 3 {
-        judge(STDIN_FILENO, b"standard input", Wish::Tokens);
-        return;
-    }
-    if 3 < count {
-        complain(b"lamp", b": behind --tokens at most a file\n");
-        return;
-    }
-    judge_argument(2, Wish::Tokens);
-}
-
-fn main_listing(count: usize) {
-    if count < 3 {
-        judge_argument(1, Wish::Listing(USUAL_BUDGET));
-        return;
-    }
-    if 3 < count {
-        complain(b"lamp", b": at most a file and a budget\n");
-        return;
-    }
+// The third word is the budget.
+fn within_budget(wish: Wish, name: &[u8]) -> u8 {
     let mut word = io::buffer();
-    let n = os::arg(2, &mut word);
+    let n = os::arg(3, &mut word);
     match budget_of(&word[..n]) {
-        Budget::Steps(steps) => judge_argument(1, Wish::Listing(steps)),
-        Budget::Unclear => complain(
-            &word[..n],
-            b": no budget, which is a number from 0 to 4,294,967,295\n",
-        ),
+        Budget::Steps(steps) => done_within(wish, name, steps),
+        Budget::Unclear => {
+            complain(
+                &word[..n],
+                b": no budget, which is a number from 0 to 4,294,967,295\n",
+            );
+            LOST
+        }
     }
+}
+
+fn scan_words(form: &[u8]) -> u8 {
+    if same_bytes(form, b"csv") {
+        return within_budget(Wish::ScanCsv, form);
+    }
+    if same_bytes(form, b"text") {
+        return within_budget(Wish::ScanText, form);
+    }
+    unknown(form)
+}
+
+// By the first word, with the second at hand.
+fn commanded(word: &[u8], second: &[u8]) -> u8 {
+    if same_bytes(word, b"list") {
+        return within_budget(Wish::List, second);
+    }
+    if same_bytes(word, b"tokens") {
+        return tokens_file(second);
+    }
+    if same_bytes(word, b"explain") {
+        return within_budget(Wish::Explain, second);
+    }
+    if same_bytes(word, b"scan") {
+        return scan_words(second);
+    }
+    if same_bytes(word, b"numbers") {
+        return numbers();
+    }
+    unknown(word)
 }
 
 fn main() {
-    let count = os::arg_count();
-    if count < 2 {
-        judge(STDIN_FILENO, b"standard input", Wish::Listing(USUAL_BUDGET));
-        return;
-    }
     let mut word = io::buffer();
     let n = os::arg(1, &mut word);
-    if same_bytes(&word[..n], b"--tokens") {
-        main_tokens(count);
-    } else {
-        main_listing(count);
-    }
+    let mut second = io::buffer();
+    let m = os::arg(2, &mut second);
+    end_with(commanded(&word[..n], &second[..m]));
 }
