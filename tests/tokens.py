@@ -1,5 +1,5 @@
 #!/usr/bin/env python3
-"""Runs the program with --tokens over ROMs of many kinds and compares what it prints with what is worked out here from document 01.
+"""Has the program list the tokens of ROMs of many kinds, and compares what it prints with what is worked out here from document 01.
 
     python3 tests/tokens.py                  every ROM, with the program that was proved and built
     python3 tests/tokens.py --list FILE      prints the list of the ROM in FILE, as worked out here
@@ -32,6 +32,20 @@ class Past(Exception):
     """The program ends within a token."""
 
 
+MAY_BE_OPERAND = " (no token of the list: the next lines may be its operand)"
+
+
+def letters(text):
+    """The remark on a string."""
+    return ' "%s"' % text.decode("ascii") if all(0x20 <= byte <= 0x7E for byte in text) else ""
+
+
+def leads(at, offset, length):
+    """The remark on a branch whose offset starts at a place."""
+    to = at + int.from_bytes(offset, "big", signed=True)
+    return " to %04X" % to if 8 <= to < length else " to no place of the program"
+
+
 def lines(rom):
     """The list of a ROM with a good header."""
     length = int.from_bytes(rom[4:8], "big")
@@ -53,7 +67,7 @@ def lines(rom):
         return [defined, take(at + len(defined), 1)]
 
     while place < length:
-        shown = "%04X" % place
+        shown, remark = "%04X" % place, ""
         try:
             first = number(place)
             token, at = int.from_bytes(first, "big"), place + len(first)
@@ -62,12 +76,15 @@ def lines(rom):
                 parts = [take(at, 4)]
             elif token == 0x12:
                 parts = string(at)
+                remark = letters(parts[1])
             elif token in (0x13, 0x14):
                 parts = [take(at, 2 if wide else 1)]
+                remark = leads(at, parts[0], length)
             elif token == 0xC3:
                 parts = [number(at)]
             elif token in (0xB5, 0xB6, 0xCA):
                 named = [] if token == 0xB5 else string(at)
+                remark = letters(named[1]) if named else ""
                 parts = named + head(at + len(b"".join(named)))
                 listed = 0x800 <= int.from_bytes(parts[-2], "big") <= 0xFFF and 0xB7 <= parts[-1][0] <= 0xBA
             else:
@@ -76,11 +93,11 @@ def lines(rom):
             yield shown + " raw " + program[place:].hex().upper()
             return
         if not listed:
-            yield shown + " raw " + first.hex().upper()
             place += len(first)
+            yield shown + " raw " + first.hex().upper() + (MAY_BE_OPERAND if place < length else "")
             continue
         words = [shown, first.hex().upper(), NAMES.get(token, "program number")] + [part.hex().upper() for part in parts if part]
-        yield " ".join(words)
+        yield " ".join(words) + remark
         place = at + len(b"".join(parts))
         wide = wide or token == 0xCC
 
@@ -94,6 +111,14 @@ def roms():
         yield with_header(bytes(range(16, 256)) * 3, start)
         yield with_header(b"".join(n.to_bytes(2, "big") for n in range(0x100, 0x210)) + bytes.fromhex("07FF0FFF"), start)
         yield with_header(bytes.fromhex("1305130513CC1305130513051305"), start)
+    # branches to every place from 128 bytes before the offset to 127 behind it, and to the ends of what 16 bits reach
+    yield with_header(b"".join(bytes([0x13 + n % 2, n]) for n in range(256)))
+    for target in (7, 8, 9, 31, 32, 33, 0x8008, 0x8009):
+        yield with_header(b"\x13" + (target - 9 & 0xFFFF).to_bytes(2, "big") + b"\x7B" * 21, 0xF1)
+    # strings of letters, of other bytes, and of both; a string that ends the program; an empty one
+    for text in (b"scale", b" ~", b"\x1F", b"\x7F", b"a\x00", b'say "no"', b"\\", b"\xE9", b"", b"m" * 255):
+        yield with_header(b"\x12" + bytes([len(text)]) + text)
+        yield with_header(b"\xB6" + bytes([len(text)]) + text + b"\x08\x01\xB7\x00")
     # heads that are badly formed, and some that are well formed
     for head in ("B507FFB7", "B50800B6", "B50FFFBB", "B5B7B7", "B60100B7B7", "B601610800B9", "CA0201020FFFB7", "B50801B7"):
         yield with_header(bytes.fromhex(head + "00"))
@@ -130,7 +155,7 @@ def main():
         path = pathlib.Path(room) / "some.rom"
         for k, one in enumerate(roms()):
             path.write_bytes(one)
-            ran = subprocess.run(words + ["--tokens", str(path)], capture_output=True)
+            ran = subprocess.run(words + ["tokens", str(path)], capture_output=True)
             said = ran.stdout.decode("latin-1")
             must = "".join(line + "\n" for line in lines(one))
             if said == must and not ran.stderr and ran.returncode == 0:

@@ -93,7 +93,7 @@ OperandLies rom start t = (start ≤ 16384) × (0 < t .next) × (t .next ≤ len
 abbrev pub TokenLies : List ℕ → ℕ → ℕ → Token → Type 0
 TokenLies rom p start t = (p ≤ start) × (start ≤ length rom) × OperandLies rom start t
 
-module _ (rom : List ℕ) (few : length rom ≤ romMost) (wide : Bool) (p : ℕ) where
+module _ (rom : List ℕ) (wide : Bool) (p : ℕ) where
   pub raw-lies : (next : ℕ) → pieceOf rom wide p ≡ Raw next → (p ≤ next) × (next ≤ length rom)
   raw-lies next e =
       let l = lies-as rom wide p (Raw next) e in
@@ -102,8 +102,8 @@ module _ (rom : List ℕ) (few : length rom ≤ romMost) (wide : Bool) (p : ℕ)
       let i = end-inside rom in
       (omega arith, omega arith)
 
-  pub listed-lies : (t : Token) (s : ℕ) (w : Bool) → pieceOf rom wide p ≡ Listed t s w → TokenLies rom p s t
-  listed-lies t s w e =
+  pub listed-lies : length rom ≤ romMost → (t : Token) (s : ℕ) (w : Bool) → pieceOf rom wide p ≡ Listed t s w → TokenLies rom p s t
+  listed-lies few t s w e =
       let l = lies-as rom wide p (Listed t s w) e in
       let f = l .1 in
       let n = number-ahead rom p in

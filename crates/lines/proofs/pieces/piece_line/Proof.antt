@@ -1,4 +1,6 @@
 use mathlib.Core.Path.{refl, sym, _∙_}
+use native.Mathlib.Omega.{arith}
+use lib.ListN.{length}
 use denote.Ref.{now}
 use borrow.Author.Needs.{needs}
 use borrow.Author.Tests.{lt-ltb, le-ltb}
@@ -13,19 +15,19 @@ unfolding pieceText nextOf wideBehind
 piece-line-spec =
     tie.close
     (tie.spec
-    (λ c. rw (lt-ltb _ _ (c .if1 .taken)) (wrote-none, refl, refl))
+    (λ c. rw (lt-ltb 16384 (length (now (c .before .before .before .args .rom))) (omega arith)) (wrote-none, refl, refl))
     (λ c κs. search needs)
     (λ c. search needs)
     (λ c. search needs)
     (λ c κs.
     let a = c .before .before .before .before .before .before .before .before .args in
-    raw-lies (now (a .rom)) (c .before .before .before .before .before .if1 .left) (a .wide) (a .place) _ (sym (c .before .before .before .before .read-piece .ensures) ∙ c .before .before .next .given .1))
+    raw-lies (now (a .rom)) (a .wide) (a .place) _ (sym (c .before .before .before .before .read-piece .ensures) ∙ c .before .before .next .given .1))
     (λ c. search needs)
     (λ c κs.
     let a = c .before .before .before .before .before .before .before .before .args in
-    listed-lies (now (a .rom)) (c .before .before .before .before .before .if1 .left) (a .wide) (a .place) _ _ _ (sym (c .before .before .before .before .read-piece .ensures) ∙ c .before .before .token .given .1))
-    (λ c. rw (le-ltb _ _ (c .before .before .before .if1 .left), sym (c .before .before .read-piece .ensures) ∙ c .enum-told .given .1) (wrote-none, refl, refl))
+    listed-lies (now (a .rom)) (a .wide) (a .place) (omega arith) _ _ _ (sym (c .before .before .before .before .read-piece .ensures) ∙ c .before .before .token .given .1))
+    (λ c. rw (le-ltb 16384 (length (now (c .before .before .before .before .before .before .args .rom))) (omega arith), sym (c .before .before .read-piece .ensures) ∙ c .enum-told .given .1) (wrote-none, refl, refl))
     (λ c. search needs)
-    (λ c. rw (le-ltb _ _ (c .before .before .before .before .before .before .before .before .if1 .left), sym (c .before .before .before .before .before .before .before .read-piece .ensures) ∙ c .before .before .before .before .before .next .given .1) (c .before .before .raw-line .ensures, refl, refl))
+    (λ c. rw (le-ltb 16384 (length (now (c .before .before .before .before .before .before .before .before .before .before .before .args .rom))) (omega arith), sym (c .before .before .before .before .before .before .before .read-piece .ensures) ∙ c .before .before .before .before .before .next .given .1) (c .before .before .raw-line .ensures, refl, refl))
     (λ c. search needs)
-    (λ c. rw (le-ltb _ _ (c .before .before .before .before .before .before .before .before .if1 .left), sym (c .before .before .before .before .before .before .before .read-piece .ensures) ∙ c .before .before .before .before .before .token .given .1) (c .before .before .token-line .ensures, refl, refl)))
+    (λ c. rw (le-ltb 16384 (length (now (c .before .before .before .before .before .before .before .before .before .before .before .args .rom))) (omega arith), sym (c .before .before .before .before .before .before .before .read-piece .ensures) ∙ c .before .before .before .before .before .token .given .1) (c .before .before .token-line .ensures, refl, refl)))
