@@ -21,6 +21,7 @@ use Rattle.tokens.specs.Reader.{endOf}
 use Rattle.lines.specs.Lines.{lineEnd, ownLines}
 use Rattle.lines.specs.TokenLines.{placeOf, lineText, rawLine, pieceText}
 use Rattle.lines.specs.Tally.{tallyOf}
+use Rattle.lines.specs.Verdicts.{verdictOf}
 use Rattle.lines.specs.declared.tally.Tally.{Tally}
 
 -- ---- the header: "start: FD, 8-bit branch offsets"
@@ -116,3 +117,21 @@ endLine rom p = pick (leb (endOf rom) p) (placeOf p ++ (lettersOf " the program'
 
 unfoldable pub atLine : List ℕ → Bool → ℕ → List ℕ
 atLine rom wide p = lettersOf "at: " ++ (endLine rom p ++ pieceText rom wide p)
+
+-- "run: done, steps 7", "run: refused 21: a divisor is zero, steps 2"
+unfoldable pub endWords : ℕ → List ℕ
+endWords number = pick (eqb number 0) (lettersOf "done") (verdictOf number)
+
+unfoldable pub runLine : ℕ → ℕ → List ℕ
+runLine number steps = lettersOf "run: " ++ (endWords number ++ (lettersOf ", steps " ++ (decimalOf steps ++ lineEnd)))
+
+-- ---- lines between these
+unfoldable pub verdictLine : ℕ → List ℕ
+verdictLine number = lettersOf "verdict: " ++ (verdictOf number ++ lineEnd)
+
+abbrev pub treeLine : List ℕ
+treeLine = lettersOf "tree:" ++ lineEnd
+
+-- before the run of a ROM that the screen refused: any ROM may be run, and where it ends tells its maker more than that no heights can be assigned
+abbrev pub anywayLine : List ℕ
+anywayLine = lettersOf "It does not pass, and is run all the same to show where it leads:" ++ lineEnd

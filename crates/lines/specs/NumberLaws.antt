@@ -15,12 +15,12 @@ use Rattle.rom.specs.Words.{lettersOf}
 use Rattle.lines.specs.Numbers.{Numbers, opening, naming, moving, running, other, numbers, wordsOf, hasWords}
 
 -- every entry of a table passes a test of its number and its words
-abbrev every : (ℕ → List ℕ → Bool) → Numbers → Bool
+abbrev pub every : (ℕ → List ℕ → Bool) → Numbers → Bool
 every f [] = true
 every f (x ∷ xs) = f (x .0) (x .1) && every f xs
 
 -- and so does what is found in it, where what is given for none does
-found : (f : ℕ → List ℕ → Bool) (t : Numbers) (d : List ℕ) (n : ℕ) → T (every f t) → T (f n d) → T (f n (find t d n))
+pub found : (f : ℕ → List ℕ → Bool) (t : Numbers) (d : List ℕ) (n : ℕ) → T (every f t) → T (f n d) → T (f n (find t d n))
 found f [] d n h q = q
 found f (x ∷ xs) d n h q =
     let b = both-hold (f (x .0) (x .1)) (every f xs) h in
@@ -31,7 +31,9 @@ outside : (f : ℕ → Bool) (t : Numbers) (d : List ℕ) (n : ℕ) → T (every
 outside f [] d n h q = refl
 outside f (x ∷ xs) d n h q =
     let b = both-hold (f (x .0)) (every (λ k w. f k) xs) h in
-    pick-is (λ w. w ≡ d) (eqb n (x .0)) (x .1) (find xs d n) (λ t. absurd (q (rw (eqb→eq n (x .0) t) (b .0)))) (λ t. outside f xs d n (b .1) q)
+    pick-is (λ w. w ≡ d) (eqb n (x .0)) (x .1) (find xs d n)
+    (λ t. absurd (q (rw (eqb→eq n (x .0) t) (b .0))))
+    (λ t. outside f xs d n (b .1) q)
 
 -- so one below all of them, and one above
 below : (m n : ℕ) (t : Numbers) (d : List ℕ) → T (every (λ k w. leb m k) t) → n < m → find t d n ≡ d
@@ -50,31 +52,39 @@ module _ (n : ℕ) where
   pub words-opening : n < 10 → wordsOf n ≡ find opening [] n
   unfolding naming moving running other
   words-opening h =
-      rw (by-parts n, below 28 n other [] tt (omega arith), below 21 n running [] tt (omega arith), below 14 n moving [] tt (omega arith), below 10 n naming [] tt h)
+      let o = below 28 n other [] tt (omega arith) in
+      let r = below 21 n running [] tt (omega arith) in
+      let m = below 14 n moving [] tt (omega arith) in
+      rw (by-parts n, o, r, m, below 10 n naming [] tt h)
 
   pub words-naming : 10 ≤ n → n < 14 → wordsOf n ≡ find naming [] n
   unfolding opening moving running other
   words-naming l h =
-      rw (by-parts n, below 28 n other [] tt (omega arith), below 21 n running [] tt (omega arith), below 14 n moving [] tt h)
-      (above 10 n opening (find naming [] n) tt l)
+      let o = below 28 n other [] tt (omega arith) in
+      let r = below 21 n running [] tt (omega arith) in
+      rw (by-parts n, o, r, below 14 n moving [] tt h) (above 10 n opening (find naming [] n) tt l)
 
   pub words-moving : 14 ≤ n → n < 21 → wordsOf n ≡ find moving [] n
   unfolding opening naming running other
   words-moving l h =
-      rw (by-parts n, below 28 n other [] tt (omega arith), below 21 n running [] tt h, above 14 n naming (find moving [] n) tt l)
-      (above 10 n opening (find moving [] n) tt (omega arith))
+      let here = find moving [] n in
+      let o = below 28 n other [] tt (omega arith) in
+      rw (by-parts n, o, below 21 n running [] tt h, above 14 n naming here tt l) (above 10 n opening here tt (omega arith))
 
   pub words-running : 21 ≤ n → n < 28 → wordsOf n ≡ find running [] n
   unfolding opening naming moving other
   words-running l h =
-      rw (by-parts n, below 28 n other [] tt h, above 21 n moving (find running [] n) tt l, above 14 n naming (find running [] n) tt (omega arith))
-      (above 10 n opening (find running [] n) tt (omega arith))
+      let here = find running [] n in
+      let e = above 14 n naming here tt (omega arith) in
+      rw (by-parts n, below 28 n other [] tt h, above 21 n moving here tt l, e) (above 10 n opening here tt (omega arith))
 
   pub words-other : 28 ≤ n → wordsOf n ≡ find other [] n
   unfolding opening naming moving running
   words-other l =
-      rw (by-parts n, above 28 n running (find other [] n) tt l, above 21 n moving (find other [] n) tt (omega arith), above 14 n naming (find other [] n) tt (omega arith))
-      (above 10 n opening (find other [] n) tt (omega arith))
+      let here = find other [] n in
+      let m = above 21 n moving here tt (omega arith) in
+      let e = above 14 n naming here tt (omega arith) in
+      rw (by-parts n, above 28 n running here tt l, m, e) (above 10 n opening here tt (omega arith))
 
 -- the longest words are those of 16
 pub length-words : (n : ℕ) → length (wordsOf n) ≤ 107

@@ -9,6 +9,7 @@ ghost use Rattle.tree.specs.Whole.{parentOf};
 ghost use Rattle.lines.specs.Explain.{startWords, startLine, formatLine, lengthLine, badLength, sumWords, sumsShown, sumLine, sizeLine};
 ghost use Rattle.lines.specs.Explain.{fieldLines, headerLines, isTitle, titleOf, pathTo, pathLine, readLines};
 ghost use Rattle.lines.specs.Explain.{outsideLines, tallyLines, programLines, endLine, atLine};
+ghost use Rattle.lines.specs.Explain.{endWords, runLine, verdictLine, treeLine, anywayLine};
 ghost use Rattle.lines.specs.Wrote.{Wrote};
 use crate::digits::decimal;
 use crate::digits::hex_byte;
@@ -21,6 +22,7 @@ use crate::printed::is_text;
 use crate::printed::text_of;
 use crate::tally::Tally;
 use crate::tally::tally_of;
+use crate::verdicts::verdict;
 use crate::words::letter;
 use crate::words::say;
 use rom::body_sum;
@@ -283,4 +285,52 @@ pub fn at_line(text: &mut [u8], at: usize, rom: &[u8], wide: bool, place: u32) -
     let at = end_line(text, at, rom, place);
     let told = piece_line(text, at, rom, wide, place);
     told.end
+}
+
+fn end_words(text: &mut [u8], at: usize, number: u32) -> usize
+    ensures { λ r. ⌜ Wrote (now (text .entry)) (now (text .exit)) at r (endWords number) ⌝ }
+{
+    if number == 0 {
+        return say(text, at, b"done");
+    }
+    verdict(text, at, number)
+}
+
+// How a run ended, and after how many steps.
+pub fn run_line(text: &mut [u8], at: usize, number: u32, steps: u32) -> usize
+    ensures { λ r. ⌜ Wrote (now (text .entry)) (now (text .exit)) at r (runLine number steps) ⌝ }
+{
+    let at = say(text, at, b"run: ");
+    let at = end_words(text, at, number);
+    let at = say(text, at, b", steps ");
+    let at = decimal(text, at, steps);
+    letter(text, at, b'\n')
+}
+
+pub fn verdict_line(text: &mut [u8], at: usize, number: u32) -> usize
+    ensures { λ r. ⌜ Wrote (now (text .entry)) (now (text .exit)) at r (verdictLine number) ⌝ }
+{
+    let at = say(text, at, b"verdict: ");
+    let at = verdict(text, at, number);
+    letter(text, at, b'\n')
+}
+
+// The line above the nodes.
+pub fn tree_line(text: &mut [u8], at: usize) -> usize
+    ensures { λ r. ⌜ Wrote (now (text .entry)) (now (text .exit)) at r treeLine ⌝ }
+{
+    let at = say(text, at, b"tree:");
+    letter(text, at, b'\n')
+}
+
+// The line before the run of a ROM that does not pass.
+pub fn anyway_line(text: &mut [u8], at: usize) -> usize
+    ensures { λ r. ⌜ Wrote (now (text .entry)) (now (text .exit)) at r anywayLine ⌝ }
+{
+    let at = say(
+        text,
+        at,
+        b"It does not pass, and is run all the same to show where it leads:",
+    );
+    letter(text, at, b'\n')
 }

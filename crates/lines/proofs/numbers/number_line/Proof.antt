@@ -1,5 +1,5 @@
-use borrow.Author.Needs.{needs}
 use mathlib.Core.Path.{sym, _∙_}
+use borrow.Author.Needs.{needs}
 use Rattle.cells.specs.Facts.{not-off, not-on}
 use Rattle.rom.specs.Words.{lettersOf}
 use Rattle.lines.specs.Numbers.{numberLine}
@@ -12,11 +12,19 @@ unfolding numberLine lettersOf
 number-line-spec =
     tie.close
     (tie.spec
-    (λ c κs. search needs)
+    (λ c κs. tt)
     (λ c. rw (sym (c .before .has-words .ensures) ∙ not-off _ (c .if1 .taken)) wrote-none)
-    (λ c κs. search needs)
-    (λ c κs. search needs)
-    (λ c κs. search needs)
-    (λ c κs. search needs)
+    (λ c κs. tt)
+    (λ c κs. tt)
+    (λ c κs. tt)
+    (λ c κs. tt)
     (λ c. search needs)
-    (λ c. rw (sym (c .before .before .before .before .before .before .before .before .before .before .before .before .before .before .before .before .before .has-words .ensures) ∙ not-on _ (c .before .before .before .before .before .before .before .before .before .before .before .before .before .before .before .before .if1 .left)) (wrote-then (c .before .before .before .before .before .before .before .before .before .before .before .before .before .before .decimal .ensures) (wrote-then (c .before .before .before .before .before .before .before .before .before .before .letter .ensures) (wrote-then (c .before .before .before .before .before .before .words-of .ensures) (c .before .before .letter2 .ensures))))))
+    (λ c.
+    let p4 = c .before .before in
+    let p3 = p4 .before .before .before .before in
+    let p2 = p3 .before .before .before .before in
+    let p1 = p2 .before .before .before .before in
+    let t = p1 .before .before in
+    rw (sym (t .before .has-words .ensures) ∙ not-on _ (t .if1 .left))
+    (wrote-then (p1 .decimal .ensures) (wrote-then (p2 .letter .ensures)
+    (wrote-then (p3 .words-of .ensures) (p4 .letter2 .ensures))))))

@@ -17,5 +17,7 @@ is-text-spec =
     (λ c κs. search needs)
     (λ c κs. search needs)
     (λ c.
-    rw (ne-eqb _ 0 (c .before .before .before .before .before .if1 .left), ← c .before .text-of .ensures, ← c .before .before .before .before .last-of .ensures, eq-eqb _ 0 (c .before .before .if2 .left))
+    let t = c .before .before in
+    let e = t .before .before .last-of .ensures in
+    rw (ne-eqb _ 0 (t .before .before .before .if1 .left), ← c .before .text-of .ensures, ← e, eq-eqb _ 0 (t .if2 .left))
     (c .all-printed .ensures)))

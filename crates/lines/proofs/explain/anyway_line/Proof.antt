@@ -1,0 +1,16 @@
+use borrow.Author.Needs.{needs}
+use Rattle.rom.specs.Words.{lettersOf}
+use Rattle.lines.specs.Wrote.{wrote-then}
+use Rattle.lines.proofs.explain.anyway_line.Statement.{statement}
+use Rattle.lines.proofs.explain.anyway_line.Tie as tie
+
+pub anyway-line-spec : {M : Type 1} → statement M
+unfolding lettersOf
+anyway-line-spec =
+    tie.close
+    (tie.spec
+    (λ c. search needs)
+    (λ c κs. search needs)
+    (λ c κs. search needs)
+    (λ c. search needs)
+    (λ c. wrote-then (c .before .before .before .before .before .before .say .ensures) (c .before .before .letter .ensures)))

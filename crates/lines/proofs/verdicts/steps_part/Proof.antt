@@ -1,0 +1,25 @@
+use mathlib.Core.Path.{refl}
+use borrow.Author.Needs.{needs}
+use Rattle.cells.specs.Facts.{not-off, not-on}
+use Rattle.rom.specs.Words.{lettersOf}
+use Rattle.lines.specs.Verdicts.{stepsPart}
+use Rattle.lines.specs.Wrote.{wrote-none, wrote-then}
+use Rattle.lines.proofs.verdicts.steps_part.Statement.{statement}
+use Rattle.lines.proofs.verdicts.steps_part.Tie as tie
+
+pub steps-part-spec : {M : Type 1} → statement M
+unfolding stepsPart lettersOf
+steps-part-spec =
+    tie.close
+    (tie.spec
+    (λ c. rw (not-off (c .before .before .args .ran) (c .if1 .taken)) wrote-none)
+    (λ c. refl)
+    (λ c κs. tt)
+    (λ c κs. tt)
+    (λ c. search needs)
+    (λ c.
+    let p2 = c .before .before in
+    let p1 = p2 .before .before .before .before in
+    let t = p1 .before .before .before in
+    rw (not-on (t .before .before .args .ran) (t .if1 .left))
+    (wrote-then (p1 .say .ensures) (p2 .decimal .ensures))))
