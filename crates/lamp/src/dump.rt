@@ -1,5 +1,6 @@
 // Reading a dump: the bytes of a file, or of standard input where its name is a dash.
-ghost use Prim.Native.Nat.{_≤_};
+ghost use mathlib.Core.Path.{_≡_};
+ghost use Rattle.io.specs.Counts.{Counts};
 use crate::print::complain;
 use libc::STDIN_FILENO;
 use rom::sizes::ROM_MOST;
@@ -15,7 +16,7 @@ pub struct Dumped {
 }
 
 fn lost() -> Dumped
-    ensures { λ r. ⌜ r .size ≤ 16385 ⌝ }
+    ensures { λ r. ⌜ r .size ≡ 0 ⌝ }
 {
     Dumped {
         size: 0,
@@ -39,8 +40,8 @@ fn remark(name: &[u8], size: usize) {
     }
 }
 
-fn read_from(fd: i32, name: &[u8], space: &mut [u8; SPACE]) -> Dumped
-    ensures { λ r. ⌜ r .size ≤ 16385 ⌝ }
+fn read_from(fd: i32, name: &[u8], space: &mut [u8]) -> Dumped
+    ensures { λ r. ⌜ Counts (r .size) (now (space .exit)) ⌝ }
 {
     let n = io::read_full(fd, space);
     if n <= ROM_MOST {
@@ -56,8 +57,8 @@ fn read_from(fd: i32, name: &[u8], space: &mut [u8; SPACE]) -> Dumped
     }
 }
 
-pub fn read_dump(name: &[u8], space: &mut [u8; SPACE]) -> Dumped
-    ensures { λ r. ⌜ r .size ≤ 16385 ⌝ }
+pub fn read_dump(name: &[u8], space: &mut [u8]) -> Dumped
+    ensures { λ r. ⌜ Counts (r .size) (now (space .exit)) ⌝ }
 {
     if same_bytes(name, b"-") {
         return read_from(STDIN_FILENO, b"standard input", space);

@@ -26,7 +26,7 @@ pub fn screened(rom: &[u8]) -> u32 {
 }
 
 // A ROM with a good header, from its opening on, whether it passes or not: any ROM may be run.
-pub fn ended_run(rom: &[u8], store: &mut [u8; STORE_SIZE], budget: u32) -> Ended {
+pub fn ended_run(rom: &[u8], store: &mut [u8], budget: u32) -> Ended {
     let mut work = [0u8; WORK_SIZE];
     let opened = open(rom, &mut work, &mut *store);
     let start = opened.state;

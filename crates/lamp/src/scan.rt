@@ -83,7 +83,7 @@ fn counted(counts: Counts, status: u8) -> Counts {
 }
 
 fn dump_line(
-    text: &mut [u8; TEXT_SIZE],
+    text: &mut [u8],
     csv: bool,
     file: &[u8],
     dump: Dump,
@@ -98,7 +98,7 @@ fn dump_line(
 }
 
 // A ROM that was not run has no tree, and so no name and no model.
-fn refused_line(text: &mut [u8; TEXT_SIZE], csv: bool, file: &[u8], number: u32) -> usize {
+fn refused_line(text: &mut [u8], csv: bool, file: &[u8], number: u32) -> usize {
     let dump = Dump {
         number,
         ran: false,
@@ -108,13 +108,7 @@ fn refused_line(text: &mut [u8; TEXT_SIZE], csv: bool, file: &[u8], number: u32)
 }
 
 // A ROM that passed, run.
-fn passed_line(
-    text: &mut [u8; TEXT_SIZE],
-    store: &[u8],
-    csv: bool,
-    file: &[u8],
-    ended: Ended,
-) -> usize {
+fn passed_line(text: &mut [u8], store: &[u8], csv: bool, file: &[u8], ended: Ended) -> usize {
     let state = ended.state;
     let tree = state.tree;
     let dump = Dump {
@@ -127,7 +121,7 @@ fn passed_line(
     dump_line(&mut *text, csv, file, dump, name, model)
 }
 
-fn lost_dump(text: &mut [u8; TEXT_SIZE], csv: bool, file: &[u8]) -> usize {
+fn lost_dump(text: &mut [u8], csv: bool, file: &[u8]) -> usize {
     if csv {
         lost_csv(&mut *text, 0, file)
     } else {
@@ -202,7 +196,7 @@ fn whole_name(file: &[u8], so: Progress, wish: Wish) -> Progress {
 }
 
 // A byte of the names: a null ends one. Of a name that is too long for any file the start is kept, which is too long as well.
-fn feed(name: &mut [u8; 4096], byte: u8, so: Progress, wish: Wish) -> Progress {
+fn feed(name: &mut [u8], byte: u8, so: Progress, wish: Wish) -> Progress {
     if !so.well {
         return so;
     }
@@ -211,7 +205,7 @@ fn feed(name: &mut [u8; 4096], byte: u8, so: Progress, wish: Wish) -> Progress {
         return whole_name(&name[..n], so, wish);
     }
     let at = so.have;
-    if at < 4096 {
+    if at < name.len() {
         name[at] = byte;
         let mut now = so;
         now.have = at + 1;
@@ -220,7 +214,7 @@ fn feed(name: &mut [u8; 4096], byte: u8, so: Progress, wish: Wish) -> Progress {
     so
 }
 
-fn feed_all(name: &mut [u8; 4096], bytes: &[u8], start: Progress, wish: Wish) -> Progress {
+fn feed_all(name: &mut [u8], bytes: &[u8], start: Progress, wish: Wish) -> Progress {
     let mut so = start;
     let mut k = 0;
     while k < bytes.len() {

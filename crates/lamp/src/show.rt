@@ -81,7 +81,7 @@ fn show_listing(rom: &[u8], budget: u32) -> u8 {
 }
 
 // The lines of a program's tokens, as many at most as there are bytes.
-fn print_pieces(rom: &[u8], text: &mut [u8; TEXT_SIZE]) -> bool {
+fn print_pieces(rom: &[u8], text: &mut [u8]) -> bool {
     let mut at = 0;
     let mut wide = wide_start(rom);
     let mut place = FIRST_PLACE as u32;
@@ -89,7 +89,7 @@ fn print_pieces(rom: &[u8], text: &mut [u8; TEXT_SIZE]) -> bool {
     while k < rom.len() {
         let told = piece_line(&mut *text, at, rom, wide, place);
         if told.next == place {
-            break;
+            return print(&*text, at);
         }
         at = told.end;
         wide = told.wide;
@@ -116,7 +116,7 @@ fn show_tokens(rom: &[u8]) -> u8 {
 }
 
 // A node with its properties, each printed by itself: together they might have no room.
-fn print_node(text: &mut [u8; TEXT_SIZE], store: &[u8], tree: Tree, node: u32) -> bool {
+fn print_node(text: &mut [u8], store: &[u8], tree: Tree, node: u32) -> bool {
     let end = path_line(&mut *text, 0, store, tree, node);
     if !print(&*text, end) {
         return false;
@@ -125,7 +125,7 @@ fn print_node(text: &mut [u8; TEXT_SIZE], store: &[u8], tree: Tree, node: u32) -
     print(&*text, end)
 }
 
-fn print_tree(text: &mut [u8; TEXT_SIZE], store: &[u8], tree: Tree) -> bool {
+fn print_tree(text: &mut [u8], store: &[u8], tree: Tree) -> bool {
     let end = tree_line(&mut *text, 0);
     if !print(&*text, end) {
         return false;
@@ -144,7 +144,7 @@ fn print_tree(text: &mut [u8; TEXT_SIZE], store: &[u8], tree: Tree) -> bool {
 }
 
 // How a run ended, and at which token, unless it finished.
-fn print_end(text: &mut [u8; TEXT_SIZE], rom: &[u8], ended: Ended) -> bool {
+fn print_end(text: &mut [u8], rom: &[u8], ended: Ended) -> bool {
     let end = run_line(&mut *text, 0, ended.number, ended.steps);
     if ended.number == 0 {
         return print(&*text, end);
@@ -155,7 +155,7 @@ fn print_end(text: &mut [u8; TEXT_SIZE], rom: &[u8], ended: Ended) -> bool {
 }
 
 // The header, the verdict, and what the program is made of.
-fn print_head(text: &mut [u8; TEXT_SIZE], rom: &[u8], number: u32) -> bool {
+fn print_head(text: &mut [u8], rom: &[u8], number: u32) -> bool {
     let at = header_lines(&mut *text, 0, rom);
     let at = verdict_line(&mut *text, at, number);
     if check_header(rom) != 0 {
@@ -166,12 +166,7 @@ fn print_head(text: &mut [u8; TEXT_SIZE], rom: &[u8], number: u32) -> bool {
 }
 
 // A ROM with a good header: what its run left, and how it ended.
-fn print_run(
-    text: &mut [u8; TEXT_SIZE],
-    rom: &[u8],
-    store: &mut [u8; STORE_SIZE],
-    ended: Ended,
-) -> bool {
+fn print_run(text: &mut [u8], rom: &[u8], store: &mut [u8], ended: Ended) -> bool {
     let state = ended.state;
     let tree = state.tree;
     if !print_tree(&mut *text, &*store, tree) {

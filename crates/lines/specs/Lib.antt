@@ -19,3 +19,4 @@ pub mod ExplainLaws
 pub mod TokenLaws
 pub mod Examples
 pub mod ScanExamples
+pub mod ExplainExamples
