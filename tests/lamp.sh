@@ -176,7 +176,7 @@ format: 08
 length: 97
 checksum: 1142, as the program'"'"'s bytes add up
 verdict: passes
-program: 26 tokens, all of the list
+program: 25 tokens, all of the list
 tree:
 /
 /scale
@@ -189,7 +189,7 @@ tree:
   tag "abc" 1633837824 = 61626300
   odd = 0102
 /scale/hopper/(node 3)
-run: done, steps 26' '' explain nested.rom
+run: done, steps 25' '' explain nested.rom
 expect 3 "$(printf '%s\n' "$scale_head" | sed 's/^verdict: .*/verdict: refused 28: the budget is spent/')
 tree:
 /
@@ -262,7 +262,7 @@ expect 0 'scale.rom: passes, steps 7, name "scale"
 1 dumps: 1 passed, 0 refused, 0 out of budget, 0 unreadable' '' scan scale.rom
 expect 1 'pallet/-f.rom: refused 21: a divisor is zero, steps 2
 pallet/a board.rom: passes, steps 7, name "scale"
-pallet/b.rom: passes, steps 26, name "scale", model "K-2 "till""
+pallet/b.rom: passes, steps 25, name "scale", model "K-2 "till""
 pallet/c.rom: refused 5: the program'"'"'s bytes do not add up to the checksum
 pallet/d.rom: refused 31: no stack heights can be assigned to the ROM
 pallet/e.rom: refused 28: the budget is spent, steps 100000
@@ -270,7 +270,7 @@ pallet/e.rom: refused 28: the budget is spent, steps 100000
 expect 1 'file,verdict,number,words,steps,name,model
 "pallet/-f.rom",refused,21,"a divisor is zero",2,"",""
 "pallet/a board.rom",passes,0,"",7,"scale",""
-"pallet/b.rom",passes,0,"",26,"scale","K-2 ""till"""
+"pallet/b.rom",passes,0,"",25,"scale","K-2 ""till"""
 "pallet/c.rom",refused,5,"the program'"'"'s bytes do not add up to the checksum",,"",""
 "pallet/d.rom",refused,31,"no stack heights can be assigned to the ROM",,"",""
 "pallet/e.rom",refused,28,"the budget is spent",100000,"",""' '6 dumps: 2 passed, 3 refused, 1 out of budget, 0 unreadable' scan --csv pallet/
