@@ -6,10 +6,9 @@ use native.Mathlib.Omega.{arith}
 use mathlib.Core.Bool.{Bool, true, not, _&&_}
 use mathlib.Core.List.{List, [], _∷_, _++_}
 use mathlib.Core.Path.{_≡_, refl}
-use lib.Dec.{T, ltb, eqb}
-use lib.ListN.{length, getD, drop, take, length-append, length-take}
+use lib.Dec.{T, eqb}
+use lib.ListN.{length, getD, drop, length-append, length-take}
 use lib.Seq.{drop-cons}
-use Rattle.cells.specs.Choice.{pick}
 use Rattle.cells.specs.Facts.{both-hold, is-false}
 use Rattle.cells.specs.Tests.{pick-is}
 use Rattle.rom.specs.Words.{lettersOf}
@@ -41,7 +40,7 @@ same-doubled (b ∷ bs) h = let q = both-hold (not (eqb b 0x22)) (quoteless bs) 
 
 pub words-doubled : (n : ℕ) → doubled (wordsOf n) ≡ wordsOf n
 unfolding wordsOf opening naming moving running other lettersOf
-words-doubled n = same-doubled (wordsOf n) (found (λ k w. quoteless w) numbers [] n tt tt)
+words-doubled n = same-doubled (wordsOf n) (found (λ k w. quoteless (lettersOf w)) numbers "" n tt tt)
 
 -- ---- how long they are
 pub length-plain : (bs : List ℕ) → length (plain bs) ≡ length bs

@@ -11,7 +11,6 @@ use Rattle.lines.specs.Numbers.{opening, naming, moving, running, other,
 use Rattle.lines.specs.Printed.{allPrinted, quoted, isText}
 use Rattle.lines.specs.Verdicts.{reasonOf, verdictOf, stepsPart, scanLine, lostLine, countLine}
 use Rattle.lines.specs.Verdicts.{bareVerdict, bareSteps, foundFields, scanCsv, lostCsv}
-use Rattle.lines.specs.declared.verdicts.Counts.{Counts}
 use Rattle.lines.specs.declared.verdicts.Dump.{Dump}
 
 -- a text with its null
@@ -38,7 +37,7 @@ unfolding numberLine hasWords wordsOf opening naming moving running other letter
 no-such-number = refl
 
 past-the-table : wordsOf 32 ≡ []
-unfolding wordsOf opening naming moving running other
+unfolding wordsOf opening naming moving running other lettersOf
 past-the-table = refl
 
 -- a number without words is a verdict of its own

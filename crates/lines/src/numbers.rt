@@ -1,7 +1,7 @@
 // The refusals' numbers, in words. The table is cut into five, since the proof of one `match` takes several times as long.
-ghost use mathlib.Core.List.{[]};
 ghost use mathlib.Core.Path.{_≡_};
 ghost use Rattle.cells.specs.Choice.{find};
+ghost use Rattle.rom.specs.Words.{lettersOf};
 ghost use Rattle.lines.specs.Numbers.{opening, naming, moving, running, other, wordsOf, hasWords, numberLine};
 ghost use Rattle.lines.specs.Wrote.{Wrote};
 use crate::digits::decimal;
@@ -9,7 +9,7 @@ use crate::words::letter;
 use crate::words::say;
 
 fn opening_words(text: &mut [u8], at: usize, number: u32) -> usize
-    ensures { λ r. ⌜ Wrote (now (text .entry)) (now (text .exit)) at r (find opening [] number) ⌝ }
+    ensures { λ r. ⌜ Wrote (now (text .entry)) (now (text .exit)) at r (lettersOf (find opening "" number)) ⌝ }
 {
     match number {
         1 => say(
@@ -36,7 +36,7 @@ fn opening_words(text: &mut [u8], at: usize, number: u32) -> usize
 }
 
 fn naming_words(text: &mut [u8], at: usize, number: u32) -> usize
-    ensures { λ r. ⌜ Wrote (now (text .entry)) (now (text .exit)) at r (find naming [] number) ⌝ }
+    ensures { λ r. ⌜ Wrote (now (text .entry)) (now (text .exit)) at r (lettersOf (find naming "" number)) ⌝ }
 {
     match number {
         10 => say(text, at, b"a token's bytes pass the program length"),
@@ -60,7 +60,7 @@ fn naming_words(text: &mut [u8], at: usize, number: u32) -> usize
 }
 
 fn moving_words(text: &mut [u8], at: usize, number: u32) -> usize
-    ensures { λ r. ⌜ Wrote (now (text .entry)) (now (text .exit)) at r (find moving [] number) ⌝ }
+    ensures { λ r. ⌜ Wrote (now (text .entry)) (now (text .exit)) at r (lettersOf (find moving "" number)) ⌝ }
 {
     match number {
         14 => say(text, at, b"the data stack is too low"),
@@ -83,7 +83,7 @@ fn moving_words(text: &mut [u8], at: usize, number: u32) -> usize
 }
 
 fn running_words(text: &mut [u8], at: usize, number: u32) -> usize
-    ensures { λ r. ⌜ Wrote (now (text .entry)) (now (text .exit)) at r (find running [] number) ⌝ }
+    ensures { λ r. ⌜ Wrote (now (text .entry)) (now (text .exit)) at r (lettersOf (find running "" number)) ⌝ }
 {
     match number {
         21 => say(text, at, b"a divisor is zero"),
@@ -110,7 +110,7 @@ fn running_words(text: &mut [u8], at: usize, number: u32) -> usize
 }
 
 fn other_words(text: &mut [u8], at: usize, number: u32) -> usize
-    ensures { λ r. ⌜ Wrote (now (text .entry)) (now (text .exit)) at r (find other [] number) ⌝ }
+    ensures { λ r. ⌜ Wrote (now (text .entry)) (now (text .exit)) at r (lettersOf (find other "" number)) ⌝ }
 {
     match number {
         28 => say(text, at, b"the budget is spent"),

@@ -1,10 +1,9 @@
 use Prim.Native.Nat.{_+_, _-_, _≤_}
-use mathlib.Core.List.{[], _∷_}
 use lib.ListN.{length, getD, drop}
 use denote.Ref.{now}
 use borrow.Author.Needs.{needs}
 use Rattle.lines.specs.FieldLaws.{each-more, each-none}
-use Rattle.lines.specs.Fields.{eachAs, doubled, doubledByte}
+use Rattle.lines.specs.Fields.{doubled, doubledByte}
 use Rattle.lines.specs.Wrote.{Ahead, ahead-all, ahead-on, ahead-none}
 use Rattle.lines.proofs.fields.doubled.Statement.{statement}
 use Rattle.lines.proofs.fields.doubled.Tie as tie

@@ -4,7 +4,7 @@ use lib.ListN.{length, getD, drop}
 use denote.Ref.{now}
 use borrow.Author.Needs.{needs}
 use Rattle.lines.specs.FieldLaws.{each-more, each-none}
-use Rattle.lines.specs.Fields.{eachAs, plain, plainByte}
+use Rattle.lines.specs.Fields.{plain, plainByte}
 use Rattle.lines.specs.Wrote.{Ahead, ahead-all, ahead-on, ahead-none}
 use Rattle.lines.proofs.fields.plain.Statement.{statement}
 use Rattle.lines.proofs.fields.plain.Tie as tie

@@ -1,4 +1,3 @@
-use mathlib.Core.List.{[]}
 use mathlib.Core.Path.{refl}
 use Rattle.cells.specs.Tests.{find-none}
 use Rattle.rom.specs.Words.{lettersOf}
@@ -40,4 +39,4 @@ moving-words-spec =
     (λ c. rw (c .before .before .before .before .before .match .keys6) (c .before .before .say6 .ensures))
     (λ c. length-wrote (c .before .before .say7 .ensures))
     (λ c. rw (c .before .before .before .before .before .match .keys7) (c .before .before .say7 .ensures))
-    (λ c. rw (find-none (Unit {0}) moving [] (c .before .before .args .number) (c .match .rest)) wrote-none))
+    (λ c. rw (find-none (Unit {0}) moving "" (c .before .before .args .number) (c .match .rest)) wrote-none))

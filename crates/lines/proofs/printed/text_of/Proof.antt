@@ -1,5 +1,4 @@
 use native.Mathlib.Omega.{arith}
-use mathlib.Core.Path.{sym, _∙_}
 use lib.ListN.{length-take}
 use denote.Ref.{now}
 use borrow.Author.Needs.{needs}
