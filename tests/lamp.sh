@@ -1,7 +1,7 @@
 #!/bin/sh
-# Runs ./lamp as a person would, with the program that is proved and built: good ROMs, refused ones, budgets, token lists, explanations, folders of dumps, and
-# files that are no ROM at all. Each `expect` below says the exit status, what must be printed, what must be said on standard error, and what is asked. What the
-# door does before the program starts is tested by tests/door.sh.
+# Runs ./lamp as a person would, with the program that is proved and built: good ROMs, refused ones, budgets, token lists, explanations,
+# folders of dumps, and files that are no ROM at all. Each `expect` below says the exit status, what must be printed, what must be said on
+# standard error, and what is asked. What the door does before the program starts is tested by tests/door.sh.
 set -u
 here=$(cd "$(dirname "$0")/.." && pwd -P)
 room=$(mktemp -d)
@@ -51,8 +51,8 @@ bytes FD0801120000000B13FF00 >"$room/circles.rom"
 # a property "refused" in a run that finishes, and one "done" in a run that divides by zero
 bytes FD08032A000000161200120772656675736564011000 >"$room/refused.rom"
 bytes FD0803550000001612001204646F6E650110A6A52B00 >"$room/done.rom"
-# a name, a model with quotes in it, a number; below the board a node "hopper" with an empty value, text of four bytes and other bytes, and below that a
-# node without a name
+# a name, a model with quotes in it, a number; below the board a node "hopper" with an empty value, text of four bytes and other bytes, and
+# below that a node without a name
 nested=12057363616C650201120A4B2D32202274696C6C220119A8011112056C616E65730110011F1206686F7070657202011200
 nested=${nested}1204666C6167011012036162630114120374616701101202010212036F64640110011F0127012700
 bytes "FD08114200000061$nested" >"$room/nested.rom"
@@ -273,7 +273,8 @@ expect 1 'file,verdict,number,words,steps,name,model
 "pallet/b.rom",passes,0,"",25,"scale","K-2 ""till"""
 "pallet/c.rom",refused,5,"the program'"'"'s bytes do not add up to the checksum",,"",""
 "pallet/d.rom",refused,31,"no stack heights can be assigned to the ROM",,"",""
-"pallet/e.rom",refused,28,"the budget is spent",100000,"",""' '6 dumps: 2 passed, 3 refused, 1 out of budget, 0 unreadable' scan --csv pallet/
+"pallet/e.rom",refused,28,"the budget is spent",100000,"",""' \
+    '6 dumps: 2 passed, 3 refused, 1 out of budget, 0 unreadable' scan --csv pallet/
 expect 3 'scale.rom: refused 28: the budget is spent, steps 3, name "scale"
 circles.rom: refused 28: the budget is spent, steps 3
 2 dumps: 0 passed, 0 refused, 2 out of budget, 0 unreadable' '' scan --budget 3 scale.rom circles.rom
@@ -319,7 +320,8 @@ mkfifo "$room/slow.rom"
 ) &
 expect 2 'slow.rom: passes, steps 7, name "scale"
 sixty/board 69.rom: unreadable
-2 dumps: 1 passed, 0 refused, 0 out of budget, 1 unreadable' 'sixty/board 69.rom: No such file or directory' scan slow.rom 'sixty/board 69.rom'
+2 dumps: 1 passed, 0 refused, 0 out of budget, 1 unreadable' 'sixty/board 69.rom: No such file or directory' \
+    scan slow.rom 'sixty/board 69.rom'
 wait
 
 # check NAME WORD..: that a command of this test holds
@@ -335,7 +337,10 @@ check() {
 }
 
 # ---- standard output closed early: nothing is said but what came through, and nobody waits for ever
-first() { [ "$("$here/lamp" scan "$room/sixty" 2>"$room/said" | head -n 1)" = "$room/sixty/board 10.rom: passes, steps 7, name \"scale\"" ] && [ ! -s "$room/said" ]; }
+first() {
+    line=$("$here/lamp" scan "$room/sixty" 2>"$room/said" | head -n 1)
+    [ "$line" = "$room/sixty/board 10.rom: passes, steps 7, name \"scale\"" ] && [ ! -s "$room/said" ]
+}
 check 'the first line alone' first
 
 # ---- a board's words cannot reach a terminal: a node's name and a model that are no text are not shown as text
@@ -350,9 +355,10 @@ same_numbers() { [ "$(numbers)" = "$(readme_numbers)" ] && [ "$(numbers | wc -l)
 check 'README.md has the words of ./lamp numbers' same_numbers
 
 # ---- as another user, who may read and not write
-if [ "$(id -u)" = 0 ] && command -v setpriv >/dev/null && setpriv --reuid=65534 --regid=65534 --clear-groups cat "$here/README.md" >/dev/null 2>&1; then
+as_other() { setpriv --reuid=65534 --regid=65534 --clear-groups "$@"; }
+if [ "$(id -u)" = 0 ] && command -v setpriv >/dev/null && as_other cat "$here/README.md" >/dev/null 2>&1; then
     chmod a+rx "$room" && chmod a+r "$room/scale.rom"
-    other() { [ "$(setpriv --reuid=65534 --regid=65534 --clear-groups "$here/lamp" "$room/scale.rom" 2>&1)" = "$board" ]; }
+    other() { [ "$(as_other "$here/lamp" "$room/scale.rom" 2>&1)" = "$board" ]; }
     check 'another user gets the listing' other
 else
     echo 'tests/lamp.sh: no other user here who may read the project, so that none was tried'
