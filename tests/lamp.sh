@@ -343,6 +343,16 @@ first() {
 }
 check 'the first line alone' first
 
+# ---- progress, told to a terminal that does not see the lines, and to nothing else
+if command -v script >/dev/null; then
+    at_terminal() { script -qec "'$here/lamp' scan '$room/sixty' >'$room/lines'" /dev/null | tr '\r' '\n' | grep -qx '59 dumps'; }
+    check 'a terminal is told how far it is' at_terminal
+    quiet() { script -qec "'$here/lamp' scan '$room/sixty'" /dev/null | tr '\r' '\n' | grep -qx '59 dumps'; }
+    check 'a terminal that sees the lines is told nothing else' eval '! quiet'
+else
+    echo 'tests/lamp.sh: no script(1) here, so that no terminal was tried'
+fi
+
 # ---- a board's words cannot reach a terminal: a node's name and a model that are no text are not shown as text
 bytes FD080326000000141203611B620201120361006201190000 >"$room/escape.rom"
 plain() { ! "$here/lamp" explain "$room/escape.rom" | tr -d '\n\040-\176' | grep -q .; }
