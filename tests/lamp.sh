@@ -360,7 +360,7 @@ check 'letters and line ends only' plain
 
 # ---- the numbers: one table of words, the same in the program and in README.md
 numbers() { "$here/lamp" numbers; }
-readme_numbers() { sed -n 's/^| \([0-9][0-9]*\) | \(.*\) |$/\1 \2/p' "$here/README.md"; }
+readme_numbers() { sed -n '/^## The numbers/,/^## How/s/^| \([0-9][0-9]*\) | \(.*\) |$/\1 \2/p' "$here/README.md"; }
 same_numbers() { [ "$(numbers)" = "$(readme_numbers)" ] && [ "$(numbers | wc -l)" = 29 ]; }
 check 'README.md has the words of ./lamp numbers' same_numbers
 
