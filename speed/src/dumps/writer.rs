@@ -452,8 +452,9 @@ impl Writer {
         if self.properties >= 120 || self.work > 12_000 || self.store > 12_000 || self.height > 40 {
             return;
         }
-        let (many, once) = if self.nested == 0 && !self.within { (1, 1) } else { (0, 0) };
-        self.properties += many;
+        // whether it runs once: in a loop or a body nothing is known of how often it does
+        let once = usize::from(self.nested == 0 && !self.within);
+        self.properties += once;
         let title = draw.chance(1, 8);
         if title {
             let text = self.printed(draw, 20);
@@ -462,7 +463,7 @@ impl Writer {
             self.double(*draw.one(&[0x201, 0x119, 0x11A]), 2, 0);
             return;
         }
-        // in a loop or a body nothing is known of how often it runs: no work memory is used there
+        // what may run often uses no work memory
         let sort = if once == 1 { draw.below(4) } else { 3 };
         let mut size = 0;
         match sort {
@@ -513,7 +514,8 @@ impl Writer {
                 }
             },
         }
-        let name = self.name(draw);
+        // what may run often writes the same few names again
+        let name = if once == 1 { self.name(draw) } else { draw.one(&NAMES).as_bytes().to_vec() };
         self.store += (size + name.len()) * once;
         self.text(&name);
         self.double(0x110, 4, 0);
