@@ -1,6 +1,6 @@
-/* compare FILE: calls the library on each ROM of a file that `dumps answers` wrote, and compares all that it answers and leaves in memory with the peer's:
- * fcode_check, fcode_screen with its marks, fcode_run with its steps, work memory and store. Exits 1 where anything differs. The ROMs that do are written
- * beside FILE. */
+/* compare FILE: calls the library on each ROM of a file that `dumps answers` wrote, and compares all that it answers and leaves in memory with
+ * the peer's: fcode_check, fcode_screen with its marks, fcode_run with its steps, work memory and store. Exits 1 where anything differs. The
+ * ROMs that do are written beside FILE. */
 #include <stdio.h>
 #include <stdlib.h>
 #include <string.h>
@@ -102,9 +102,9 @@ int main(int count, char **words) {
         different++;
         if (SHOWN < different)
             continue;
-        printf("ROM %u, budget %u, library and peer: check %u %u, screen %u %u, run %u %u, steps %u %u%s%s%s\n", i, budget, check_here, check,
-               screen_here, screen, run_here, run, steps_here, steps, same_marks ? "" : ", marks differ", same_work ? "" : ", work memory differs",
-               same_store ? "" : ", store differs");
+        printf("ROM %u, budget %u, library and peer: check %u %u, screen %u %u, run %u %u, steps %u %u%s%s%s\n", i, budget, check_here,
+               check, screen_here, screen, run_here, run, steps_here, steps, same_marks ? "" : ", marks differ",
+               same_work ? "" : ", work memory differs", same_store ? "" : ", store differs");
         keep(i, rom, length);
     }
     printf("%u ROMs compared, %u different\n", roms, different);

@@ -1,10 +1,12 @@
 /* Library and peer on the dumps that `dumps timed` wrote, budget 100,000.
  *
- *     times FILE [ROUNDS]                      compares the answers, and prints the medians of the time that each kind takes, and their ratio
- *     times FILE count SIDE JOB KIND MANY      calls one side (library, peer) for one job (screen, run) on so many dumps of one kind, once: for callgrind
+ *     times FILE [ROUNDS]
+ *         compares the answers, and prints the medians of the time that each kind takes, and their ratio
+ *     times FILE count SIDE JOB KIND MANY
+ *         calls one side (library, peer) for one job (screen, run) on so many dumps of one kind, once each: for callgrind
  *
- * Times are those of the thread. A round calls the library and the peer in turn on each dump; before each call all buffers are cleared by the same memset.
- * A dump's time is the median of its rounds, a kind's the median of its dumps. */
+ * Times are those of the thread. A round calls the library and the peer in turn on each dump; before each call all buffers are cleared by the
+ * same memset. A dump's time is the median of its rounds, a kind's the median of its dumps. What the clock itself takes is taken off. */
 #define _POSIX_C_SOURCE 200809L
 #include <stdio.h>
 #include <stdlib.h>
@@ -13,9 +15,9 @@
 
 #include "fcode.h"
 
-uint32_t peer_check(const uint8_t *rom, size_t rom_len);
 uint32_t peer_screen(const uint8_t *rom, size_t rom_len, uint8_t *marks, size_t marks_len);
-uint32_t peer_run(const uint8_t *rom, size_t rom_len, uint8_t *work, size_t work_len, uint8_t *store, size_t store_len, uint32_t budget, uint32_t *steps);
+uint32_t peer_run(const uint8_t *rom, size_t rom_len, uint8_t *work, size_t work_len, uint8_t *store, size_t store_len, uint32_t budget,
+                  uint32_t *steps);
 
 #define BUDGET 100000
 #define SIZE 16384
@@ -137,8 +139,8 @@ static void compare(void) {
             all_steps += count;
             bytes += d->length;
         }
-        printf("%-9s %3u dumps, %6.0f bytes and %6.0f steps on average; %u pass the screen, %u finish, %u spend the budget\n", kinds[k].name, kinds[k].count,
-               bytes / kinds[k].count, all_steps / kinds[k].count, passed, finished, spent);
+        printf("%-9s %3u dumps, %6.0f bytes and %6.0f steps on average; %u pass the screen, %u finish, %u spend the budget\n", kinds[k].name,
+               kinds[k].count, bytes / kinds[k].count, all_steps / kinds[k].count, passed, finished, spent);
     }
 }
 
@@ -232,7 +234,10 @@ static void time_all(uint32_t rounds) {
     }
     printf("\nmedians in microseconds, %u rounds; 'worst' is the highest ratio of a single dump\n", rounds);
     printf("%-9s | %-38s | %-38s\n", "", "screen", "run");
-    printf("%-9s | %10s %10s %7s %8s | %10s %10s %7s %8s\n", "kind", "library", "peer", "ratio", "worst", "library", "peer", "ratio", "worst");
+    printf("%-9s", "kind");
+    for (int job = 0; job < JOBS; job++)
+        printf(" | %10s %10s %7s %8s", "library", "peer", "ratio", "worst");
+    printf("\n");
     for (uint32_t k = 0; k < kind_count; k++)
         show(&kinds[k], idle);
     show_sum(idle);

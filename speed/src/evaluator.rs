@@ -89,7 +89,7 @@ impl<'a> Evaluator<'a> {
             base: 0,
             frames: [Frame { place: 0, base: 0, wide: false }; FRAMES_MOST],
             calls: 0,
-            numbers: Numbers::new(Defined { kind: Kind::Fixed, wide: false, value: 0 }),
+            numbers: Numbers::new(),
             work,
             work_place: 0,
             tree: Tree::new(store),

@@ -95,13 +95,7 @@ pub fn screen(rom: &[u8], marks: &mut [u8]) -> u32 {
 
 impl<'a> Screener<'a> {
     fn new(program: Program<'a>) -> Self {
-        let nothing = Sum { is_value: false, need: 0, out: 0, peak: 0, return_peak: 0, frames: 0 };
-        Screener {
-            program: program.bytes,
-            heights: vec![UNMET; program.bytes.len()],
-            waiting: Vec::new(),
-            numbers: Numbers::new(nothing),
-        }
+        Screener { program: program.bytes, heights: vec![UNMET; program.bytes.len()], waiting: Vec::new(), numbers: Numbers::new() }
     }
 
     /// All rounds; none where a rule is not met, as in every method here.

@@ -220,11 +220,7 @@ pub fn token_at(program: &[u8], wide: bool, place: usize) -> Option<Token> {
 /// Where the offset at a place leads: none for outside 8..length-1. The offset counts from its own first byte, all its bytes are there.
 #[inline(always)]
 pub fn aim_at(program: &[u8], wide: bool, at: usize) -> Option<usize> {
-    let offset = if wide {
-        isize::from(i16::from_be_bytes([program[at], program[at + 1]]))
-    } else {
-        isize::from(program[at] as i8)
-    };
+    let offset = if wide { isize::from(i16::from_be_bytes([program[at], program[at + 1]])) } else { isize::from(program[at] as i8) };
     let aim = (at as isize + offset) as usize;
     // what would lie before the ROM is a large number here
     if aim >= crate::FIRST_PLACE && aim < program.len() {

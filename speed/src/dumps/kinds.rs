@@ -25,8 +25,20 @@ pub fn dump(kind: &str, draw: &mut Draw, index: usize) -> Vec<u8> {
     }
 }
 
-const QUIET: Taste =
-    Taste { reckon: 0, shuffle: 0, branch: 0, turns: 0, call: 0, memory: 0, text: 0, property: 0, define: 0, device: 0, returns: 0, risk: 0 };
+const QUIET: Taste = Taste {
+    reckon: 0,
+    shuffle: 0,
+    branch: 0,
+    turns: 0,
+    call: 0,
+    memory: 0,
+    text: 0,
+    property: 0,
+    define: 0,
+    device: 0,
+    returns: 0,
+    risk: 0,
+};
 const COMPUTE: Taste = Taste { reckon: 60, shuffle: 30, branch: 6, returns: 3, ..QUIET };
 const CALLS: Taste = Taste { reckon: 20, shuffle: 10, branch: 4, call: 60, returns: 2, ..QUIET };
 const MEMORY: Taste = Taste { reckon: 15, shuffle: 10, branch: 3, memory: 60, ..QUIET };
@@ -282,7 +294,6 @@ fn large_values(draw: &mut Draw) -> Vec<u8> {
         writer.text(name);
         writer.double(0x110, 4, 0);
     }
-    let mut writer = writer;
     for _ in 0..40 {
         writer.text(b"x");
         writer.double(0x201, 2, 0);

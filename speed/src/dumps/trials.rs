@@ -167,7 +167,7 @@ fn limits(draw: &mut Draw) -> Vec<u8> {
         5 => {
             for number in 0..near(draw, 128) {
                 let name = format!("p{number}");
-                bytes.extend([0xA5, 0x49, 0xA5, 0x10, 0x20, 0x00, 0x00, 0x00, 0x49, 0x12, name.len() as u8][2..].iter());
+                bytes.extend([0xA5, 0x10, 0x20, 0x00, 0x00, 0x00, 0x49, 0x12, name.len() as u8]);
                 bytes.extend(name.bytes());
                 bytes.extend([0x01, 0x10]);
             }

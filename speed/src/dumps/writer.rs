@@ -137,7 +137,6 @@ impl Writer {
         self.height - self.floor
     }
 
-
     fn can_define(&self) -> bool {
         !self.within && self.nested == 0 && self.numbers.len() < 250
     }
@@ -258,14 +257,14 @@ impl Writer {
         let floor = self.floor;
         let kept = draw.chance(1, 4) && self.returns < 6;
         if kept {
-            self.to_return();
+            self.push_return();
         } else if draw.below(1000) >= taste.risk {
             self.floor = self.height;
         }
         self.block(draw, taste, statements);
         self.floor = floor;
         if kept {
-            self.from_return();
+            self.pop_return();
         }
         self.token(0xA6, 0, 1);
         self.token(0x1F, 2, 1);
@@ -283,13 +282,13 @@ impl Writer {
         }
     }
 
-    fn to_return(&mut self) {
+    fn push_return(&mut self) {
         self.token(0x30, 1, 0);
         self.returns += 1;
         self.return_peak = self.return_peak.max(self.returns);
     }
 
-    fn from_return(&mut self) {
+    fn pop_return(&mut self) {
         self.token(0x31, 0, 1);
         self.returns -= 1;
     }
@@ -307,7 +306,8 @@ impl Writer {
             }
             6..=8 if self.free() >= 2 => {
                 let twos = [
-                    0x1E, 0x1F, 0x20, 0x23, 0x24, 0x25, 0x27, 0x28, 0x29, 0x2E, 0x2F, 0x3A, 0x3B, 0x3C, 0x3D, 0x3E, 0x3F, 0x40, 0x41, 0x42, 0x43,
+                    0x1E, 0x1F, 0x20, 0x23, 0x24, 0x25, 0x27, 0x28, 0x29, 0x2E, 0x2F, 0x3A, 0x3B, 0x3C, 0x3D, 0x3E, 0x3F, 0x40, 0x41, 0x42,
+                    0x43,
                 ];
                 self.token(*draw.one(&twos), 2, 1);
             }
@@ -738,13 +738,13 @@ impl Writer {
             },
             9 => self.device(draw),
             _ => {
-                self.to_return();
+                self.push_return();
                 self.block(draw, taste, 1);
                 if draw.chance(1, 4) {
                     self.token(0x32, 0, 1);
                     self.token(0x46, 1, 0);
                 }
-                self.from_return();
+                self.pop_return();
             }
         }
         if self.height > HEIGHT_MOST {
