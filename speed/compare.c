@@ -1,6 +1,6 @@
-/* compare FILE: calls the library on each ROM of a file that `dumps answers` wrote, and compares all that it answers and leaves in memory with
- * the peer's: fcode_check, fcode_screen with its marks, fcode_run with its steps, work memory and store. Exits 1 where anything differs. The
- * ROMs that do are written beside FILE. */
+/* compare FILE: calls the library on each ROM of a file that `dumps answers` wrote, and compares all that it answers and leaves in memory
+ * with the peer's: fcode_check, fcode_screen with its marks, fcode_run with its steps, work memory and store. Exits 1 where anything
+ * differs. The ROMs that do are written beside FILE. */
 #include <stdio.h>
 #include <stdlib.h>
 #include <string.h>

@@ -5,8 +5,8 @@
  *     times FILE count SIDE JOB KIND MANY
  *         calls one side (library, peer) for one job (screen, run) on so many dumps of one kind, once each: for callgrind
  *
- * Times are those of the thread. A round calls the library and the peer in turn on each dump; before each call all buffers are cleared by the
- * same memset. A dump's time is the median of its rounds, a kind's the median of its dumps. What the clock itself takes is taken off. */
+ * Times are those of the thread. A round calls the library and the peer in turn on each dump; before each call all buffers are cleared by
+ * the same memset. A dump's time is the median of its rounds, a kind's the median of its dumps. What the clock takes is taken off. */
 #define _POSIX_C_SOURCE 200809L
 #include <stdio.h>
 #include <stdlib.h>
@@ -139,8 +139,8 @@ static void compare(void) {
             all_steps += count;
             bytes += d->length;
         }
-        printf("%-9s %3u dumps, %6.0f bytes and %6.0f steps on average; %u pass the screen, %u finish, %u spend the budget\n", kinds[k].name,
-               kinds[k].count, bytes / kinds[k].count, all_steps / kinds[k].count, passed, finished, spent);
+        printf("%-9s %3u dumps, %6.0f bytes and %6.0f steps on average; %u pass the screen, %u finish, %u spend the budget\n",
+               kinds[k].name, kinds[k].count, bytes / kinds[k].count, all_steps / kinds[k].count, passed, finished, spent);
     }
 }
 
