@@ -8,6 +8,7 @@
 mod damage;
 mod draw;
 mod kinds;
+mod knots;
 mod trials;
 mod writer;
 

@@ -1,7 +1,9 @@
-//! ROMs for the comparison: random programs, the same damaged, tokens in any order, any bytes, odd headers, and programs at the limits.
+//! ROMs for the comparison: random programs, the same damaged, knots of branches, tokens in any order, any bytes, odd headers, and programs
+//! at the limits.
 
 use crate::damage;
 use crate::draw::Draw;
+use crate::knots;
 use crate::writer::{with_header, Kind, Taste, Writer, MIXED};
 use peer::SIZE;
 
@@ -39,8 +41,8 @@ fn ends(rom: &[u8]) -> bool {
 
 fn rom(draw: &mut Draw) -> Vec<u8> {
     match draw.below(100) {
-        0..=34 => program(draw),
-        35..=69 => {
+        0..=27 => program(draw),
+        28..=54 => {
             let mut rom = program(draw);
             let times = draw.between(1, 3);
             for _ in 0..times {
@@ -51,7 +53,8 @@ fn rom(draw: &mut Draw) -> Vec<u8> {
             }
             rom
         }
-        70..=80 => tokens(draw),
+        55..=71 => knots::knot(draw),
+        72..=80 => tokens(draw),
         81..=83 => {
             let count = draw.between(1, 60);
             let bytes: Vec<u8> = (0..count).map(|_| draw.byte()).collect();
