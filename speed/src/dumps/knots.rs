@@ -85,6 +85,7 @@ impl Knot {
             9 if within => self.token(&[0x33]),
             9 if draw.chance(1, 4) => self.token(&[*draw.one(&[0x00, 0xFF])]),
             10 if draw.chance(1, 20) => self.token(&[*draw.one(&[0x33, 0xC2, 0xB7, 0xB9, 0x00, 0x4E, 0x11, 0xA6, 0x46])]),
+            11 if draw.chance(1, 4) && !self.defined.is_empty() => self.overlap(draw),
             _ => {
                 if draw.chance(1, 30) || self.defined.is_empty() {
                     let number = *draw.one(&NUMBERS);
@@ -97,7 +98,22 @@ impl Knot {
         }
     }
 
-    /// A body that leaves the heights as they were, or rarely one cell more.
+    /// A call, and a branch into it: the one is met first or the other.
+    fn overlap(&mut self, draw: &mut Draw) {
+        let number = *draw.one(&self.defined);
+        let into = draw.below(2) as u8;
+        self.token(&[0xA5]);
+        if self.wide {
+            self.token(&[0x14, 0x00, 5 + into]);
+            self.token(&[0x13, 0x00, 3 - into]);
+        } else {
+            self.token(&[0x14, 3 + into]);
+            self.token(&[0x13, 2 - into]);
+        }
+        self.token(&number);
+    }
+
+    /// A body that leaves the heights as they were, or rarely one cell more on a stack.
     fn define(&mut self, draw: &mut Draw) {
         let number = *draw.one(&NUMBERS);
         if self.defined.contains(&number) && !draw.chance(1, 12) {
@@ -112,8 +128,11 @@ impl Knot {
         for _ in 0..draw.below(6) {
             self.neutral(draw, true);
         }
-        if draw.chance(1, 20) {
+        if draw.chance(1, 12) {
             self.token(&[0xA6]);
+            if draw.chance(1, 2) {
+                self.token(&[0x30]);
+            }
         }
         self.token(&[0xC2]);
         self.defined.push(number);

@@ -249,7 +249,7 @@ fn spaces(draw: &mut Draw) -> Vec<u8> {
     for _ in 0..draw.between(1, 12) {
         let mut name = writer.name(draw);
         if draw.chance(1, 6) {
-            name[0] = draw.byte();
+            name[0] = if draw.chance(1, 2) { draw.byte() } else { *draw.one(b" !@AZ[\\]^_`az{~\x7F/:.0") };
         }
         if draw.chance(1, 12) {
             name.resize(draw.between(30, 33), b'x');
