@@ -7,7 +7,7 @@ mod header;
 pub mod host;
 mod numbers;
 mod screener;
-pub mod tokens;
+mod tokens;
 mod tree;
 
 pub use evaluator::run;

@@ -173,25 +173,17 @@ fn zigzag(size: usize) -> Vec<u8> {
     with_header(&bytes, true)
 }
 
-/// Nothing but choices, each to the end of the program or to its front.
+/// Nothing but choices, each to the end of the program or to its front, and there a branch to the front.
 fn every_choice(size: usize) -> Vec<u8> {
+    let end = (size as isize - 16) / 4 * 4;
     let mut bytes = Vec::new();
-    while bytes.len() + 8 < size {
+    for at in (0..end).step_by(4) {
+        let to = if at % 3 == 0 { 0 } else { end };
         bytes.extend([0xA6, 0x14]);
-        let to = if bytes.len() % 3 == 0 { 0 } else { size as isize };
-        bytes.extend(((to - bytes.len() as isize) as i16).to_be_bytes());
+        bytes.extend(((to - at - 2) as i16).to_be_bytes());
     }
-    let end = bytes.len() as isize;
-    for at in (0..bytes.len()).step_by(4) {
-        let offset = i16::from_be_bytes([bytes[at + 2], bytes[at + 3]]);
-        if offset > 0 {
-            let offset = (end - at as isize - 2) as i16;
-            bytes[at + 2..at + 4].copy_from_slice(&offset.to_be_bytes());
-        }
-    }
-    bytes.extend([0x13, 0x00, 0x00]);
-    let at = bytes.len() - 2;
-    bytes[at..].copy_from_slice(&(-(at as i16)).to_be_bytes());
+    bytes.push(0x13);
+    bytes.extend(((-end - 1) as i16).to_be_bytes());
     with_header(&bytes, true)
 }
 
