@@ -1,0 +1,65 @@
+//! What happens to dumps: bytes changed, taken out, put in or cut off, and headers that are wrong.
+
+use crate::draw::Draw;
+
+/// One change somewhere behind the header.
+pub fn change(draw: &mut Draw, rom: &mut Vec<u8>) {
+    if rom.len() < 10 {
+        return;
+    }
+    let at = draw.between(8, rom.len() - 1);
+    match draw.below(8) {
+        0..=2 => rom[at] = draw.byte(),
+        3 => rom[at] = *draw.one(&TOKENS),
+        4 => rom[at] = rom[at].wrapping_add(if draw.chance(1, 2) { 1 } else { 0xFF }),
+        5 => {
+            rom.remove(at);
+        }
+        6 => rom.insert(at, if draw.chance(1, 2) { draw.byte() } else { *draw.one(&TOKENS) }),
+        _ => rom.truncate(at),
+    }
+}
+
+/// Bytes that stand for a token of the list, so that many changes are read on behind them.
+pub const TOKENS: [u8; 40] = [
+    0x00, 0x10, 0x12, 0x13, 0x14, 0x1E, 0x1F, 0x23, 0x2B, 0x30, 0x31, 0x32, 0x33, 0x34, 0x3C, 0x45, 0x46, 0x47, 0x48, 0x49, 0x4A, 0x4E,
+    0x4F, 0x50, 0x52, 0x53, 0x56, 0x6D, 0x72, 0x7B, 0xA4, 0xA6, 0xB5, 0xB6, 0xB7, 0xC2, 0xC3, 0xCA, 0xCC, 0xFF,
+];
+
+/// Length and sum as they must be for the bytes that are there.
+pub fn mend(rom: &mut [u8]) {
+    if rom.len() < 9 {
+        return;
+    }
+    let length = rom.len() as u32;
+    rom[4..8].copy_from_slice(&length.to_be_bytes());
+    let sum = rom[8..].iter().fold(0u16, |sum, byte| sum.wrapping_add(u16::from(*byte)));
+    rom[2..4].copy_from_slice(&sum.to_be_bytes());
+}
+
+/// A header that is wrong somewhere, or a ROM of an odd size.
+pub fn spoil_header(draw: &mut Draw, rom: &mut Vec<u8>) {
+    match draw.below(8) {
+        0 => rom[0] = *draw.one(&[0xF0, 0xF1, 0xF2, 0xF3, 0xFD, 0x00]),
+        1 => rom[1] = draw.byte(),
+        2 => rom[3] = rom[3].wrapping_add(1),
+        3 => rom[7] = draw.byte(),
+        4 => rom[4] = draw.byte(),
+        5 => rom.truncate(draw.below(12)),
+        6 => {
+            // bytes behind the program have no effect, up to the largest ROM
+            let size = *draw.one(&[16_383, 16_384, 16_385, 500]);
+            let filler = draw.byte();
+            if rom.len() < size {
+                rom.resize(size, filler);
+            }
+        }
+        _ => {
+            rom.truncate(9);
+            let length = draw.between(7, 10) as u32;
+            if rom.len() == 9 {
+                rom[4..8].copy_from_slice(&length.to_be_bytes());
+            }
+        }
+    }
+}
