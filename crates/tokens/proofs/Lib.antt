@@ -3,3 +3,4 @@ pub mod Lookup
 pub mod Names
 pub mod Codes
 pub mod Wholes
+pub mod Glances
