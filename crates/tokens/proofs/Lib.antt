@@ -4,3 +4,4 @@ pub mod Names
 pub mod Codes
 pub mod Wholes
 pub mod Glances
+pub mod Bodies

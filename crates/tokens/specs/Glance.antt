@@ -1,21 +1,25 @@
 -- A token at a glance: what a loop asks of a token, in plain numbers. Code 0 is what is cut off, or not in the list, or badly formed, and says no more;
 -- why, is `readOf`'s to say. Assumes nothing.
 use Prim.Native.Nat.{ℕ, _+_}
-use mathlib.Core.Bool.{Bool, _&&_}
+use mathlib.Core.Bool.{Bool, false, not, _&&_}
 use mathlib.Core.List.{List}
-use lib.Dec.{ltb}
+use lib.Dec.{ltb, eqb}
 use Rattle.cells.specs.Choice.{pick}
 use Rattle.rom.specs.Bytes.{byteOf}
 use Rattle.rom.specs.Branch.{aimOf, placeIn}
+use Rattle.tokens.specs.Family.{call, assign}
 use Rattle.tokens.specs.Table.{isProgram}
-use Rattle.tokens.specs.Code.{codeOf, formIn}
+use Rattle.tokens.specs.Code.{codeOf, familyIn, formIn}
 use Rattle.tokens.specs.Decode.{isDouble, numberOf, behindNumber, behindOf, operandOf, isKind, wholeOf, decodeOf}
+use Rattle.tokens.specs.Body.{kindOf}
 use Rattle.tokens.specs.Definition.{kindIn}
 use Rattle.tokens.specs.declared.decoding.Operand.{Operand}
 use Rattle.tokens.specs.declared.decoding.Operand.the-variants.{Nothing, Literal, Text, Branch, Number, Definition}
 use Rattle.tokens.specs.declared.decoding.Token.{Token}
 use Rattle.tokens.specs.declared.decoding.Decoded.{Decoded}
 use Rattle.tokens.specs.declared.decoding.Decoded.the-variants.{Cut, Unlisted, Whole}
+use Rattle.tokens.specs.declared.read.Read.{Read}
+use Rattle.tokens.specs.declared.read.Read.the-variants.{Refused, Good}
 use Rattle.tokens.specs.declared.glance.Glance.{Glance}
 
 -- the number that a token is about: behind b(to) the one that stands there, of a definition the new one, else its own
@@ -53,7 +57,21 @@ glanced (Whole t) = seenIn t
 unfoldable pub glanceOf : List ℕ → ℕ → Bool → ℕ → Glance
 glanceOf rom length wide p = glanced (decodeOf rom length wide p)
 
+-- refusal 12, "program number undefined, or not a value after b(to)", by what is seen
+abbrev pub unknownSeen : List ℕ → ℕ → ℕ → Bool
+unknownSeen kinds code n =
+    pick (eqb (familyIn code) call) (eqb (kindOf kinds n) 0) (pick (eqb (familyIn code) assign) (not (eqb (kindOf kinds n) 0xB8)) false)
+
 -- ---- for the code's own steps
+-- b(;), which has one code with exit
+abbrev pub endsSeen : ℕ → ℕ → Bool
+endsSeen code n = eqb code 0x0B_20_00_00 && eqb n 0xC2
+
+-- why a token is refused
+abbrev pub whyIn : Read → ℕ
+whyIn (Refused why) = why
+whyIn (Good t) = 0
+
 -- what a first byte says: that the number has a second, by a form that no code has, or the code of the number that it is
 abbrev pub twoBytes : ℕ
 twoBytes = 0x00_07_00_00
