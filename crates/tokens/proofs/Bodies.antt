@@ -1,9 +1,8 @@
 -- A body read by glances: what each glance says of the body from its place on. Assumes nothing.
 use Prim.Native.Nat.{ℕ}
-use mathlib.Core.Path.{_≡_, refl, sym, ap, subst, _∙_}
+use mathlib.Core.Path.{_≡_, sym, ap, subst, _∙_}
 use mathlib.Core.Bool.{Bool, true, false}
 use mathlib.Core.List.{List}
-use native.Mathlib.Omega.{arith}
 use borrow.Author.Tests.{eq-eqb}
 use lib.Dec.{T, eqb, eqb→eq}
 use Rattle.cells.specs.Facts.{holds, both-hold}
@@ -14,7 +13,7 @@ use Rattle.tokens.specs.Place.{misplacedOf, readOf}
 use Rattle.tokens.specs.Body.{unknownOf, bodyOf}
 use Rattle.tokens.specs.Laws.{body-stops, body-ends, body-unknown, body-goes}
 use Rattle.tokens.specs.Glance.{glanceOf, unknownSeen, endsSeen, whyIn}
-use Rattle.tokens.specs.GlanceLaws.{glance-refused, glance-misplaced, glance-read, glance-ahead, read-plain, unknown-seen, code-seen, plain-seen}
+use Rattle.tokens.specs.GlanceLaws.{glance-refused, glance-misplaced, glance-read, read-plain, unknown-seen, code-seen, plain-seen}
 use Rattle.tokens.specs.declared.decoding.Token.{Token}
 use Rattle.tokens.specs.declared.read.Read.the-variants.{Refused, Good}
 use Rattle.tokens.specs.declared.body.Body.the-variants.{Ends, Stops}
@@ -56,7 +55,8 @@ module _ (rom : List ℕ) (length : ℕ) (wide : Bool) (kinds : List ℕ) (p : �
       pub stops-unknown : unknownSeen kinds (g .code) (g .number) ≡ true → bodyOf rom length wide kinds p ≡ Stops p 12
       stops-unknown u = body-unknown rom length wide kinds p (here .0) (here .1) no-end (unknown-is true u)
 
-      pub goes-on : unknownSeen kinds (g .code) (g .number) ≡ false → bodyOf rom length wide kinds p ≡ bodyOf rom length wide kinds (g .next)
+      pub goes-on : unknownSeen kinds (g .code) (g .number) ≡ false
+          → bodyOf rom length wide kinds p ≡ bodyOf rom length wide kinds (g .next)
       goes-on u =
           body-goes rom length wide kinds p (here .0) (here .1) no-end (unknown-is false u)
           ∙ ap (λ (x : Glance). bodyOf rom length wide kinds (x .next)) (glance-read rom length wide true p g (sym e) z m .2)

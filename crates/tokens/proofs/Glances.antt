@@ -1,24 +1,24 @@
 -- A token at a glance, by what the code has found of it. Assumes nothing.
 use Prim.Native.Nat.{ℕ, _+_, _*_, _≤_, _<_}
 use mathlib.Core.Path.{_≡_, refl, sym, _∙_}
-use mathlib.Core.Bool.{Bool, true, false, not, _||_}
-use mathlib.Core.List.{List, []}
+use mathlib.Core.Bool.{Bool, true, false, not}
+use mathlib.Core.List.{List}
 use native.Mathlib.Omega.{arith}
 use borrow.Author.Tests.{eq-eqb, ne-eqb, le-ltb, lt-ltb}
-use lib.Dec.{T, eqb, ltb, leb, eqb-refl}
+use lib.Dec.{T, eqb, ltb}
 use Rattle.cells.specs.Choice.{pick}
-use Rattle.cells.specs.Tests.{find-none}
-use Rattle.rom.specs.Bytes.{byteOf, word16Of}
+use Rattle.rom.specs.Bytes.{byteOf}
 use Rattle.tokens.specs.Table.{ends, lows, highs, doubles, table}
 use Rattle.tokens.specs.Code.{codeOf, formIn}
-use Rattle.tokens.specs.Decode.{isDouble, numberOf, behindNumber, behindString, behindOf, behinds, operandOf, operands, formed, listed, tokenOf, wholeOf, decodeOf}
+use Rattle.tokens.specs.Decode.{isDouble, numberOf, behindNumber, behindString, behindOf}
+use Rattle.tokens.specs.Decode.{operandOf, listed, tokenOf, wholeOf, decodeOf}
 use Rattle.tokens.specs.Laws.{number-ahead, behind-ahead}
 use Rattle.tokens.specs.Rows.{code-fact}
-use Rattle.tokens.specs.Glance.{seenAs, seenIn, nothingSeen, glanced, glanceOf, twoBytes, firstOf, seenFrom, endedOf, branchedOf, definedOf}
+use Rattle.tokens.specs.Glance.{seenAs, seenIn, nothingSeen, glanced, glanceOf}
+use Rattle.tokens.specs.Glance.{twoBytes, firstOf, seenFrom, endedOf, branchedOf, definedOf}
 use Rattle.tokens.specs.declared.decoding.Token.{Token}
 use Rattle.tokens.specs.declared.decoding.Operand.the-variants.{Nothing}
 use Rattle.tokens.specs.declared.decoding.Decoded.the-variants.{Cut, Unlisted, Whole}
-use Rattle.tokens.specs.declared.glance.Glance.{Glance}
 
 -- ---- a glance by its tests
 shown : (cut good : Bool) (code : ℕ) (t : Token)
@@ -118,7 +118,8 @@ module _ (rom : List ℕ) (length : ℕ) (wide : Bool) (p : ℕ) where
       let l : length < behindOf rom wide (behindNumber rom p) (formIn (codeOf (numberOf rom p))) = omega arith in
       rw (lt-ltb _ _ l)
 
-  pub of-one : (b code : ℕ) → b ≡ byteOf rom p → isDouble b ≡ false → code ≡ codeOf b → seenFrom rom length wide code b (p + 1) ≡ glanceOf rom length wide p
+  pub of-one : (b code : ℕ) → b ≡ byteOf rom p → isDouble b ≡ false → code ≡ codeOf b
+      → seenFrom rom length wide code b (p + 1) ≡ glanceOf rom length wide p
   unfolding glanceOf decodeOf seenFrom
   of-one b code e d c = rw (c, e, rw e at d)
 

@@ -1,5 +1,5 @@
--- A token at a glance: what a loop asks of a token, in plain numbers. Code 0 is what is cut off, or not in the list, or badly formed, and says no more;
--- why, is `readOf`'s to say. Assumes nothing.
+-- A token at a glance: what a loop asks of a token, in plain numbers. Code 0 is what is cut off, or not in the list, or badly formed, and
+-- says no more: why, is `readOf`'s to say. Assumes nothing.
 use Prim.Native.Nat.{ℕ, _+_}
 use mathlib.Core.Bool.{Bool, false, not, _&&_}
 use mathlib.Core.List.{List}
@@ -81,7 +81,8 @@ firstOf b = pick (isDouble b) twoBytes (codeOf b)
 
 -- a token of the list whose operand starts at a place
 unfoldable pub seenFrom : List ℕ → ℕ → Bool → ℕ → ℕ → ℕ → Glance
-seenFrom rom length wide code n p = glanced (wholeOf length n code (operandOf rom length wide p (formIn code)) (behindOf rom wide p (formIn code)))
+seenFrom rom length wide code n p =
+    glanced (wholeOf length n code (operandOf rom length wide p (formIn code)) (behindOf rom wide p (formIn code)))
 
 -- the same where it is known what kind of operand that is: of a branch, of a definition, and of any other, where its end is known
 abbrev pub endedOf : ℕ → ℕ → ℕ → ℕ → Glance
@@ -95,4 +96,5 @@ abbrev pub definedOf : List ℕ → ℕ → ℕ → ℕ → Glance
 definedOf rom length code p =
     let kind = byteOf rom (behindNumber rom p) in
     let next = behindNumber rom p + 1 in
-    pick (ltb length next) nothingSeen (pick (isProgram (numberOf rom p) && isKind kind) (seenAs code (numberOf rom p) next 0 kind) nothingSeen)
+    pick (ltb length next) nothingSeen
+    (pick (isProgram (numberOf rom p) && isKind kind) (seenAs code (numberOf rom p) next 0 kind) nothingSeen)

@@ -1,11 +1,11 @@
--- Laws that whoever goes by glances needs: which token `readOf` has at a place, by what a glance at that place says. For each form of operand there is a
--- law that gives the token whole. Assumes nothing.
+-- Laws that whoever goes by glances needs: which token `readOf` has at a place, by what a glance at that place says. For each form of
+-- operand there is a law that gives the token whole. Assumes nothing.
 use Prim.Native.Nat.{ℕ, _+_, _-_, _*_, _≤_, _<_}
 use mathlib.Core.Path.{_≡_, refl, sym, ap, subst, _∙_}
 use mathlib.Core.Bool.{Bool, true, false, not, _&&_, _||_}
-use mathlib.Core.List.{List, [], _∷_}
+use mathlib.Core.List.{List}
 use native.Mathlib.Omega.{arith}
-use borrow.Author.Tests.{le-ltb, eq-eqb, ne-eqb, leb-true}
+use borrow.Author.Tests.{le-ltb, leb-true}
 use lib.Dec.{T, eqb, ltb, leb, eqb→eq}
 use Rattle.cells.specs.Choice.{pick}
 use Rattle.cells.specs.Tests.{neqb→ne}
@@ -14,15 +14,15 @@ use Rattle.rom.specs.Bytes.{byteOf, word32Of}
 use Rattle.rom.specs.Branch.{offsetOf, aimOf, placeIn}
 use Rattle.tokens.specs.Family.{call, assign}
 use Rattle.tokens.specs.Row.{none, literal, string, offset, number, head, namedHead}
-use Rattle.tokens.specs.Table.{ends, lows, highs, doubles, table, rowOf}
+use Rattle.tokens.specs.Table.{ends, lows, highs, doubles, table, isProgram, rowOf}
 use Rattle.tokens.specs.Code.{packed, codeOf, familyIn, formIn}
-use Rattle.tokens.specs.Decode.{isDouble, numberOf, behindNumber, behindOf, operandOf, formed, listed, tokenOf, decodeOf}
+use Rattle.tokens.specs.Decode.{isDouble, numberOf, behindNumber, behindOf, operandOf, isKind, formed, listed, tokenOf, decodeOf}
 use Rattle.tokens.specs.Place.{judged, misplacedOf, readOf}
 use Rattle.tokens.specs.Body.{kindOf, numberIn, unknownOf}
 use Rattle.tokens.specs.Definition.{kindIn}
 use Rattle.tokens.specs.Glance.{aboutOf, aimIn, nothingSeen, seenIn, glanced, glanceOf, unknownSeen}
 use Rattle.tokens.specs.Rows.{rows-pass, code-fact}
-use Rattle.tokens.specs.Laws.{Follows, AheadRead, decoded-is, next-ahead}
+use Rattle.tokens.specs.Laws.{Ahead, decoded-is, decode-ahead}
 use Rattle.tokens.specs.declared.decoding.Operand.{Operand}
 use Rattle.tokens.specs.declared.decoding.Operand.the-variants.{Nothing, Literal, Text, Branch, Number, Definition}
 use Rattle.tokens.specs.declared.decoding.Token.{Token}
@@ -49,11 +49,13 @@ module _ (rom : List ℕ) (size : ℕ) (wide : Bool) (p : ℕ) where
   abbrev tokenHere : Token
   tokenHere =
       let n = numberOf rom p in
-      tokenOf n (codeOf n) (operandOf rom size wide (behindNumber rom p) (formIn (codeOf n))) (behindOf rom wide (behindNumber rom p) (formIn (codeOf n)))
+      tokenOf n (codeOf n) (operandOf rom size wide (behindNumber rom p) (formIn (codeOf n)))
+      (behindOf rom wide (behindNumber rom p) (formIn (codeOf n)))
 
   record Standing (t : Token) : Type 0 where
     is : t ≡ tokenHere
     coded : t .code ≡ 0 → ⊥
+    formed : T (formed (t .operand))
 
   abbrev Here : Decoded → Type 0
   Here Cut = Unit {0}
@@ -61,9 +63,12 @@ module _ (rom : List ℕ) (size : ℕ) (wide : Bool) (p : ℕ) where
   Here (Whole t) = Standing t
 
   here : Here (decodeOf rom size wide p)
-  here =
-      decoded-is Here rom size wide p tt
-      (λ h l. record { is = refl; coded = neqb→ne (tokenHere .code) 0 (both-hold (not (eqb (tokenHere .code) 0)) (formed (tokenHere .operand)) l .0) }) (λ h. tt)
+  here = decoded-is Here rom size wide p tt (λ h l. stands l) (λ h. tt)
+    where
+      stands : T (listed (tokenHere .code) (tokenHere .operand)) → Standing tokenHere
+      stands l =
+          let b = both-hold (not (eqb (tokenHere .code) 0)) (formed (tokenHere .operand)) l in
+          record { is = refl; coded = neqb→ne (tokenHere .code) 0 (b .0); formed = b .1 }
 
 -- of what was decoded
 abbrev codeIn : Glance → ℕ
@@ -126,27 +131,37 @@ module _ (rom : List ℕ) (size : ℕ) (wide within : Bool) (p : ℕ) (g : Glanc
   unfolding glanceOf readOf
   glance-misplaced m = displaced within g (decodeOf rom size wide p) e m
 
+  abbrev this : Token
+  this = tokenHere rom size wide p
+
   module _ (z : g .code ≡ 0 → ⊥) where
-    decoded-here : (decodeOf rom size wide p ≡ Whole (tokenHere rom size wide p)) × (seenIn (tokenHere rom size wide p) ≡ g)
+    decoded-here : (decodeOf rom size wide p ≡ Whole this) × (seenIn this ≡ g)
     unfolding glanceOf
     decoded-here =
         let s = seen g (decodeOf rom size wide p) e z in
         let i = subst (Here rom size wide p) (s .1) (here rom size wide p) .is in
         (s .1 ∙ ap Whole i, ap seenIn (sym i) ∙ s .2)
 
+    formed-here : T (formed (this .operand))
+    formed-here = subst (Here rom size wide p) (decoded-here .0) (here rom size wide p) .formed
+
     same-code : codeOf (numberOf rom p) ≡ g .code
     same-code = ap codeIn (decoded-here .1)
 
-    same-next : tokenHere rom size wide p .next ≡ g .next
+    same-next : this .next ≡ g .next
     same-next = ap (λ (x : Glance). x .next) (decoded-here .1)
 
-    about : aboutOf (numberOf rom p) (tokenHere rom size wide p .operand) ≡ g .number
+    about : aboutOf (numberOf rom p) (this .operand) ≡ g .number
     about = ap (λ (x : Glance). x .number) (decoded-here .1)
+
+    pub glance-ahead : (p < g .next) × (g .next ≤ size)
+    glance-ahead =
+        subst (λ (q : ℕ). (p < q) × (q ≤ size)) same-next (subst (Ahead size p) (decoded-here .0) (decode-ahead rom size wide p))
 
     -- the operand, where its form is known
     operand-is : (form : ℕ) → formIn (g .code) ≡ form
-        → tokenHere rom size wide p .operand ≡ operandOf rom size wide (behindNumber rom p) form
-    operand-is form k = ap (λ (c : ℕ). operandOf rom size wide (behindNumber rom p) (formIn c)) same-code ∙ ap (λ (f : ℕ). operandOf rom size wide (behindNumber rom p) f) k
+        → this .operand ≡ operandOf rom size wide (behindNumber rom p) form
+    operand-is form k = ap (λ (f : ℕ). operandOf rom size wide (behindNumber rom p) f) (ap formIn same-code ∙ k)
 
     -- where there is one, the token's number is one byte
     one-byte : (form : ℕ) → formIn (g .code) ≡ form → (form ≡ none → ⊥) → isDouble (byteOf rom p) ≡ false
@@ -161,23 +176,20 @@ module _ (rom : List ℕ) (size : ℕ) (wide within : Bool) (p : ℕ) (g : Glanc
         by false h = h
 
     module _ (m : misplacedOf (g .code) within ≡ false) where
-      read-here : readOf rom size wide within p ≡ Good (tokenHere rom size wide p)
+      read-here : readOf rom size wide within p ≡ Good this
       unfolding readOf
-      read-here = ap (judged within) (decoded-here .0) ∙ well-placed within (tokenHere rom size wide p) (rw same-code m)
+      read-here = ap (judged within) (decoded-here .0) ∙ well-placed within this (rw same-code m)
 
       -- the token that is read, whatever its form
       pub glance-read : (t : Token) × (readOf rom size wide within p ≡ Good t) × (seenIn t ≡ g)
-      glance-read = (tokenHere rom size wide p, read-here, decoded-here .1)
-
-      pub glance-ahead : (p < g .next) × (g .next ≤ size)
-      glance-ahead = subst (λ (q : ℕ). (p < q) × (q ≤ size)) same-next (next-ahead rom size wide within p (tokenHere rom size wide p) read-here)
+      glance-read = (this, read-here, decoded-here .1)
 
       -- and by its form
-      read-as : (n : ℕ) (o : Operand) → numberOf rom p ≡ n → tokenHere rom size wide p .operand ≡ o
+      read-as : (n : ℕ) (o : Operand) → numberOf rom p ≡ n → this .operand ≡ o
           → readOf rom size wide within p ≡ Good (tokenOf n (g .code) o (g .next))
       read-as n o a b = read-here ∙ ap Good (same-token _ _ _ _ _ _ _ _ a same-code b same-next)
 
-      own-number : (o : Operand) → tokenHere rom size wide p .operand ≡ o → aboutOf (numberOf rom p) o ≡ g .number
+      own-number : (o : Operand) → this .operand ≡ o → aboutOf (numberOf rom p) o ≡ g .number
       own-number o b = ap (aboutOf (numberOf rom p)) (sym b) ∙ about
 
       pub read-plain : formIn (g .code) ≡ none → readOf rom size wide within p ≡ Good (tokenOf (g .number) (g .code) Nothing (g .next))
@@ -190,7 +202,7 @@ module _ (rom : List ℕ) (size : ℕ) (wide within : Bool) (p : ℕ) (g : Glanc
       unfolding operandOf
       read-literal k =
           let d = one-byte literal k (λ z. omega arith) in
-          let o : tokenHere rom size wide p .operand ≡ Literal (word32Of rom (p + 1)) = operand-is literal k ∙ rw d in
+          let o : this .operand ≡ Literal (word32Of rom (p + 1)) = operand-is literal k ∙ rw d in
           read-as (g .number) (Literal (word32Of rom (p + 1))) (own-number (Literal (word32Of rom (p + 1))) o) o
 
       -- b("): its bytes lie from behind the length byte up to the next place
@@ -214,20 +226,21 @@ module _ (rom : List ℕ) (size : ℕ) (wide within : Bool) (p : ℕ) (g : Glanc
           let e = text-ends k in
           let a : p + 1 + 1 ≡ p + 2 = omega arith in
           let b : byteOf rom (p + 1) ≡ g .next - (p + 2) = omega arith in
-          let o : tokenHere rom size wide p .operand ≡ Text (p + 2) (g .next - (p + 2)) = operand-is string k ∙ rw (d, a, b) in
+          let o : this .operand ≡ Text (p + 2) (g .next - (p + 2)) = operand-is string k ∙ rw (d, a, b) in
           read-as (g .number) (Text (p + 2) (g .next - (p + 2))) (own-number (Text (p + 2) (g .next - (p + 2))) o) o
 
       -- bbranch and b?branch
-      branch-is : formIn (g .code) ≡ offset → tokenHere rom size wide p .operand ≡ Branch (offsetOf rom wide (p + 1)) (aimOf rom size wide (p + 1))
+      abbrev branch : Operand
+      branch = Branch (offsetOf rom wide (p + 1)) (aimOf rom size wide (p + 1))
+
+      branch-is : formIn (g .code) ≡ offset → this .operand ≡ branch
       unfolding operandOf
       branch-is k = let d = one-byte offset k (λ z. omega arith) in operand-is offset k ∙ rw d
 
       pub read-branch : formIn (g .code) ≡ offset
-          → readOf rom size wide within p ≡ Good (tokenOf (g .number) (g .code) (Branch (offsetOf rom wide (p + 1)) (aimOf rom size wide (p + 1))) (g .next))
-      read-branch k =
-          let b = Branch (offsetOf rom wide (p + 1)) (aimOf rom size wide (p + 1)) in
-          let o = branch-is k in
-          read-as (g .number) b (own-number b o) o
+          → readOf rom size wide within p
+          ≡ Good (tokenOf (g .number) (g .code) (Branch (offsetOf rom wide (p + 1)) (aimOf rom size wide (p + 1))) (g .next))
+      read-branch k = let o = branch-is k in read-as (g .number) branch (own-number branch o) o
 
       pub branch-aim : formIn (g .code) ≡ offset → placeIn (aimOf rom size wide (p + 1)) ≡ g .aim
       branch-aim k = ap aimIn (sym (branch-is k)) ∙ ap (λ (x : Glance). x .aim) (decoded-here .1)
@@ -238,28 +251,38 @@ module _ (rom : List ℕ) (size : ℕ) (wide within : Bool) (p : ℕ) (g : Glanc
       unfolding operandOf
       read-number k =
           let d = one-byte number k (λ z. omega arith) in
-          let o : tokenHere rom size wide p .operand ≡ Number (numberOf rom (behindNumber rom p)) = operand-is number k in
+          let o : this .operand ≡ Number (numberOf rom (behindNumber rom p)) = operand-is number k in
           read-as (byteOf rom p) (Number (g .number)) (rw d) (o ∙ ap Number (own-number (Number (numberOf rom (behindNumber rom p))) o))
 
       -- new-token, and with a name: named-token and external-token
-      a-definition : (form n k : ℕ) → formIn (g .code) ≡ form → (form ≡ none → ⊥) → operandOf rom size wide (behindNumber rom p) form ≡ Definition n k
-          → readOf rom size wide within p ≡ Good (tokenOf (byteOf rom p) (g .code) (Definition (g .number) (g .kind)) (g .next))
-      a-definition form n k f z e =
-          let d = one-byte form f z in
-          let o : tokenHere rom size wide p .operand ≡ Definition n k = operand-is form f ∙ e in
-          let a : n ≡ g .number = own-number (Definition n k) o in
-          let b : k ≡ g .kind = ap kindIn (sym o) ∙ ap (λ (x : Glance). x .kind) (decoded-here .1) in
-          read-as (byteOf rom p) (Definition (g .number) (g .kind)) (rw d) (o ∙ rw (a, b))
+      module _ (form n k : ℕ) (f : formIn (g .code) ≡ form) (q : operandOf rom size wide (behindNumber rom p) form ≡ Definition n k) where
+        definition-is : this .operand ≡ Definition (g .number) (g .kind)
+        definition-is =
+            let o : this .operand ≡ Definition n k = operand-is form f ∙ q in
+            let a : n ≡ g .number = own-number (Definition n k) o in
+            let b : k ≡ g .kind = ap kindIn (sym o) ∙ ap (λ (x : Glance). x .kind) (decoded-here .1) in
+            o ∙ rw (a, b)
+
+        a-definition : (form ≡ none → ⊥)
+            → (readOf rom size wide within p ≡ Good (tokenOf (byteOf rom p) (g .code) (Definition (g .number) (g .kind)) (g .next)))
+            × T (isProgram (g .number) && isKind (g .kind))
+        a-definition y =
+            let d = one-byte form f y in (
+              read-as (byteOf rom p) (Definition (g .number) (g .kind)) (rw d) definition-is,
+              subst (λ (o : Operand). T (formed o)) definition-is formed-here,
+            )
 
       pub read-head : formIn (g .code) ≡ head
-          → readOf rom size wide within p ≡ Good (tokenOf (byteOf rom p) (g .code) (Definition (g .number) (g .kind)) (g .next))
+          → (readOf rom size wide within p ≡ Good (tokenOf (byteOf rom p) (g .code) (Definition (g .number) (g .kind)) (g .next)))
+          × T (isProgram (g .number) && isKind (g .kind))
       unfolding operandOf
-      read-head k = a-definition head _ _ k (λ z. omega arith) refl
+      read-head k = a-definition head _ _ k refl (λ z. omega arith)
 
       pub read-named : formIn (g .code) ≡ namedHead
-          → readOf rom size wide within p ≡ Good (tokenOf (byteOf rom p) (g .code) (Definition (g .number) (g .kind)) (g .next))
+          → (readOf rom size wide within p ≡ Good (tokenOf (byteOf rom p) (g .code) (Definition (g .number) (g .kind)) (g .next)))
+          × T (isProgram (g .number) && isKind (g .kind))
       unfolding operandOf
-      read-named k = a-definition namedHead _ _ k (λ z. omega arith) refl
+      read-named k = a-definition namedHead _ _ k refl (λ z. omega arith)
 
       -- refusal 12
       form-kept : (family : ℕ) → eqb (familyIn (g .code)) family ≡ true
@@ -272,26 +295,36 @@ module _ (rom : List ℕ) (size : ℕ) (wide within : Bool) (p : ℕ) (g : Glanc
       unfolding operandOf
       of-call a = own-number Nothing (operand-is none (eqb→eq (formIn (g .code)) none (form-kept call a)))
 
-      of-assign : eqb (familyIn (g .code)) assign ≡ true → numberIn (tokenHere rom size wide p .operand) ≡ g .number
+      of-assign : eqb (familyIn (g .code)) assign ≡ true → numberIn (this .operand) ≡ g .number
       unfolding operandOf
       of-assign a =
-          let o : tokenHere rom size wide p .operand ≡ Number (numberOf rom (behindNumber rom p)) =
+          let o : this .operand ≡ Number (numberOf rom (behindNumber rom p)) =
           operand-is number (eqb→eq (formIn (g .code)) number (form-kept assign a)) in
           ap numberIn o ∙ own-number (Number (numberOf rom (behindNumber rom p))) o
 
-      unknown-here : (kinds : List ℕ) → unknownOf kinds (tokenHere rom size wide p) ≡ unknownSeen kinds (g .code) (g .number)
+      unknown-here : (kinds : List ℕ) → unknownOf kinds this ≡ unknownSeen kinds (g .code) (g .number)
       unfolding unknownOf
       unknown-here kinds =
-          let t = tokenHere rom size wide p in
-          ap (λ (c : ℕ). pick (eqb (familyIn c) call) (eqb (kindOf kinds (t .number)) 0) (pick (eqb (familyIn c) assign) (not (eqb (kindOf kinds (numberIn (t .operand))) 0xB8)) false)) same-code
-          ∙ same-unknown (eqb (familyIn (g .code)) call) (eqb (familyIn (g .code)) assign) _ _ _ _ (λ a. ap (λ (k : ℕ). eqb (kindOf kinds k) 0) (of-call a))
-          (λ a. ap (λ (k : ℕ). not (eqb (kindOf kinds k) 0xB8)) (of-assign a))
+          ap by-code same-code ∙ same-unknown (eqb (familyIn (g .code)) call) (eqb (familyIn (g .code)) assign) _ _ _ _ called assigned
+        where
+          by-code : ℕ → Bool
+          by-code c =
+              pick (eqb (familyIn c) call) (eqb (kindOf kinds (this .number)) 0)
+              (pick (eqb (familyIn c) assign) (not (eqb (kindOf kinds (numberIn (this .operand))) 0xB8)) false)
+
+          called : eqb (familyIn (g .code)) call ≡ true → eqb (kindOf kinds (this .number)) 0 ≡ eqb (kindOf kinds (g .number)) 0
+          called a = ap (λ (k : ℕ). eqb (kindOf kinds k) 0) (of-call a)
+
+          assigned : eqb (familyIn (g .code)) assign ≡ true
+              → not (eqb (kindOf kinds (numberIn (this .operand))) 0xB8) ≡ not (eqb (kindOf kinds (g .number)) 0xB8)
+          assigned a = ap (λ (k : ℕ). not (eqb (kindOf kinds k) 0xB8)) (of-assign a)
 
       -- of whatever token was read there
-      read-once : (t : Token) → readOf rom size wide within p ≡ Good t → tokenHere rom size wide p ≡ t
+      read-once : (t : Token) → readOf rom size wide within p ≡ Good t → this ≡ t
       read-once t f = ap (tokenIn t) (sym read-here ∙ f)
 
-      pub unknown-seen : (kinds : List ℕ) (t : Token) → readOf rom size wide within p ≡ Good t → unknownOf kinds t ≡ unknownSeen kinds (g .code) (g .number)
+      pub unknown-seen : (kinds : List ℕ) (t : Token) → readOf rom size wide within p ≡ Good t
+          → unknownOf kinds t ≡ unknownSeen kinds (g .code) (g .number)
       unknown-seen kinds t f = ap (unknownOf kinds) (sym (read-once t f)) ∙ unknown-here kinds
 
       pub read-seen : (t : Token) → readOf rom size wide within p ≡ Good t → seenIn t ≡ g

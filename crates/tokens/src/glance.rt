@@ -1,5 +1,5 @@
-// A token at a glance: what a loop over tokens asks of each, in plain numbers and by one look at its first byte. A token without an operand does not
-// pay for the others'. `read_at` says why there is none.
+// A token at a glance: what a loop over tokens asks of each, in plain numbers and by one look at its first byte. A token without an
+// operand does not pay for the others'. `read_at` says why there is none.
 ghost use mathlib.Core.Path.{_≡_};
 ghost use mathlib.Core.Bool.{Bool, true};
 ghost use Prim.Native.Nat.{_<_, _^_};
@@ -15,9 +15,9 @@ use crate::decoding::number_at;
 use rom::byte;
 use rom::destination;
 
-// A whole token of the list: its code; the number that it is about, which behind b(to) is the one that stands there, of a definition the new one, and
-// else its own; the place behind it; where a branch leads, 0 for outside; and the kind byte of a definition. What is cut off or not in the list has
-// the code 0, and zeros.
+// A whole token of the list: its code; the number that it is about, which behind b(to) is the one that stands there, of a definition the
+// new one, and else its own; the place behind it; where a branch leads, 0 for outside; and the kind byte of a definition. A string's bytes
+// lie from the second byte behind the token's place up to the next place. What is cut off or not in the list has the code 0, and zeros.
 pub struct Glance {
     pub code: u32,
     pub number: u32,

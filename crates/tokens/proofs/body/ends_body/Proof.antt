@@ -1,5 +1,4 @@
 use borrow.Author.Tests.{eq-eqb, ne-eqb}
-use borrow.Author.Needs.{needs}
 use Rattle.tokens.proofs.body.ends_body.Statement.{statement}
 use Rattle.tokens.proofs.body.ends_body.Tie as tie
 

@@ -35,7 +35,7 @@ read-body-spec =
     (λ c κs. search needs)
     (λ c. let a = c .before .before .before .before .before .before .before .before .before .before .before .before .args in sym (stops-unknown (now (a .rom)) (a .length) (a .wide) (now (a .kinds)) (c .before .before .before .before .before .before .before .before .before .before .loop .at) (c .before .before .before .before .before .before .before .before .glance-at .result) (c .before .before .before .before .before .before .before .before .glance-at .ensures) (c .before .before .before .before .before .before .if1 .left) (sym (c .before .before .before .before .before .out-of-place .ensures) ∙ c .before .before .before .before .if2 .left) (sym (c .before .before .before .ends-body .ensures) ∙ c .before .before .if3 .left) (sym (c .before .unknown-seen .ensures) ∙ c .if4 .taken)) ∙ c .before .before .before .before .before .before .before .before .before .before .loop .inv)
     (λ c. let a = c .before .before .before .before .before .before .before .before .before .before .before .before .args in
-    let n = glance-ahead (now (a .rom)) (a .length) (a .wide) true (c .before .before .before .before .before .before .before .before .before .before .loop .at) (c .before .before .before .before .before .before .before .before .glance-at .result) (sym (c .before .before .before .before .before .before .before .before .glance-at .ensures)) (c .before .before .before .before .before .before .if1 .left) (sym (c .before .before .before .before .before .out-of-place .ensures) ∙ c .before .before .before .before .if2 .left) in
+    let n = glance-ahead (now (a .rom)) (a .length) (a .wide) true (c .before .before .before .before .before .before .before .before .before .before .loop .at) (c .before .before .before .before .before .before .before .before .glance-at .result) (sym (c .before .before .before .before .before .before .before .before .glance-at .ensures)) (c .before .before .before .before .before .before .if1 .left) in
     omega arith)
     (λ c. let a = c .before .before .before .before .before .before .before .before .before .before .before .before .args in sym (goes-on (now (a .rom)) (a .length) (a .wide) (now (a .kinds)) (c .before .before .before .before .before .before .before .before .before .before .loop .at) (c .before .before .before .before .before .before .before .before .glance-at .result) (c .before .before .before .before .before .before .before .before .glance-at .ensures) (c .before .before .before .before .before .before .if1 .left) (sym (c .before .before .before .before .before .out-of-place .ensures) ∙ c .before .before .before .before .if2 .left) (sym (c .before .before .before .ends-body .ensures) ∙ c .before .before .if3 .left) (sym (c .before .unknown-seen .ensures) ∙ c .if4 .left)) ∙ c .before .before .before .before .before .before .before .before .before .before .loop .inv)
     (λ c. let a = c .before .before .before .args in sym (body-past (now (a .rom)) (a .length) (a .wide) (now (a .kinds)) (c .before .loop .at) (search needs)) ∙ c .before .loop .inv))

@@ -2,7 +2,7 @@ use Rattle.tokens.proofs.Glances.{of-two, not-listed, of-none}
 use Rattle.tokens.proofs.Ranges.{bounds}
 use Rattle.tokens.specs.GlanceLaws.{double-plain}
 use denote.Ref.{now}
-use mathlib.Core.Path.{refl, sym, _∙_}
+use mathlib.Core.Path.{_∙_}
 use native.Mathlib.Omega.{arith}
 use borrow.Author.Needs.{needs}
 use Rattle.tokens.proofs.glance.doubled.Statement.{statement}

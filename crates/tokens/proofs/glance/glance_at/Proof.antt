@@ -1,7 +1,7 @@
 use Prim.Native.Nat.{_+_}
 use Rattle.tokens.proofs.Glances.{past-end, has-second, has-none, of-one, not-listed, of-none, in-time}
 use denote.Ref.{now}
-use mathlib.Core.Path.{refl, sym, _∙_}
+use mathlib.Core.Path.{_∙_}
 use native.Mathlib.Omega.{arith}
 use borrow.Author.Needs.{needs}
 use Rattle.tokens.proofs.glance.glance_at.Statement.{statement}
