@@ -1,5 +1,5 @@
-// The token list of document 01 with its names, the token at a place, reading a body to its end, and a reader that goes from place to place. Every call is
-// total: any bytes, any place, any length. Places are counted in 32 bits.
+// The token list of document 01 with its names, the token at a place, whole or at a glance, reading a body to its end, and a reader that
+// goes from place to place. Every call is total: any bytes, any place, any length. Places are counted in 32 bits.
 mod body;
 mod code;
 mod decoding;
