@@ -148,6 +148,10 @@ module _ (rom : List ℕ) (size : ℕ) (wide within : Bool) (p : ℕ) (g : Glanc
     same-code : codeOf (numberOf rom p) ≡ g .code
     same-code = ap codeIn (decoded-here .1)
 
+    -- the code is that of the number at the place: what the list says of every code holds of it
+    pub glance-coded : g .code ≡ codeOf (numberOf rom p)
+    glance-coded = sym same-code
+
     same-next : this .next ≡ g .next
     same-next = ap (λ (x : Glance). x .next) (decoded-here .1)
 
