@@ -3,7 +3,6 @@ use Prim.Native.Nat.{ℕ, _≤_, _<_}
 use mathlib.Core.Path.{_≡_, refl, _∙_, ap}
 use mathlib.Core.List.{List, [], _++_}
 use native.Mathlib.Omega.{arith}
-use native.Mathlib.Decide.{decLe}
 use borrow.Author.Tests.{le-leb, lt-leb}
 use lib.Dec.{T}
 use Rattle.cells.specs.Choice.{find}
@@ -11,6 +10,7 @@ use Rattle.cells.specs.Tests.{Rest, find-none}
 use Rattle.tokens.specs.Row.{Row}
 use Rattle.tokens.specs.Table.{ends, lows, highs, doubles, table, rowOf, notListed}
 use Rattle.tokens.specs.Code.{codeOf}
+use Rattle.tokens.specs.Glance.{twoBytes, firstOf}
 use Rattle.tokens.proofs.Lookup.{clear, find-clear, find-append}
 
 nothing : (n : ℕ) → rowOf n ≡ notListed → 0 ≡ codeOf n
@@ -44,6 +44,10 @@ pub no-high : (n : ℕ) → 0x6D ≤ n → n ≤ 0xCC → Rest (Unit {0}) highs 
 unfolding table ends lows highs doubles
 no-high n l h r = left-over (ends ++ lows) highs doubles 0x6D 0xCC n refl tt tt (omega arith) l h r
 
+pub no-single : (n : ℕ) → n ≤ 0xFF → Rest (Unit {0}) (ends ++ (lows ++ highs)) n → 0 ≡ codeOf n
+unfolding table ends lows highs doubles
+no-single n h r = left-over [] (ends ++ (lows ++ highs)) doubles 0 0xFF n refl tt tt (omega arith) (omega arith) h r
+
 pub no-double : (n : ℕ) → 0x110 ≤ n → n ≤ 0x201 → Rest (Unit {0}) doubles n → 0 ≡ codeOf n
 unfolding table ends lows highs doubles
 no-double n l h r = left-over (ends ++ (lows ++ highs)) doubles [] 0x110 0x201 n refl tt tt (omega arith) l h r
@@ -72,10 +76,33 @@ pub before-highs : (n : ℕ) → 0x59 < n → n < 0x6D → 0 ≡ codeOf n
 unfolding table ends lows highs doubles
 before-highs n l h = gap 0x5A 0x6C n tt (omega arith) l (omega arith)
 
-pub before-doubles : (n : ℕ) → (n ≡ 0xFF → ⊥) → 0xCC < n → n < 0x110 → 0 ≡ codeOf n
+pub before-end : (n : ℕ) → (n ≡ 0xFF → ⊥) → 0xCC < n → n < 0x100 → 0 ≡ codeOf n
 unfolding table ends lows highs doubles
-before-doubles n z l h = elim (decLe n 0xFE) [ yes y ↦ gap 0xCD 0xFE n tt (omega arith) l y | no y ↦ gap 0x100 0x10F n tt (omega arith) (omega (arith, z)) (omega arith) ]
+before-end n z l h = gap 0xCD 0xFE n tt (omega arith) l (omega (arith, z))
+
+pub before-doubles : (n : ℕ) → 0x100 ≤ n → n < 0x110 → 0 ≡ codeOf n
+unfolding table ends lows highs doubles
+before-doubles n l h = gap 0x100 0x10F n tt (omega arith) l (omega arith)
 
 pub before-programs : (n : ℕ) → 0x201 < n → n < 0x800 → 0 ≡ codeOf n
 unfolding table ends lows highs doubles
 before-programs n l h = gap 0x202 0x7FF n tt (omega arith) l (omega arith)
+
+-- ---- what a first byte says
+not-zero : (n : ℕ) → Rest (Unit {0}) (ends ++ (lows ++ highs)) n → n ≡ 0 → ⊥
+unfolding codeOf rowOf table ends lows highs doubles
+not-zero n r e = let z = no-single n (omega arith) r in let y = rw e at z in omega arith
+
+pub first-of-two : (b : ℕ) → b < 0x10 → Rest (Unit {0}) (ends ++ (lows ++ highs)) b → twoBytes ≡ firstOf b
+unfolding firstOf
+first-of-two b h r =
+    let z = not-zero b r in
+    let l : 1 ≤ b = omega (arith, z) in
+    let k : b ≤ 0xF = omega arith in
+    rw (le-leb _ _ l, le-leb _ _ k)
+
+pub first-of-none : (b : ℕ) → 0x10 ≤ b → b ≤ 0xFF → Rest (Unit {0}) (ends ++ (lows ++ highs)) b → 0 ≡ firstOf b
+unfolding firstOf
+first-of-none b l h r =
+    let k : 1 ≤ b = omega arith in
+    rw (le-leb _ _ k, lt-leb _ _ l) (no-single b h r)

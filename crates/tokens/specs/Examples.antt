@@ -11,11 +11,13 @@ use Rattle.tokens.specs.Code.{codeOf}
 use Rattle.tokens.specs.Decode.{tokenOf, behindOf, operandOf, wholeOf, decodeOf}
 use Rattle.tokens.specs.Place.{misplacedOf, readOf}
 use Rattle.tokens.specs.Body.{unknownOf, bodyFrom, bodyOf}
+use Rattle.tokens.specs.Glance.{seenAs, nothingSeen, glanceOf}
 use Rattle.tokens.specs.declared.decoding.Operand.the-variants.{Nothing, Literal, Text, Branch, Definition}
 use Rattle.tokens.specs.declared.decoding.Decoded.{Decoded}
 use Rattle.tokens.specs.declared.decoding.Decoded.the-variants.{Cut, Unlisted, Whole}
 use Rattle.tokens.specs.declared.read.Read.{Read}
 use Rattle.tokens.specs.declared.read.Read.the-variants.{Refused}
+use Rattle.tokens.specs.declared.glance.Glance.{Glance}
 use Rattle.tokens.specs.declared.body.Body.{Body}
 use Rattle.tokens.specs.declared.body.Body.the-variants.{Ends, Stops}
 
@@ -73,6 +75,45 @@ all-whole : wholes
     []
 unfolding decodeOf wholeOf behindOf operandOf aimOf codeOf rowOf table ends lows highs doubles
 all-whole = refl
+
+-- the same at a glance: a token of one byte, a program's number, a literal, a string, a definition with a name, b(to), and the two branches
+abbrev glances : List Glance
+glances =
+    glanceOf (behindHeader (0x1E ∷ [])) 9 false 8 ∷
+    glanceOf (behindHeader (0x08 ∷ 0x01 ∷ [])) 10 false 8 ∷
+    glanceOf (behindHeader (0x10 ∷ 0x12 ∷ 0x34 ∷ 0x56 ∷ 0x78 ∷ [])) 13 false 8 ∷
+    glanceOf (behindHeader (0x12 ∷ 0x02 ∷ 0x41 ∷ 0x42 ∷ [])) 12 false 8 ∷
+    glanceOf (behindHeader (0xCA ∷ 0x01 ∷ 0x41 ∷ 0x0F ∷ 0xFF ∷ 0xB8 ∷ [])) 14 false 8 ∷
+    glanceOf (behindHeader (0xC3 ∷ 0x08 ∷ 0x02 ∷ [])) 11 false 8 ∷
+    glanceOf (behindHeader (0x13 ∷ 0xFF ∷ 0x00 ∷ [])) 11 false 8 ∷
+    glanceOf (behindHeader (0x14 ∷ 0xFF ∷ 0xFE ∷ [])) 11 true 8 ∷
+    []
+
+all-seen : glances
+    ≡ seenAs 0x01_00_00_21 0x1E 9 0 0 ∷
+    seenAs 0x11_00_00_00 0x801 10 0 0 ∷
+    seenAs 0x01_01_00_01 0x10 13 0 0 ∷
+    seenAs 0x05_02_00_02 0x12 12 0 0 ∷
+    seenAs 0x0E_16_00_00 0xFFF 14 0 0xB8 ∷
+    seenAs 0x10_04_00_10 0x802 11 0 0 ∷
+    seenAs 0x03_03_00_00 0x13 10 8 0 ∷
+    seenAs 0x04_03_00_10 0x14 11 0 0 ∷
+    []
+unfolding glanceOf decodeOf wholeOf behindOf operandOf aimOf codeOf rowOf table ends lows highs doubles
+all-seen = refl
+
+-- nothing is seen of a number or an operand that is cut off, of a number that is not in the list, and of a head without a kind
+abbrev blanks : List Glance
+blanks =
+    glanceOf (behindHeader (0x08 ∷ [])) 9 false 8 ∷
+    glanceOf (behindHeader (0x13 ∷ 0x00 ∷ [])) 10 true 8 ∷
+    glanceOf (behindHeader (0x15 ∷ [])) 9 false 8 ∷
+    glanceOf (behindHeader (0xB5 ∷ 0x08 ∷ 0x00 ∷ 0x46 ∷ [])) 12 false 8 ∷
+    []
+
+all-blank : blanks ≡ nothingSeen ∷ nothingSeen ∷ nothingSeen ∷ nothingSeen ∷ []
+unfolding glanceOf decodeOf wholeOf behindOf operandOf aimOf codeOf rowOf table ends lows highs doubles
+all-blank = refl
 
 -- refusal 18 comes before 11, and after 10; a kind without its head is always out of place
 abbrev judgements : List Read

@@ -7,10 +7,12 @@ pub mod Decode
 pub mod Place
 pub mod Body
 pub mod Definition
+pub mod Glance
 pub mod Laws
 pub mod Reader
 pub mod ReaderLaws
 pub mod Rows
+pub mod GlanceLaws
 pub mod Rules
 pub mod NameLaws
 pub mod Examples

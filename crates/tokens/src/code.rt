@@ -14,8 +14,21 @@ pub fn code_of(number: u32) -> u32
         0xFF => 0x02_10_00_00, // end1
         0x10..=0x59 => low(number),
         0x6D..=0xCC => high(number),
+        0x100..=0xFFF => double_code(number),
+        _ => 0,
+    }
+}
+
+// The same of a number of two bytes: a program's, or one of the list's.
+pub fn double_code(number: u32) -> u32
+    requires { ⌜ (0x100 ≤ number) × (number ≤ 0xFFF) ⌝ }
+    ensures { λ r. ⌜ r ≡ codeOf number ⌝ }
+{
+    if 0x800 <= number {
+        return 0x11_00_00_00;
+    }
+    match number {
         0x110..=0x201 => double(number),
-        0x800..=0xFFF => 0x11_00_00_00,
         _ => 0,
     }
 }

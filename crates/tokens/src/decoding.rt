@@ -1,5 +1,6 @@
 // The token at a place, with its operand.
 ghost use mathlib.Core.Path.{_≡_};
+ghost use mathlib.Core.Bool.{_&&_};
 ghost use Prim.Native.Nat.{_+_, _<_, _≤_, _^_};
 ghost use Rattle.cells.specs.Choice.{pick};
 ghost use Rattle.tokens.specs.Table.{isProgram};
@@ -50,7 +51,7 @@ fn is_double(first: u8) -> bool
 }
 
 // The number at a place.
-fn number_at(rom: &[u8], at: usize) -> u32
+pub fn number_at(rom: &[u8], at: usize) -> u32
     requires { ⌜ at < 2 ^ 40 ⌝ }
     ensures { λ r. ⌜ r ≡ numberOf (now (rom .entry)) at ⌝ }
 {
@@ -75,14 +76,14 @@ pub fn behind_number(rom: &[u8], at: usize) -> usize
 }
 
 // The place behind the string at a place.
-fn behind_string(rom: &[u8], at: usize) -> usize
+pub fn behind_string(rom: &[u8], at: usize) -> usize
     requires { ⌜ at < 2 ^ 40 ⌝ }
     ensures { λ r. ⌜ (r ≡ behindString (now (rom .entry)) at) × (at < r) × (r ≤ at + 256) ⌝ }
 {
     at + 1 + (byte(rom, at) as usize)
 }
 
-fn behind_offset(at: usize, wide: bool) -> usize
+pub fn behind_offset(at: usize, wide: bool) -> usize
     requires { ⌜ at < 2 ^ 40 ⌝ }
     ensures { λ r. ⌜ (r ≡ at + pick wide 2 1) × (at < r) × (r ≤ at + 2) ⌝ }
 {
@@ -157,7 +158,18 @@ fn is_kind(byte: u32) -> bool
     }
 }
 
-// Whether a whole token is one of the list's: its number is, and a definition has a program's number and a kind.
+// A definition has a program's number and a kind.
+pub fn is_definition(number: u32, kind: u32) -> bool
+    ensures { λ r. ⌜ r ≡ (isProgram number && isKind kind) ⌝ }
+{
+    if is_program(number) {
+        is_kind(kind)
+    } else {
+        false
+    }
+}
+
+// Whether a whole token is one of the list's: its number is, and a definition is well formed.
 fn listed(code: u32, operand: Operand) -> bool
     ensures { λ r. ⌜ r ≡ Decode·listed code operand ⌝ }
 {
@@ -170,13 +182,7 @@ fn listed(code: u32, operand: Operand) -> bool
         Operand::Text { start: _, count: _ } => true,
         Operand::Branch { bits: _, aim: _ } => true,
         Operand::Number(_) => true,
-        Operand::Definition { number, kind } => {
-            if is_program(number) {
-                is_kind(kind)
-            } else {
-                false
-            }
-        }
+        Operand::Definition { number, kind } => is_definition(number, kind),
     }
 }
 

@@ -1,10 +1,11 @@
-// The token list of document 01 with its names, the token at a place, reading a body to its end, and a reader that goes from place to place. Every call is
-// total: any bytes, any place, any length. Places are counted in 32 bits.
+// The token list of document 01 with its names, the token at a place, whole or at a glance, reading a body to its end, and a reader that
+// goes from place to place. Every call is total: any bytes, any place, any length. Places are counted in 32 bits.
 mod body;
 mod code;
 mod decoding;
 mod definition;
 pub mod family;
+mod glance;
 mod name;
 mod read;
 pub mod reader;
@@ -14,6 +15,7 @@ pub use body::kind_of;
 pub use body::number_in;
 pub use body::read_body;
 pub use body::unknown;
+pub use body::unknown_seen;
 pub use code::code_of;
 pub use code::family_of;
 pub use code::gives_of;
@@ -28,6 +30,8 @@ pub use decoding::is_program;
 pub use definition::kind_in;
 pub use definition::new_number;
 pub use definition::takes_here;
+pub use glance::Glance;
+pub use glance::glance_at;
 pub use name::name_front;
 pub use name::name_rest;
 pub use read::Read;

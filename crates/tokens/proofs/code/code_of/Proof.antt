@@ -1,7 +1,7 @@
-use borrow.Author.Needs.{needs}
-use Rattle.tokens.specs.Table.{ends, lows, highs, doubles, table, rowOf}
+use Rattle.tokens.proofs.Codes.{before-lows, before-highs, before-end, beyond}
 use Rattle.tokens.specs.Code.{codeOf}
-use Rattle.tokens.proofs.Codes.{a-program, before-lows, before-highs, before-doubles, before-programs, beyond}
+use Rattle.tokens.specs.Table.{ends, lows, highs, doubles, table, rowOf}
+use borrow.Author.Needs.{needs}
 use Rattle.tokens.proofs.code.code_of.Statement.{statement}
 use Rattle.tokens.proofs.code.code_of.Tie as tie
 
@@ -17,12 +17,8 @@ code-of-spec =
     (λ c. rw (c .match .keys2))
     (λ c. c .low .ensures)
     (λ c. c .high .ensures)
-    (λ c. c .double .ensures)
-    (λ c. a-program (c .before .before .before .before .before .before .before .before .before .args .number) (search needs) (search needs))
+    (λ c. c .double-code .ensures)
     (λ c. before-lows (c .before .before .args .number) (c .before .match .rest .0 .1) (search needs))
     (λ c. before-highs (c .before .before .before .before .args .number) (search needs) (search needs))
-    (λ c.
-    let k = c .before .before .before .before .before in
-    before-doubles (k .before .args .number) (k .match .rest .1) (search needs) (search needs))
-    (λ c. before-programs (c .before .before .before .before .before .before .before .before .args .number) (search needs) (search needs))
-    (λ c. beyond (c .before .before .before .before .before .before .before .before .before .args .number) (search needs) (search needs)))
+    (λ c. before-end (c .before .before .before .before .before .before .args .number) (c .before .before .before .before .before .match .rest .1) (search needs) (search needs))
+    (λ c. beyond (c .before .before .before .before .before .before .before .args .number) (search needs) (search needs)))

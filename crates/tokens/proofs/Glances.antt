@@ -1,0 +1,129 @@
+-- A token at a glance, by what the code has found of it. Assumes nothing.
+use Prim.Native.Nat.{ℕ, _+_, _*_, _≤_, _<_}
+use mathlib.Core.Path.{_≡_, refl, sym, _∙_}
+use mathlib.Core.Bool.{Bool, true, false, not}
+use mathlib.Core.List.{List}
+use native.Mathlib.Omega.{arith}
+use borrow.Author.Tests.{eq-eqb, ne-eqb, le-ltb, lt-ltb}
+use lib.Dec.{T, eqb, ltb}
+use Rattle.cells.specs.Choice.{pick}
+use Rattle.rom.specs.Bytes.{byteOf}
+use Rattle.tokens.specs.Table.{ends, lows, highs, doubles, table}
+use Rattle.tokens.specs.Code.{codeOf, formIn}
+use Rattle.tokens.specs.Decode.{isDouble, numberOf, behindNumber, behindString, behindOf}
+use Rattle.tokens.specs.Decode.{operandOf, listed, tokenOf, wholeOf, decodeOf}
+use Rattle.tokens.specs.Laws.{number-ahead, behind-ahead}
+use Rattle.tokens.specs.Rows.{code-fact}
+use Rattle.tokens.specs.Glance.{seenAs, seenIn, nothingSeen, glanced, glanceOf}
+use Rattle.tokens.specs.Glance.{twoBytes, firstOf, seenFrom, endedOf, branchedOf, definedOf}
+use Rattle.tokens.specs.declared.decoding.Token.{Token}
+use Rattle.tokens.specs.declared.decoding.Operand.the-variants.{Nothing}
+use Rattle.tokens.specs.declared.decoding.Decoded.the-variants.{Cut, Unlisted, Whole}
+
+-- ---- a glance by its tests
+shown : (cut good : Bool) (code : ℕ) (t : Token)
+    → glanced (pick cut Cut (pick good (Whole t) (Unlisted code))) ≡ pick cut nothingSeen (pick good (seenIn t) nothingSeen)
+shown true good code t = refl
+shown false true code t = refl
+shown false false code t = refl
+
+either-way : (b : Bool) → pick b nothingSeen nothingSeen ≡ nothingSeen
+either-way true = refl
+either-way false = refl
+
+module _ (rom : List ℕ) (length : ℕ) (wide : Bool) (code n p : ℕ) where
+  abbrev ended-at : ℕ
+  ended-at = behindOf rom wide p (formIn code)
+
+  abbrev token : Token
+  token = tokenOf n code (operandOf rom length wide p (formIn code)) ended-at
+
+  seen-by : seenFrom rom length wide code n p
+      ≡ pick (ltb length ended-at) nothingSeen (pick (listed code (token .operand)) (seenIn token) nothingSeen)
+  unfolding seenFrom wholeOf
+  seen-by = shown (ltb length ended-at) (listed code (token .operand)) code token
+
+  pub not-listed : code ≡ 0 → nothingSeen ≡ seenFrom rom length wide code n p
+  not-listed z = sym (seen-by ∙ rw (eq-eqb _ _ z) (either-way (ltb length ended-at)))
+
+  module _ (z : code ≡ 0 → ⊥) where
+    pub of-literal : formIn code ≡ 1 → endedOf length code n (p + 4) ≡ seenFrom rom length wide code n p
+    unfolding behindOf operandOf
+    of-literal e = sym (seen-by ∙ rw (e, ne-eqb _ _ z))
+
+    pub of-string : formIn code ≡ 2 → endedOf length code n (behindString rom p) ≡ seenFrom rom length wide code n p
+    unfolding behindOf operandOf
+    of-string e = sym (seen-by ∙ rw (e, ne-eqb _ _ z))
+
+    pub of-branch : formIn code ≡ 3 → branchedOf rom length wide code n p ≡ seenFrom rom length wide code n p
+    unfolding behindOf operandOf
+    of-branch e = sym (seen-by ∙ rw (e, ne-eqb _ _ z))
+
+    pub of-number : formIn code ≡ 4 → endedOf length code (numberOf rom p) (behindNumber rom p) ≡ seenFrom rom length wide code n p
+    unfolding behindOf operandOf
+    of-number e = sym (seen-by ∙ rw (e, ne-eqb _ _ z))
+
+    pub of-head : formIn code ≡ 5 → definedOf rom length code p ≡ seenFrom rom length wide code n p
+    unfolding behindOf operandOf
+    of-head e = sym (seen-by ∙ rw (e, ne-eqb _ _ z))
+
+    pub of-named : formIn code ≡ 6 → definedOf rom length code (behindString rom p) ≡ seenFrom rom length wide code n p
+    unfolding behindOf operandOf
+    of-named e = sym (seen-by ∙ rw (e, ne-eqb _ _ z))
+
+    pub of-none : formIn code ≡ 0 → endedOf length code n p ≡ seenFrom rom length wide code n p
+    unfolding behindOf operandOf
+    of-none e = sym (seen-by ∙ rw (e, ne-eqb _ _ z))
+
+    -- no form at all
+    pub of-other : behindOf rom wide p (formIn code) ≡ p → operandOf rom length wide p (formIn code) ≡ Nothing
+        → endedOf length code n p ≡ seenFrom rom length wide code n p
+    of-other b o = sym (seen-by ∙ rw (b, o, ne-eqb _ _ z))
+
+pub in-time : (length code n next : ℕ) → next ≤ length → seenAs code n next 0 0 ≡ endedOf length code n next
+in-time length code n next h = rw (le-ltb _ _ h)
+
+-- ---- what a first byte says
+no-such-code : (n : ℕ) → T (not (eqb (codeOf n) twoBytes))
+unfolding table ends lows highs doubles
+no-such-code n = code-fact (λ c. not (eqb c twoBytes)) tt tt tt n
+
+module _ (b code : ℕ) (e : code ≡ firstOf b) where
+  pub has-second : code ≡ twoBytes → isDouble b ≡ true
+  unfolding firstOf
+  has-second t = by (isDouble b) refl e
+    where
+      by : (d : Bool) → isDouble b ≡ d → code ≡ pick d twoBytes (codeOf b) → isDouble b ≡ true
+      by true h f = h
+      by false h f =
+          let k : codeOf b ≡ twoBytes = sym f ∙ t in
+          let m = no-such-code b in
+          absurd (rw (eq-eqb _ _ k) at m)
+
+  pub has-none : (code ≡ twoBytes → ⊥) → (isDouble b ≡ false) × (code ≡ codeOf b)
+  unfolding firstOf
+  has-none t = by (isDouble b) refl e
+    where
+      by : (d : Bool) → isDouble b ≡ d → code ≡ pick d twoBytes (codeOf b) → (isDouble b ≡ false) × (code ≡ codeOf b)
+      by true h f = absurd (t f)
+      by false h f = (h, f)
+
+-- ---- the token at a place, by its first byte
+module _ (rom : List ℕ) (length : ℕ) (wide : Bool) (p : ℕ) where
+  pub past-end : length ≤ p → nothingSeen ≡ glanceOf rom length wide p
+  unfolding glanceOf decodeOf wholeOf
+  past-end h =
+      let n = number-ahead rom p in
+      let b = behind-ahead rom wide (behindNumber rom p) (formIn (codeOf (numberOf rom p))) in
+      let l : length < behindOf rom wide (behindNumber rom p) (formIn (codeOf (numberOf rom p))) = omega arith in
+      rw (lt-ltb _ _ l)
+
+  pub of-one : (b code : ℕ) → b ≡ byteOf rom p → isDouble b ≡ false → code ≡ codeOf b
+      → seenFrom rom length wide code b (p + 1) ≡ glanceOf rom length wide p
+  unfolding glanceOf decodeOf seenFrom
+  of-one b code e d c = rw (c, e, rw e at d)
+
+  pub of-two : (b n code : ℕ) → b ≡ byteOf rom p → isDouble b ≡ true → n ≡ b * 256 + byteOf rom (p + 1) → code ≡ codeOf n
+      → seenFrom rom length wide code n (p + 2) ≡ glanceOf rom length wide p
+  unfolding glanceOf decodeOf seenFrom
+  of-two b n code e d f c = rw (c, f, e, rw e at d)
