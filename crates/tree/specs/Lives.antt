@@ -1,4 +1,4 @@
--- Live bytes after a store of two lengths, and the name that a record was found by. Assumes nothing.
+-- Live bytes after a store of two lengths, and the node and the name that a record was found by. Assumes nothing.
 use Prim.Native.Nat.{ℕ, zero, suc, _+_, _-_, _≤_, _<_}
 use native.Mathlib.Omega.{arith}
 use native.Mathlib.Decide.{decLe}
@@ -8,7 +8,8 @@ use mathlib.Core.Path.{_≡_, refl, sym, ap, _∙_}
 use lib.ListN.{length, getD, set}
 use lib.Seq.{getD-set-same, getD-set-other}
 use lib.Dec.{eqb}
-use Rattle.cells.specs.Facts.{and-second}
+use borrow.Author.Tests.{eqb-true}
+use Rattle.cells.specs.Facts.{and-first, and-second}
 use Rattle.memory.specs.Window.{partOf}
 use Rattle.memory.specs.Laws.{length-part}
 use Rattle.tree.specs.Held.{ownerOf, nameSize, valueSize, liveAmong, liveFrom, sameBytes, matches, propertyAt}
@@ -59,7 +60,7 @@ same-length [] (y ∷ ys) e = absurd (true≢false (sym e))
 same-length (x ∷ xs) [] e = absurd (true≢false (sym e))
 same-length (x ∷ xs) (y ∷ ys) e = ap suc (same-length xs ys (and-second (eqb x y) (sameBytes xs ys) e))
 
--- the record that is found has a name of the same length
+-- the record that is found has a name of the same length, and is the node's
 module _ (t : Tree) (store : List ℕ) (node : ℕ) (name : List ℕ) where
   pub found-name : (k i at : ℕ) → at + liveFrom t k i ≤ length store → foundFrom t store node name k i at .index < i + k
       → nameSize t (foundFrom t store node name k i at .index) ≡ length name
@@ -71,3 +72,12 @@ module _ (t : Tree) (store : List ℕ) (node : ℕ) (name : List ℕ) where
       (sym (length-part store at (nameSize t i) (omega arith))
       ∙ same-length (partOf store at (nameSize t i)) name (and-second (eqb (ownerOf t i) node) (sameBytes (partOf store at (nameSize t i)) name) m)))
       (λ m. let l′ = rw m at l in rw m (found-name k (i + 1) (at + nameSize t i + valueSize t i) (omega arith) (omega arith)))
+
+  pub found-owner : (k i at : ℕ) → foundFrom t store node name k i at .index < i + k
+      → ownerOf t (foundFrom t store node name k i at .index) ≡ node
+  unfolding foundFrom
+  found-owner zero i at l = absurd (omega arith)
+  found-owner (suc k) i at l =
+      either (matches (propertyAt t store i at) node name)
+      (λ m. rw m (eqb-true (ownerOf t i) node (and-first (eqb (ownerOf t i) node) (sameBytes (partOf store at (nameSize t i)) name) m)))
+      (λ m. let l′ = rw m at l in rw m (found-owner k (i + 1) (at + nameSize t i + valueSize t i) (omega arith)))

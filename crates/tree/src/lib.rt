@@ -1,10 +1,20 @@
-// The nodes and their properties. The tree is a value; the bytes of names and values lie in a store that is lent. Every call is total.
+// The nodes and their properties. The tree is a value, on which every call is total, or is taken apart and lent; the bytes of names and
+// values lie in a store that is lent.
+mod in_place;
 mod lookup;
 mod node;
 mod property;
 mod rows;
 mod tree;
 
+pub use in_place::Closed;
+pub use in_place::Kept;
+pub use in_place::Opened;
+pub use in_place::Tail;
+pub use in_place::close_child;
+pub use in_place::open_child;
+pub use in_place::put_in;
+pub use in_place::tail_of;
 pub use lookup::NodeSought;
 pub use lookup::ValueSought;
 pub use lookup::find_node;

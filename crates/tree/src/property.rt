@@ -69,7 +69,7 @@ fn all_name_bytes(name: &[u8]) -> bool
     true
 }
 
-fn bad_name(name: &[u8]) -> bool
+pub fn bad_name(name: &[u8]) -> bool
     ensures { λ r. ⌜ r ≡ badName (now (name .entry)) ⌝ }
 {
     if name.len() < 1 {
@@ -82,7 +82,7 @@ fn bad_name(name: &[u8]) -> bool
 }
 
 // Whether a record of this owner, its name's bytes from a place up to an end, is the one of a node and a name.
-fn is_named(store: &[u8], owner: u32, start: usize, end: usize, node: u32, name: &[u8]) -> bool
+pub fn is_named(store: &[u8], owner: u32, start: usize, end: usize, node: u32, name: &[u8]) -> bool
     requires { ⌜ (start ≤ end) × (end ≤ length (now store)) ⌝ }
     ensures { λ r. ⌜ r ≡ eqb owner node && sameBytes (partOf (now (store .entry)) start (end - start)) (now (name .entry)) ⌝ }
 {
@@ -111,14 +111,14 @@ pub fn find(store: &[u8], tree: Tree, node: u32, name: &[u8]) -> Found
 }
 
 // The bytes of a value, with its null.
-fn size_of(count: usize, null: bool) -> usize
+pub fn size_of(count: usize, null: bool) -> usize
     requires { ⌜ count ≤ 16384 ⌝ }
     ensures { λ r. ⌜ (r ≡ sizeOf count null) × (r ≤ count + 1) ⌝ }
 {
     if null { count + 1 } else { count }
 }
 
-fn lay_value(store: &mut [u8], at: usize, value: &[u8], null: bool)
+pub fn lay_value(store: &mut [u8], at: usize, value: &[u8], null: bool)
     requires { ⌜ (at ≤ 32768) × (length (now value) ≤ 16384) ⌝ }
     ensures { λ r. ⌜ now (store .exit) ≡ writtenOf (now (store .entry)) at (valueOf (now (value .entry)) null) ⌝ }
 {
@@ -130,7 +130,7 @@ fn lay_value(store: &mut [u8], at: usize, value: &[u8], null: bool)
 }
 
 // A property more, at the live end.
-fn append(store: &mut [u8], live: usize, name: &[u8], value: &[u8], null: bool)
+pub fn append(store: &mut [u8], live: usize, name: &[u8], value: &[u8], null: bool)
     requires { ⌜ (live ≤ 16384) × (length (now name) ≤ 31) × (length (now value) ≤ 16384) ⌝ }
     ensures { λ r. ⌜ now (store .exit) ≡ appendedOf (now (store .entry)) live (now (name .entry)) (valueOf (now (value .entry)) null) ⌝ }
 {
@@ -142,7 +142,7 @@ fn append(store: &mut [u8], live: usize, name: &[u8], value: &[u8], null: bool)
 }
 
 // Another value in the place of the old one, and what stands behind it moved with it.
-fn replace(store: &mut [u8], live: usize, at: usize, old: usize, value: &[u8], null: bool)
+pub fn replace(store: &mut [u8], live: usize, at: usize, old: usize, value: &[u8], null: bool)
     requires { ⌜ (live ≤ 16384) × (at + old ≤ live) × (length (now value) ≤ 16384) ⌝ }
     ensures { λ r. ⌜ now (store .exit) ≡ replacedOf (now (store .entry)) live at old (valueOf (now (value .entry)) null) ⌝ }
 {
