@@ -1,21 +1,21 @@
 -- Tokens carried out in place, one after the other. Assumes nothing.
 use Prim.Native.Nat.{ℕ, zero, suc, _+_, _-_, _<_, _≤_}
 use mathlib.Core.Path.{_≡_, refl, sym, _∙_, ap, subst}
-use mathlib.Core.Bool.{Bool, true, false}
+use mathlib.Core.Bool.{Bool}
 use mathlib.Core.List.{List}
 use native.Mathlib.Omega.{arith}
-use borrow.Author.Tests.{eqb-true, eqb-false, ne-eqb}
-use lib.Dec.{eqb}
 use Rattle.state.specs.Scene.{Scene, Turn, scene, turn, refuse}
 use Rattle.state.specs.Step.{tokenOf}
 use Rattle.state.specs.Run.{then}
 use Rattle.state.specs.Laws.{refused-keeps}
-use Rattle.reckon.specs.Fast.{packed, said, Goes, Fast}
-use Rattle.state.specs.Hot.{Cold}
+use Rattle.reckon.specs.Fast.{packed, Goes, Fares, Fast}
+use Rattle.state.specs.Hot.{Cold as IsCold}
 use Rattle.machine.specs.Carried.{Carried, Stopped}
 use Rattle.state.specs.declared.state.State.{State}
-use Rattle.state.specs.declared.answer.Answer.the-variants.{Going, Refused}
-use Rattle.reckon.specs.declared.in_place.Turned.{Turned}
+use Rattle.state.specs.declared.answer.Answer.the-variants.{Going}
+use Rattle.reckon.specs.declared.turned.Fared.{Fared}
+use Rattle.reckon.specs.declared.turned.Fared.the-variants.{On, Cold, Not}
+use Rattle.reckon.specs.declared.turned.Turned.{Turned}
 
 pub carried-none : (n : ℕ) (s : Scene) → Carried (n - n) s s
 carried-none n s = let e : n - n ≡ 0 = omega arith in subst (λ (k : ℕ). Carried k s s) (sym e) refl
@@ -45,44 +45,29 @@ module _ (rom : List ℕ) (size : ℕ) (wide : Bool) (base : ℕ) (c : List ℕ)
   before = scene rom work store (packed st c h k b place)
 
   abbrev behind : Scene
-  behind = scene rom work store (packed st d (r .1) l (r .2) (r .3))
+  behind = scene rom work store (packed st d (r .height) l (r .returns) (r .place))
 
-  pub glides : (count n : ℕ) (s : Scene) → r .0 ≡ 0 → count ≤ n → Carried (n - count) s before → Carried (n + 1 - count) s behind
-  glides count n s z m i =
-      carried-on count n s before behind m i
-      (f .2 (λ o. eqb-false 0 1 refl (sym z ∙ o)) st work store g ∙ ap (λ (j : ℕ). turn (said j) (behind .state) work store) z) refl refl
+  faring : (x : Fared) → r .fared ≡ x → Fares x rom size wide base c h k b place r d l
+  faring x z = subst (λ (y : Fared). Fares y rom size wide base c h k b place r d l) z (f .1)
+
+  pub glides : (count n : ℕ) (s : Scene) → r .fared ≡ On → count ≤ n → Carried (n - count) s before → Carried (n + 1 - count) s behind
+  glides count n s z m i = carried-on count n s before behind m i (faring On z st work store g) refl refl
 
   -- one that was not: nothing is changed
-  same : (b : Bool) → (r .0 ≡ 0 → ⊥) → eqb (r .0) 1 ≡ b → before ≡ behind
-  same true n q =
-      let u = f .1 (eqb-true (r .0) 1 q) in
-      rw (u .1, u .2, u .3, u .4, u .5)
-  same false n q =
-      let e = f .2 (eqb-false (r .0) 1 q) st work store g in
-      let a : tokenOf before .answer ≡ Refused (r .0) = ap (λ (t : Turn). t .answer) e ∙ rw (ne-eqb (r .0) 0 n) in
-      let y : tokenOf before ≡ refuse (r .0) before = refused-keeps before (r .0) a in
-      ap (λ (t : Turn). scene rom work store (t .state)) (sym y ∙ e)
+  pub halts-cold : (count n budget : ℕ) (s : Scene) → r .fared ≡ Cold → n < budget → Carried (n - count) s before
+      → Carried (n - count) s behind × Stopped Cold behind n budget
+  halts-cold count n budget s z m i =
+      let u = faring Cold z in
+      let q : before ≡ behind = rw (u .1, u .2, u .3, u .4, u .5) in
+      (carried-to (n - count) s before behind q i, (m, subst (λ (x : Scene). IsCold rom (x .state .place)) q (u .0)))
 
-  pub halts : (count n budget : ℕ) (s : Scene) → (r .0 ≡ 0 → ⊥) → n < budget → Carried (n - count) s before
-      → Carried (n - count) s behind × Stopped behind (r .0) n budget
-  halts count n budget s z m i =
-      let q = same (eqb (r .0) 1) z refl in (
-        carried-to (n - count) s before behind q i,
-        record {
-          spent = λ e. absurd (z e);
-          more = λ e. m;
-          cold = λ e. let u = f .1 e in subst (λ (x : Scene). Cold rom (x .state .place)) q (u .0);
-          refused = λ e o.
-              let a : tokenOf before .answer ≡ Refused (r .0) = ap (λ (t : Turn). t .answer) (f .2 o st work store g) ∙ rw (ne-eqb (r .0) 0 z) in
-              subst (λ (x : Scene). tokenOf x ≡ refuse (r .0) x) q (refused-keeps before (r .0) a);
-        },
-      )
+  pub halts-refused : (count n budget why : ℕ) (s : Scene) → r .fared ≡ Not why → n < budget → Carried (n - count) s before
+      → Carried (n - count) s behind × Stopped (Not why) behind n budget
+  halts-refused count n budget why s z m i =
+      let e = faring (Not why) z st work store g in
+      let y : tokenOf before ≡ refuse why before = refused-keeps before why (ap (λ (t : Turn). t .answer) e) in
+      let q : before ≡ behind = ap (λ (t : Turn). scene rom work store (t .state)) (sym y ∙ e) in
+      (carried-to (n - count) s before behind q i, (m, subst (λ (x : Scene). tokenOf x ≡ refuse why x) q y))
 
-pub spends : (s : Scene) (n budget : ℕ) → n ≤ budget → budget ≤ n → Stopped s 0 n budget
-spends s n budget a b =
-    record {
-      spent = λ e. omega arith;
-      more = λ e. absurd (e refl);
-      cold = λ e. absurd (eqb-false 0 1 refl e);
-      refused = λ e o. absurd (e refl);
-    }
+pub spends : (n budget : ℕ) → n ≤ budget → budget ≤ n → n ≡ budget
+spends n budget a b = omega arith

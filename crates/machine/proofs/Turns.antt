@@ -12,7 +12,9 @@ use Rattle.state.specs.Run.{Outcome, ended, then, after, runFrom}
 use Rattle.state.specs.Sized.{Sized}
 use Rattle.state.specs.Laws.{watchedOf, keeps-watched}
 use Rattle.state.specs.KeepsWhole.{Lent, ready-facts, whole-facts}
-use Rattle.state.specs.Hot.{Cold}
+use Rattle.state.specs.Hot.{Cold as IsCold}
+use Rattle.reckon.specs.declared.turned.Fared.{Fared}
+use Rattle.reckon.specs.declared.turned.Fared.the-variants.{On, Cold, Not}
 use Rattle.machine.specs.Carried.{Carried, Stopped, Drives, Drivable}
 use Rattle.machine.specs.declared.running.Driven.{Driven}
 use Rattle.state.specs.declared.state.State.{State}
@@ -22,11 +24,11 @@ use Rattle.tree.specs.declared.tree.Tree.{Tree}
 use Rattle.state.specs.KeepsParts.{base-below}
 
 -- ---- a ready state may be driven
-pub drivable : (s : Scene) → readyOf s ≡ Going → Drivable (s .state)
+pub drivable : (s : Scene) → readyOf s ≡ Going → Drivable (s .rom) (s .state)
 drivable s e =
     let f = ready-facts s e in
     let p = whole-facts (s .state) (f .1) .0 in
-    (p .height, base-below (s .state .length) (s .state .calls) (s .state .back .height) (p .calls), p .returns, p .place .from, p .place .to, under (f .0))
+    (p .height, base-below (s .state .length) (s .state .calls) (s .state .back .height) (p .calls), p .returns, p .place .from, p .place .to, under (f .0), f .0 .most)
   where
     under : Lent s → s .state .length ≤ 16384
     under l = let a = l .most in let b = l .romTo in omega arith
@@ -116,6 +118,10 @@ run-known (suc k) n s Finished e h = rw (e, runFrom)
 run-known (suc k) n s (Refused why) e h = rw (e, runFrom)
 run-known (suc k) n s (Spent m) e h = rw (e, runFrom)
 
+-- why they ended, once it is told which it is
+pub stopped : (x y : Fared) (s : Scene) (n b : ℕ) → x ≡ y → Stopped x s n b → Stopped y s n b
+stopped x y s n b e p = subst (λ (z : Fared). Stopped z s n b) e p
+
 -- ---- a step
 -- a token that was carried out in place
 pub one-carried : (n : ℕ) (s t : Scene) → n ≡ 1 → Carried (n - 0) s t → (tokenOf s .answer ≡ Going) × (then s (tokenOf s) ≡ t)
@@ -128,36 +134,27 @@ pub none-carried : (n : ℕ) (s t : Scene) → n ≡ 0 → Carried (n - 0) s t �
 none-carried n s t e c = let k : n - 0 ≡ 0 = omega arith in subst (λ (j : ℕ). Carried j s t) k c
 
 module _ (rom work store : List ℕ) (st : State) (d : Driven) (v : Drives rom st 0 1 d) where
-  pub step-carried : d .count ≡ 1 → turn Going (d .state) work store ≡ tokenOf (scene rom work store st)
+  ends : (x : Fared) → d .fared ≡ x → Stopped x (scene rom work store (d .state)) (d .count) 1
+  ends x e = stopped (d .fared) x (scene rom work store (d .state)) (d .count) 1 e (v .1 work store .1)
+
+  pub step-carried : d .fared ≡ On → turn Going (d .state) work store ≡ tokenOf (scene rom work store st)
   step-carried e =
-      let o = one-carried (d .count) (scene rom work store st) (scene rom work store (d .state)) e (v .1 work store .0) in
+      let o = one-carried (d .count) (scene rom work store st) (scene rom work store (d .state)) (ends On e) (v .1 work store .0) in
       sym (ap (λ (a : Answer). turn a (tokenOf (scene rom work store st) .state) (tokenOf (scene rom work store st) .work) (tokenOf (scene rom work store st) .store)) (o .0)
       ∙ ap (λ (x : Scene). turn Going (x .state) (x .work) (x .store)) (o .1))
 
-  module _ (n : d .count ≡ 1 → ⊥) where
-    none : d .count ≡ 0
-    none = zero-of (d .count) (v .0 .1) n
-      where
-        zero-of : (k : ℕ) → k ≤ 1 → (k ≡ 1 → ⊥) → k ≡ 0
-        zero-of zero l f = refl
-        zero-of (suc k) l f = absurd (f (omega arith))
+  same : d .count < 1 → scene rom work store st ≡ scene rom work store (d .state)
+  same l = none-carried (d .count) (scene rom work store st) (scene rom work store (d .state)) (omega arith) (v .1 work store .0)
 
-    same : scene rom work store st ≡ scene rom work store (d .state)
-    same = none-carried (d .count) (scene rom work store st) (scene rom work store (d .state)) none (v .1 work store .0)
+  pub cold-here : d .fared ≡ Cold → readyOf (scene rom work store st) ≡ Going
+      → (readyOf (scene rom work store (d .state)) ≡ Going) × IsCold rom (d .state .place)
+  cold-here c e = (subst (λ (x : Scene). readyOf x ≡ Going) (same (ends Cold c .0)) e, ends Cold c .1)
 
-    pub ready-here : readyOf (scene rom work store st) ≡ Going → readyOf (scene rom work store (d .state)) ≡ Going
-    ready-here e = subst (λ (x : Scene). readyOf x ≡ Going) same e
+  pub step-cold : d .fared ≡ Cold → (r : Turn) → r ≡ tokenOf (scene rom work store (d .state)) → r ≡ tokenOf (scene rom work store st)
+  step-cold c r e = e ∙ ap (λ (x : Scene). tokenOf x) (sym (same (ends Cold c .0)))
 
-    pub cold-here : d .code ≡ 1 → Cold rom (d .state .place)
-    cold-here c = v .1 work store .1 .cold c
-
-    pub step-cold : (r : Turn) → r ≡ tokenOf (scene rom work store (d .state)) → r ≡ tokenOf (scene rom work store st)
-    step-cold r e = e ∙ ap (λ (x : Scene). tokenOf x) (sym same)
-
-    pub step-refused-here : (d .code ≡ 1 → ⊥) → turn (Refused (d .code)) (d .state) work store ≡ tokenOf (scene rom work store st)
-    step-refused-here c =
-        step-cold (turn (Refused (d .code)) (d .state) work store)
-        (sym (v .1 work store .1 .refused (λ z. n (v .1 work store .1 .spent z)) c))
+  pub step-refused-here : (why : ℕ) → d .fared ≡ Not why → turn (Refused why) (d .state) work store ≡ tokenOf (scene rom work store st)
+  step-refused-here why c = sym (ends (Not why) c .1) ∙ ap (λ (x : Scene). tokenOf x) (sym (same (ends (Not why) c .0)))
 
 -- ---- the loop of a run
 -- a ready scene, whose run ends as the whole run does
@@ -181,8 +178,8 @@ pub ends-spent : (b n : ℕ) (w : Outcome) (s : Scene) → Going-on b w n s → 
 ends-spent b n w s i l = sym (run-spent b n s (i .0) l) ∙ i .2
 
 module _ (b n : ℕ) (w : Outcome) (s : Scene) (i : Going-on b w n s) (l : n < b) where
-  pub ends-refused : (code : ℕ) → Stopped s code n b → (code ≡ 1 → ⊥) → ended (Refused code) n s ≡ w
-  ends-refused code p c = sym (run-refused b n code s (i .0) l (p .refused (λ z. let e = p .spent z in omega arith) c)) ∙ i .2
+  pub ends-refused : (why : ℕ) → tokenOf s ≡ refuse why s → ended (Refused why) n s ≡ w
+  ends-refused why p = sym (run-refused b n why s (i .0) l p) ∙ i .2
 
   -- and behind the token that was done by value, by its answer
   module _ (r : Turn) (t : r ≡ tokenOf s) where

@@ -5,10 +5,12 @@ ghost use lib.ListN.{length};
 ghost use Rattle.state.specs.Scene.{scene, told};
 ghost use Rattle.state.specs.Step.{readyOf, tokenOf, stepOf};
 ghost use Rattle.state.specs.Run.{runOf, toldRan, ranOf};
-ghost use Rattle.machine.specs.Carried.{Glides, Drives, Drivable};
+ghost use Rattle.machine.specs.Carried.{Glides, Drives, Drivable, wentOf};
+ghost use Rattle.reckon.specs.Fast.{Holds};
 ghost use Rattle.acts.specs.Slow.{Ready};
 ghost use Rattle.state.specs.Sized.{Sized};
 use acts::slow;
+use reckon::Fared;
 use reckon::fast;
 use rom::sizes::ROM_LEAST;
 use rom::sizes::ROM_MOST;
@@ -23,15 +25,21 @@ use state::going;
 use state::is_whole;
 use state::refused;
 
-// How far tokens went in place: the count, the heights of the two stacks, the place, and the code of the token that was not carried out, 0 where the
-// budget is spent.
-pub struct Went(pub u32, pub usize, pub usize, pub u32, pub u32);
+// How far tokens went in place: the count, how the next token fared that was not carried out, `On` where the budget is spent, the heights
+// of the two stacks, and the place.
+pub struct Went {
+    pub count: u32,
+    pub fared: Fared,
+    pub height: usize,
+    pub returns: usize,
+    pub place: u32,
+}
 
 // The same with the state.
 pub struct Driven {
     pub state: State,
     pub count: u32,
-    pub code: u32,
+    pub fared: Fared,
 }
 
 // What is known before a token is looked at: 6, 1, 7, 4, or that the state is finished.
@@ -80,7 +88,7 @@ fn glide(
     count: u32,
     budget: u32,
 ) -> Went
-    requires { ⌜ (height ≤ 64) × (base ≤ returns) × (returns ≤ 32) × (8 ≤ start) × (start ≤ length) × (length ≤ 16384) × (count ≤ budget) ⌝ }
+    requires { ⌜ (height ≤ 64) × (base ≤ returns) × (returns ≤ 32) × (8 ≤ start) × (start ≤ length) × (length ≤ 16384) × Holds (now rom) length × (count ≤ budget) ⌝ }
     ensures { λ r. ⌜ Glides (now (rom .entry)) length wide base count budget (now (stack .entry)) height (now (back .entry)) returns start r (now (stack .exit)) (now (back .exit)) ⌝ }
 {
     let mut n = count;
@@ -99,20 +107,34 @@ fn glide(
             base,
             place,
         );
-        h = t.1;
-        b = t.2;
-        place = t.3;
-        if t.0 != 0 {
-            return Went(n, h, b, place, t.0);
+        h = t.height;
+        b = t.returns;
+        place = t.place;
+        let fared = t.fared;
+        match fared {
+            Fared::On => n += 1,
+            Fared::Cold => return gone(n, Fared::Cold, h, b, place),
+            Fared::Not(why) => return gone(n, Fared::Not(why), h, b, place),
         }
-        n += 1;
     }
-    Went(n, h, b, place, 0)
+    gone(n, Fared::On, h, b, place)
+}
+
+fn gone(count: u32, fared: Fared, height: usize, returns: usize, place: u32) -> Went
+    ensures { λ r. ⌜ r ≡ wentOf count fared height returns place ⌝ }
+{
+    Went {
+        count: count,
+        fared: fared,
+        height: height,
+        returns: returns,
+        place: place,
+    }
 }
 
 // The same on a state: its stacks are taken out once and put back once.
 fn drive(rom: &[u8], st: State, count: u32, budget: u32) -> Driven
-    requires { ⌜ Drivable st × (count ≤ budget) ⌝ }
+    requires { ⌜ Drivable (now rom) st × (count ≤ budget) ⌝ }
     ensures { λ r. ⌜ Drives (now (rom .entry)) st count budget r ⌝ }
 {
     let mut stack = st.stack;
@@ -132,16 +154,17 @@ fn drive(rom: &[u8], st: State, count: u32, budget: u32) -> Driven
         count,
         budget,
     );
-    stack.height = w.1;
-    back.height = w.2;
+    let fared = w.fared;
+    stack.height = w.height;
+    back.height = w.returns;
     let mut n = st;
     n.stack = stack;
     n.back = back;
-    n.place = w.3;
+    n.place = w.place;
     Driven {
         state: n,
-        count: w.0,
-        code: w.4,
+        count: w.count,
+        fared: fared,
     }
 }
 
@@ -152,13 +175,12 @@ fn token(rom: &[u8], work: &mut [u8], store: &mut [u8], st: State) -> Stepped
 {
     let d = drive(rom, st, 0, 1);
     let n = d.state;
-    if d.count == 1 {
-        return going(n);
+    let fared = d.fared;
+    match fared {
+        Fared::On => going(n),
+        Fared::Cold => slow(rom, work, store, n),
+        Fared::Not(why) => refused(n, why),
     }
-    if d.code == 1 {
-        return slow(rom, work, store, n);
-    }
-    refused(n, d.code)
 }
 
 // One token, or why it is refused; a finished state says so again. A refused step leaves the state, work memory and store as they were.
@@ -187,8 +209,11 @@ fn tokens(rom: &[u8], work: &mut [u8], store: &mut [u8], st: State, budget: u32)
 {
     let mut d = drive(rom, st, 0, budget);
     while d.count < budget {
-        if d.code != 1 {
-            return ended(Answer::Refused(d.code), d.count, d.state);
+        let fared = d.fared;
+        match fared {
+            Fared::On => return ended(Answer::Spent(d.count), d.count, d.state),
+            Fared::Not(why) => return ended(Answer::Refused(why), d.count, d.state),
+            Fared::Cold => {}
         }
         let r = slow(rom, &mut *work, &mut *store, d.state);
         let answer = r.answer;

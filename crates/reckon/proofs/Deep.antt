@@ -15,7 +15,7 @@ use Rattle.cells.specs.declared.Divided.the-variants.{ByZero, Parts}
 use Rattle.tokens.specs.Table.{ends, lows, highs, doubles, table, rowOf}
 use Rattle.tokens.specs.Code.{codeOf}
 use Rattle.state.specs.Stacks.{stacks, outcome, leftOf, cellsFrom, plainOf, turnedOf, divideOf, pickUpOf, rollUpOf, maybeOf}
-use Rattle.reckon.specs.Reckoned.{moved, Works}
+use Rattle.reckon.proofs.Made.{Works}
 
 -- ---- what u/mod's answer says
 abbrev undivided : Divided → Bool
@@ -46,12 +46,12 @@ module _ (x y : ℕ) where
 
 -- ---- the ways out
 module _ (h b : ℕ) (c : List ℕ) (t : h ≤ 64) where
-  pub divide-low : h < 2 → Works divideOf c h b (moved 14 h b) c
-  divide-low l = (t, refl, λ k. rw (lt-ltb _ _ l))
+  pub divide-low : h < 2 → Works divideOf c h b 14 h c
+  divide-low l = (t, λ k. rw (lt-ltb _ _ l))
 
   module _ (l : 2 ≤ h) where
-    pub divide-zero : eqb (getD c (h - 1) 0) 0 ≡ true → Works divideOf c h b (moved 21 h b) c
-    divide-zero z = let y : h - 1 - 0 ≡ h - 1 = omega arith in (t, refl, λ k. simp (le-ltb _ _ l, y, z))
+    pub divide-zero : eqb (getD c (h - 1) 0) 0 ≡ true → Works divideOf c h b 21 h c
+    divide-zero z = let y : h - 1 - 0 ≡ h - 1 = omega arith in (t, λ k. simp (le-ltb _ _ l, y, z))
 
     divide-left : (k : List ℕ)
         → outcome 0 (stacks (set (set c (h - 2) (getD c (h - 2) 0 % getD c (h - 1) 0)) (h - 1) (getD c (h - 2) 0 / getD c (h - 1) 0)) h k b) ≡ outcome 0 (plainOf 0x2B 0 (stacks c h k b))
@@ -65,55 +65,55 @@ module _ (h b : ℕ) (c : List ℕ) (t : h ≤ 64) where
         simp (x, y, w, v, u)
 
     pub divide-fine : (r q : ℕ) → eqb (getD c (h - 1) 0) 0 ≡ false → r ≡ getD c (h - 2) 0 % getD c (h - 1) 0 → q ≡ getD c (h - 2) 0 / getD c (h - 1) 0
-        → Works divideOf c h b (moved 0 h b) (set (set c (h - 2) r) (h - 1) q)
+        → Works divideOf c h b 0 h (set (set c (h - 2) r) (h - 1) q)
     divide-fine r q z d e =
         let y : h - 1 - 0 ≡ h - 1 = omega arith in
-        (t, refl, λ k. rw (d, e) (divide-left k ∙ simp (le-ltb _ _ l, y, z)))
+        (t, λ k. rw (d, e) (divide-left k ∙ simp (le-ltb _ _ l, y, z)))
 
   -- pick and roll, by the count
-  pub pick-low : h < 1 → Works pickUpOf c h b (moved 14 h b) c
-  pick-low l = (t, refl, λ k. rw (lt-ltb _ _ l))
+  pub pick-low : h < 1 → Works pickUpOf c h b 14 h c
+  pick-low l = (t, λ k. rw (lt-ltb _ _ l))
 
-  pub roll-low : h < 1 → Works rollUpOf c h b (moved 14 h b) c
-  roll-low l = (t, refl, λ k. rw (lt-ltb _ _ l))
+  pub roll-low : h < 1 → Works rollUpOf c h b 14 h c
+  roll-low l = (t, λ k. rw (lt-ltb _ _ l))
 
   module _ (n : ℕ) (e : n ≡ getD c (h - 1) 0) (l : 1 ≤ h) where
     counted : getD c (h - 1 - 0) 0 ≡ n
     counted = let y : h - 1 - 0 ≡ h - 1 = omega arith in rw (y, e)
 
-    pub pick-deep : h < n + 2 → Works pickUpOf c h b (moved 14 h b) c
-    pick-deep m = (t, refl, λ k. simp (le-ltb _ _ l, counted, lt-ltb _ _ m))
+    pub pick-deep : h < n + 2 → Works pickUpOf c h b 14 h c
+    pick-deep m = (t, λ k. simp (le-ltb _ _ l, counted, lt-ltb _ _ m))
 
-    pub roll-deep : h < n + 2 → Works rollUpOf c h b (moved 14 h b) c
-    roll-deep m = (t, refl, λ k. simp (le-ltb _ _ l, counted, lt-ltb _ _ m))
+    pub roll-deep : h < n + 2 → Works rollUpOf c h b 14 h c
+    roll-deep m = (t, λ k. simp (le-ltb _ _ l, counted, lt-ltb _ _ m))
 
-    pub pick-fine : n + 2 ≤ h → Works pickUpOf c h b (moved 0 h b) (set c (h - 1) (getD c (h - 2 - n) 0))
+    pub pick-fine : n + 2 ≤ h → Works pickUpOf c h b 0 h (set c (h - 1) (getD c (h - 2 - n) 0))
     pick-fine m =
         let y : h - 1 - (n + 1) ≡ h - 2 - n = omega arith in
-        (t, refl, λ k. simp (le-ltb _ _ l, counted, le-ltb _ _ m, y))
+        (t, λ k. simp (le-ltb _ _ l, counted, le-ltb _ _ m, y))
 
-    pub roll-fine : n + 2 ≤ h → (d : List ℕ) (g : ℕ) → d ≡ turnedOf c (h - 2 - n) n → g ≡ h - 2 - n + n → Works rollUpOf c h b (moved 0 (g + 1) b) d
+    pub roll-fine : n + 2 ≤ h → (d : List ℕ) (g : ℕ) → d ≡ turnedOf c (h - 2 - n) n → g ≡ h - 2 - n + n → Works rollUpOf c h b 0 (g + 1) d
     roll-fine m d g x y =
         let z : g + 1 ≡ h - 1 = omega arith in
-        (omega arith, refl, λ k. rw (x, z) (simp (le-ltb _ _ l, counted, le-ltb _ _ m)))
+        (omega arith, λ k. rw (x, z) (simp (le-ltb _ _ l, counted, le-ltb _ _ m)))
 
   -- ?dup
-  pub maybe-low : h < 1 → Works maybeOf c h b (moved 14 h b) c
-  maybe-low l = (t, refl, λ k. rw (lt-ltb _ _ l))
+  pub maybe-low : h < 1 → Works maybeOf c h b 14 h c
+  maybe-low l = (t, λ k. rw (lt-ltb _ _ l))
 
   module _ (l : 1 ≤ h) where
     at-top : getD c (h - 1 - 0) 0 ≡ getD c (h - 1) 0
     at-top = let y : h - 1 - 0 ≡ h - 1 = omega arith in rw y
 
-    pub maybe-zero : getD c (h - 1) 0 ≡ 0 → Works maybeOf c h b (moved 0 h b) c
-    maybe-zero z = (t, refl, λ k. simp (le-ltb _ _ l, at-top, z))
+    pub maybe-zero : getD c (h - 1) 0 ≡ 0 → Works maybeOf c h b 0 h c
+    maybe-zero z = (t, λ k. simp (le-ltb _ _ l, at-top, z))
 
     module _ (z : getD c (h - 1) 0 ≡ 0 → ⊥) where
-      pub maybe-high : 64 ≤ h → Works maybeOf c h b (moved 15 h b) c
-      maybe-high m = let x : 64 < h + 1 = omega arith in (t, refl, λ k. simp (le-ltb _ _ l, at-top, ne-eqb _ _ z, lt-ltb _ _ x))
+      pub maybe-high : 64 ≤ h → Works maybeOf c h b 15 h c
+      maybe-high m = let x : 64 < h + 1 = omega arith in (t, λ k. simp (le-ltb _ _ l, at-top, ne-eqb _ _ z, lt-ltb _ _ x))
 
-      pub maybe-fine : h < 64 → Works maybeOf c h b (moved 0 (h + 1) b) (set c h (getD c (h - 1) 0))
-      maybe-fine m = let x : h + 1 ≤ 64 = omega arith in (x, refl, λ k. simp (le-ltb _ _ l, at-top, ne-eqb _ _ z, le-ltb _ _ x))
+      pub maybe-fine : h < 64 → Works maybeOf c h b 0 (h + 1) (set c h (getD c (h - 1) 0))
+      maybe-fine m = let x : h + 1 ≤ 64 = omega arith in (x, λ k. simp (le-ltb _ _ l, at-top, ne-eqb _ _ z, le-ltb _ _ x))
 
 -- ---- roll's loop: what is left to be moved, from a place up to an end, and then the cell that goes to the top
 abbrev pub leftToTurn : List ℕ → ℕ → ℕ → ℕ → List ℕ

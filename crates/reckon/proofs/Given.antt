@@ -7,8 +7,8 @@ use Rattle.tokens.specs.Row.{Seen}
 use Rattle.tokens.specs.Table.{ends, lows, highs, doubles, table, rowOf}
 use Rattle.tokens.specs.Code.{codeOf}
 use Rattle.state.specs.Stacks.{reckonedOf}
-use Rattle.tokens.specs.Rows.{among, coded, coded-other}
-use Rattle.reckon.specs.Reckoned.{OfNone, OfOne, OfTwo, OfThree}
+use Rattle.tokens.specs.Rows.{among, coded}
+use Rattle.reckon.specs.Reckoned.{Like, OfNone, OfOne, OfTwo, OfThree}
 
 module _ (k : ℕ) where
   pub none-by : {n h r : ℕ} (f : ℕ → ℕ) → ((s : Seen) → reckonedOf (rowOf k .results) s ≡ f (s .height) ∷ []) → n ≡ k → r ≡ f h → OfNone n h r
@@ -40,26 +40,38 @@ abbrev pub threes : List ℕ
 threes = 0x44 ∷ 0x45 ∷ []
 
 module _ (n : ℕ) where
-  pub none-coded : codeOf n ≡ 0x0100_0001 → T (among n nones)
-  unfolding table ends lows highs doubles
-  none-coded e = coded 0x0100_0001 nones tt n e
+  pub none-code : Like n 0xA5 → codeOf n ≡ 0x0100_0001
+  unfolding codeOf rowOf table ends lows highs doubles
+  none-code e = e
 
-  pub one-coded : codeOf n ≡ 0x0100_0011 → T (among n ones)
+  pub none-coded : Like n 0xA5 → T (among n nones)
   unfolding table ends lows highs doubles
-  one-coded e = coded 0x0100_0011 ones tt n e
+  none-coded e = coded 0x0100_0001 nones tt n (none-code e)
 
-  pub two-coded : codeOf n ≡ 0x0100_0021 → T (among n twos)
-  unfolding table ends lows highs doubles
-  two-coded e = coded 0x0100_0021 twos tt n e
+  pub one-code : Like n 0x26 → codeOf n ≡ 0x0100_0011
+  unfolding codeOf rowOf table ends lows highs doubles
+  one-code e = e
 
-  pub three-coded : codeOf n ≡ 0x0100_0031 → T (among n threes)
+  pub one-coded : Like n 0x26 → T (among n ones)
   unfolding table ends lows highs doubles
-  three-coded e = coded 0x0100_0031 threes tt n e
+  one-coded e = coded 0x0100_0011 ones tt n (one-code e)
 
-  pub tuck-coded : codeOf n ≡ 0x0100_0023 → (n ≡ 0x48 → ⊥) → n ≡ 0x4C
-  unfolding table ends lows highs doubles
-  tuck-coded e q = coded-other 0x0100_0023 0x48 0x4C tt n e q
+  pub two-code : Like n 0x1E → codeOf n ≡ 0x0100_0021
+  unfolding codeOf rowOf table ends lows highs doubles
+  two-code e = e
 
-  pub back-rot-coded : codeOf n ≡ 0x0100_0033 → (n ≡ 0x4A → ⊥) → n ≡ 0x4B
+  pub two-coded : Like n 0x1E → T (among n twos)
   unfolding table ends lows highs doubles
-  back-rot-coded e q = coded-other 0x0100_0033 0x4A 0x4B tt n e q
+  two-coded e = coded 0x0100_0021 twos tt n (two-code e)
+
+  pub three-code : Like n 0x44 → codeOf n ≡ 0x0100_0031
+  unfolding codeOf rowOf table ends lows highs doubles
+  three-code e = e
+
+  pub three-coded : Like n 0x44 → T (among n threes)
+  unfolding table ends lows highs doubles
+  three-coded e = coded 0x0100_0031 threes tt n (three-code e)
+
+  pub nothing-code : Like n 0x7B → codeOf n ≡ 0x0100_0000
+  unfolding codeOf rowOf table ends lows highs doubles
+  nothing-code e = e

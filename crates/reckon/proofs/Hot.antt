@@ -3,24 +3,25 @@
 use Prim.Native.Nat.{ℕ, _+_, _-_, _*_, _<_, _≤_}
 use mathlib.Core.Path.{_≡_, refl, _∙_, ap}
 use mathlib.Core.Bool.{Bool, true, false, not, _&&_, _||_}
-use mathlib.Core.List.{List}
+use mathlib.Core.List.{List, [], _∷_}
 use native.Mathlib.Omega.{arith}
-use borrow.Author.Tests.{eqb-true, leb-true}
+use borrow.Author.Tests.{eqb-true, leb-true, lt-ltb}
 use lib.Dec.{T, ltb, leb, eqb, eqb→eq}
 use Rattle.cells.specs.Choice.{pick}
-use Rattle.cells.specs.Tests.{tests}
-use Rattle.cells.specs.Facts.{is-false, holds, both-hold, follows}
+use Rattle.cells.specs.Tests.{pick-is, tests}
+use Rattle.cells.specs.Facts.{is-false, holds, both-hold, follows, never-true}
 use Rattle.rom.specs.Bytes.{byteOf}
+use Rattle.tokens.specs.Row.{Row}
 use Rattle.tokens.specs.Table.{ends, lows, highs, doubles, table, rowOf}
 use Rattle.tokens.specs.Code.{packed, codeOf, familyIn, outOfPlaceIn, formIn}
-use Rattle.tokens.specs.Decode.{isDouble, numberOf, behindOf, operandOf, formed, wholeOf, decodeOf}
+use Rattle.tokens.specs.Decode.{isDouble, numberOf, behindNumber, behindString, behindOf, operandOf, formed, wholeOf, decodeOf}
 use Rattle.tokens.specs.Decode.{tokenOf as tokenMade}
 use Rattle.tokens.specs.Place.{judged, misplacedOf, readOf}
 use Rattle.tokens.specs.declared.decoding.Operand.{Operand}
 use Rattle.tokens.specs.declared.decoding.Decoded.the-variants.{Cut, Whole}
 use Rattle.tokens.specs.declared.read.Read.{Read}
 use Rattle.tokens.specs.declared.read.Read.the-variants.{Refused as Unread, Good}
-use Rattle.tokens.specs.Rows.{rows-pass}
+use Rattle.tokens.specs.Rows.{rows-pass, among, Beside, none-left}
 use Rattle.state.specs.State.{isOpen}
 use Rattle.state.specs.Scene.{Scene, refuse}
 use Rattle.state.specs.Step.{readTurn, doneOf, tokenOf}
@@ -126,3 +127,56 @@ double-cold rom p e = by (hotFamily (familyIn (codeOf (numberOf rom p)))) refl
     by : (b : Bool) → hotFamily (familyIn (codeOf (numberOf rom p))) ≡ b → b ≡ false
     by true h = absurd (let k = hot-token (numberOf rom p) (holds _ h) .byte in let l = large in omega arith)
     by false h = refl
+
+-- ---- nor is a number that is none of theirs
+-- the numbers of the rows that pass a test, in the list's order
+abbrev numbersOf : (Row → Bool) → List (ℕ × Row) → List ℕ
+numbersOf f [] = []
+numbersOf f (x ∷ xs) = pick (f (x .1)) (x .0 ∷ numbersOf f xs) (numbersOf f xs)
+
+abbrev hotRow : Row → Bool
+hotRow r = hotFamily (familyIn (packed r))
+
+unfoldable pub hotNumbers : List ℕ
+unfolding table ends lows highs doubles
+hotNumbers = numbersOf hotRow table
+
+hot-listed : (n : ℕ) → T (hotFamily (familyIn (codeOf n))) → T (among n hotNumbers)
+unfolding codeOf hotNumbers table ends lows highs doubles
+hot-listed n t =
+    follows (hotRow (rowOf n)) (among n hotNumbers) (rows-pass (λ m r. not (hotRow r) || among m hotNumbers) tt (λ m. tt) (λ m. tt) n) t
+
+pub none-hot : (n : ℕ) → Beside (Unit {0}) hotNumbers n → hotFamily (familyIn (codeOf n)) ≡ false
+none-hot n r = never-true (hotFamily (familyIn (codeOf n))) (λ t. none-left (Unit {0}) hotNumbers n r (hot-listed n t))
+
+-- ---- a token that would start behind the program is cut off, whatever it is
+behind-form : (rom : List ℕ) (wide : Bool) (p form : ℕ) → p ≤ behindOf rom wide p form
+unfolding behindOf
+behind-form rom wide p form =
+    pick-is (λ x. p ≤ x) (eqb form 1) _ _ (λ t. omega arith)
+    (λ t. pick-is (λ x. p ≤ x) (eqb form 2) _ _ (λ t. string p)
+    (λ t. pick-is (λ x. p ≤ x) (eqb form 3) _ _ (λ t. pick-is (λ x. p ≤ p + x) wide 2 1 (λ t. omega arith) (λ t. omega arith))
+    (λ t. pick-is (λ x. p ≤ x) (eqb form 4) _ _ (λ t. number p)
+    (λ t. pick-is (λ x. p ≤ x) (eqb form 5) _ _ (λ t. let a = number p in omega arith)
+    (λ t. pick-is (λ x. p ≤ x) (eqb form 6) _ _ (λ t. let a = number (behindString rom p) in let b = string p in omega arith)
+    (λ t. omega arith))))))
+  where
+    string : (q : ℕ) → q ≤ behindString rom q
+    string q = omega arith
+
+    number : (q : ℕ) → q ≤ behindNumber rom q
+    number q = pick-is (λ x. q ≤ q + x) (isDouble (byteOf rom q)) 2 1 (λ t. omega arith) (λ t. omega arith)
+
+pub cut-off : (s : Scene) → s .state .length ≤ s .state .place → tokenOf s ≡ refuse 10 s
+unfolding tokenOf readOf decodeOf wholeOf
+cut-off s l = rw (lt-ltb (s .state .length) _ beyond)
+  where
+    first : s .state .place < behindNumber (s .rom) (s .state .place)
+    first = pick-is (λ x. s .state .place < s .state .place + x) (isDouble (byteOf (s .rom) (s .state .place))) 2 1 (λ t. omega arith) (λ t. omega arith)
+
+    beyond : s .state .length
+        < behindOf (s .rom) (s .state .wide) (behindNumber (s .rom) (s .state .place)) (formIn (codeOf (numberOf (s .rom) (s .state .place))))
+    beyond =
+        let a = first in
+        let b = behind-form (s .rom) (s .state .wide) (behindNumber (s .rom) (s .state .place)) (formIn (codeOf (numberOf (s .rom) (s .state .place)))) in
+        omega arith

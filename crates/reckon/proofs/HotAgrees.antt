@@ -12,28 +12,24 @@ use Rattle.rom.specs.Branch.{offsetOf, aimOf}
 use Rattle.rom.specs.declared.branch.Aim.{Aim}
 use Rattle.rom.specs.declared.branch.Aim.the-variants.{Inside, Outside}
 use Rattle.tokens.specs.Family.{plain}
-use Rattle.tokens.specs.Table.{ends, lows, highs, doubles, table}
+use Rattle.tokens.specs.Table.{ends, lows, highs, doubles, table, rowOf}
 use Rattle.tokens.specs.Code.{codeOf, familyIn, formIn}
 use Rattle.tokens.specs.Decode.{behindOf, operandOf}
 use Rattle.tokens.specs.Decode.{tokenOf as tokenMade}
 use Rattle.tokens.specs.declared.decoding.Operand.{Operand}
 use Rattle.tokens.specs.declared.decoding.Operand.the-variants.{Nothing, Branch}
-use Rattle.tokens.specs.Rows.{coded-one}
 use Rattle.rom.specs.Sizes.{dataMost}
 use Rattle.cells.specs.Tests.{pick-is}
 use Rattle.state.specs.Stacks.{Stacks, stacks, leftOf, topOf, tooLow, tooHigh, tooDeep, backTrouble, Outcome, outcome, reckonOf, divideOf, pickUpOf, rollUpOf, maybeOf}
-use Rattle.reckon.specs.Reckoned.{told}
 use Rattle.state.specs.State.{stacksOf, moved, baseOf}
 use Rattle.state.specs.Scene.{Scene, Turn, turn, refuse, goes, cellOf}
 use Rattle.state.specs.Effects.{operandIn}
 use Rattle.state.specs.Step.{doneOf, tokenOf}
-use Rattle.reckon.specs.Fast.{packed, said, turned, behindPlain, operandPlain, behindBranch, onwardOf}
+use Rattle.reckon.specs.Fast.{packed, behindBranch}
 use Rattle.state.specs.Hot.{hotFamily}
 use Rattle.state.specs.declared.answer.Answer.the-variants.{Going, Refused}
-use Rattle.reckon.specs.declared.reckon.Moved.{Moved}
-use Rattle.reckon.specs.declared.in_place.Turned.{Turned}
 use Rattle.reckon.proofs.Hot.{hot-turn}
-use Rattle.reckon.proofs.HotDone.{outcomeTurn, plain-done, behind-plain, operand-plain, always-inside, always-outside, choice-low, choice-inside, choice-outside, choice-past, divide-done, pick-done, roll-done, maybe-done}
+use Rattle.reckon.proofs.HotDone.{outcomeTurn, plain-done, behindPlain, operandPlain, behind-plain, operand-plain, always-inside, always-outside, choice-low, choice-inside, choice-outside, choice-past, divide-done, pick-done, roll-done, maybe-done}
 
 -- a refused outcome has the stacks as they were
 abbrev Unmoved : Stacks → Outcome → Type 0
@@ -65,27 +61,27 @@ module _ (x : Stacks) where
       (λ t. pick-is (Unmoved x) (ltb dataMost (x .height + 1)) _ _ (λ t f. refl) (λ t f. absurd (f refl))))
 
 -- the turn that is known by what became of the stacks and the place
-abbrev pub turnOf : Scene → Turned → List ℕ → List ℕ → Turn
-turnOf s r d l = turn (said (r .0)) (packed (s .state) d (r .1) l (r .2) (r .3)) (s .work) (s .store)
+abbrev pub turnOf : Scene → ℕ → ℕ → ℕ → ℕ → List ℕ → List ℕ → Turn
+turnOf s why next g r d l =
+    turn (pick (eqb why 0) Going (Refused why)) (packed (s .state) d g l r (pick (eqb why 0) next (s .state .place))) (s .work) (s .store)
 
--- a taken branch from the height h, to the height g
-abbrev takenOf : Aim → ℕ → ℕ → ℕ → ℕ → Turned
-takenOf (Inside to) h g b place = turned 0 g b to
-takenOf Outside h g b place = turned 19 h b place
+-- a taken branch, to the height g
+abbrev takenOf : Scene → Aim → ℕ → Turn
+takenOf s (Inside to) g = goes s (packed (s .state) (s .state .stack .cells) g (s .state .back .cells) (s .state .back .height) to)
+takenOf s Outside g = refuse 19 s
 
 -- what the work on the stacks left is the turn of its outcome
-outcome-turn : (s : Scene) (next : ℕ) (m : Moved) (d l : List ℕ) (o : Outcome) → told m d l ≡ o → Unmoved (stacksOf (s .state)) o
-    → outcomeTurn s next o ≡ turnOf s (onwardOf m (s .state .place) next) d l
-outcome-turn s next m d l o e k = rw (← e) (by (eqb (m .0) 0) refl)
+outcome-turn : (s : Scene) (next why g r : ℕ) (d l : List ℕ) (o : Outcome) → outcome why (stacks d g l r) ≡ o → Unmoved (stacksOf (s .state)) o
+    → outcomeTurn s next o ≡ turnOf s why next g r d l
+outcome-turn s next why g r d l o e k = rw (← e) (by (eqb why 0) refl)
   where
-    by : (b : Bool) → eqb (m .0) 0 ≡ b → pick b (goes s (moved (s .state) (stacks d (m .1) l (m .2)) next)) (refuse (m .0) s)
-        ≡ turnOf s (pick b (turned 0 (m .1) (m .2) next) (turned (m .0) (m .1) (m .2) (s .state .place))) d l
+    by : (b : Bool) → eqb why 0 ≡ b → pick b (goes s (moved (s .state) (stacks d g l r) next)) (refuse why s)
+        ≡ turn (pick b Going (Refused why)) (packed (s .state) d g l r (pick b next (s .state .place))) (s .work) (s .store)
     by true q = refl
     by false q =
-        let w : o .why ≡ m .0 = ap (λ (y : Outcome). y .why) (sym e) in
-        let z : stacks d (m .1) l (m .2) ≡ stacksOf (s .state) = ap (λ (y : Outcome). y .stacks) e ∙ k (λ f. eqb-false (m .0) 0 q (sym w ∙ f)) in
-        ap (λ (y : Stacks). turn (Refused (m .0)) (moved (s .state) y (s .state .place)) (s .work) (s .store)) (sym z)
-        ∙ ap (λ (b : Bool). turn (pick b Going (Refused (m .0))) (packed (s .state) d (m .1) l (m .2) (s .state .place)) (s .work) (s .store)) (sym q)
+        let w : o .why ≡ why = ap (λ (y : Outcome). y .why) (sym e) in
+        let z : stacks d g l r ≡ stacksOf (s .state) = ap (λ (y : Outcome). y .stacks) e ∙ k (λ f. eqb-false why 0 q (sym w ∙ f)) in
+        ap (λ (y : Stacks). turn (Refused why) (moved (s .state) y (s .state .place)) (s .work) (s .store)) (sym z)
 
 module _ (s : Scene) (n : ℕ) (e : n ≡ byteOf (s .rom) (s .state .place)) where
   abbrev formHere : ℕ
@@ -115,44 +111,43 @@ module _ (s : Scene) (n : ℕ) (e : n ≡ byteOf (s .rom) (s .state .place)) whe
     pub plain-cut : s .state .length < behindPlain (codeOf n) (s .state .place) → tokenOf s ≡ refuse 10 s
     plain-cut l = hot-cut hot-plain _ (behind-plain (s .rom) (s .state .length) (s .state .wide) (s .state .place) n f) l
 
-    pub plain-turn : (m : Moved) (d l : List ℕ) → behindPlain (codeOf n) (s .state .place) ≤ s .state .length
-        → told m d l ≡ reckonOf n (operandPlain (s .rom) (codeOf n) (s .state .place)) (stacksOf (s .state)) (baseOf (s .state .calls))
-        → tokenOf s ≡ turnOf s (onwardOf m (s .state .place) (behindPlain (codeOf n) (s .state .place))) d l
-    plain-turn m d l h r =
+    pub plain-turn : (why g r : ℕ) (d l : List ℕ) → behindPlain (codeOf n) (s .state .place) ≤ s .state .length
+        → outcome why (stacks d g l r) ≡ reckonOf n (operandPlain (s .rom) (codeOf n) (s .state .place)) (stacksOf (s .state)) (baseOf (s .state .calls))
+        → tokenOf s ≡ turnOf s why (behindPlain (codeOf n) (s .state .place)) g r d l
+    plain-turn why g r d l h q′ =
         let q = behind-plain (s .rom) (s .state .length) (s .state .wide) (s .state .place) n f in
         let w = operand-plain (s .rom) (s .state .length) (s .state .wide) (s .state .place) n f in
         hot-done hot-plain (behindPlain (codeOf n) (s .state .place)) q h
         ∙ plain-done s n operandHere (behindPlain (codeOf n) (s .state .place)) f
-        ∙ outcome-turn s (behindPlain (codeOf n) (s .state .place)) m d l
+        ∙ outcome-turn s (behindPlain (codeOf n) (s .state .place)) why g r d l
         (reckonOf n (operandIn operandHere) (stacksOf (s .state)) (baseOf (s .state .calls)))
-        (rw w r) (reckon-unmoved (stacksOf (s .state)) n (operandIn operandHere) (baseOf (s .state .calls)))
+        (rw w q′) (reckon-unmoved (stacksOf (s .state)) n (operandIn operandHere) (baseOf (s .state .calls)))
 
   -- ---- u/mod, pick, roll and ?dup
   abbrev Deep : (Stacks → Outcome) → Type 0
-  Deep g = (m : Moved) (d l : List ℕ) → s .state .place < s .state .length → s .state .stack .height ≤ 64 → told m d l ≡ g (stacksOf (s .state))
-      → tokenOf s ≡ turnOf s (onwardOf m (s .state .place) (s .state .place + 1)) d l
+  Deep f = (why g r : ℕ) (d l : List ℕ) → s .state .place < s .state .length → s .state .stack .height ≤ 64 → outcome why (stacks d g l r) ≡ f (stacksOf (s .state))
+      → tokenOf s ≡ turnOf s why (s .state .place + 1) g r d l
 
   -- a code that has no operand
   bare : (k : ℕ) → codeOf n ≡ k → formIn k ≡ 0 → (nextHere ≡ s .state .place + 1) × (operandHere ≡ Nothing)
   unfolding behindOf operandOf
   bare k c z = let y : formIn (codeOf n) ≡ 0 = rw c z in (rw y, rw y)
 
-  deep : (g : Stacks → Outcome) (k : ℕ) → codeOf n ≡ k → formIn k ≡ 0 → T (hotFamily (familyIn k))
-      → (s .state .stack .height ≤ 64 → doneOf s (tokenMade n k Nothing (s .state .place + 1)) ≡ outcomeTurn s (s .state .place + 1) (g (stacksOf (s .state))))
-      → Unmoved (stacksOf (s .state)) (g (stacksOf (s .state))) → Deep g
-  deep g k c z hot done u m d l p h r =
+  deep : (f : Stacks → Outcome) (k : ℕ) → codeOf n ≡ k → formIn k ≡ 0 → T (hotFamily (familyIn k))
+      → (s .state .stack .height ≤ 64 → doneOf s (tokenMade n k Nothing (s .state .place + 1)) ≡ outcomeTurn s (s .state .place + 1) (f (stacksOf (s .state))))
+      → Unmoved (stacksOf (s .state)) (f (stacksOf (s .state))) → Deep f
+  deep f k c z hot done u why g r d l p h q =
       let b = bare k c z in
       hot-done (rw c hot) (s .state .place + 1) (b .0) (omega arith)
       ∙ ap (λ (o : Operand). doneOf s (tokenMade n (codeOf n) o (s .state .place + 1))) (b .1)
       ∙ ap (λ (j : ℕ). doneOf s (tokenMade n j Nothing (s .state .place + 1))) c
       ∙ done h
-      ∙ outcome-turn s (s .state .place + 1) m d l (g (stacksOf (s .state))) r u
+      ∙ outcome-turn s (s .state .place + 1) why g r d l (f (stacksOf (s .state))) q u
 
-  pub divide-turn : codeOf n ≡ 0x0700_0022 → Deep divideOf
-  unfolding table ends lows highs doubles
-  divide-turn c =
-      let i : n ≡ 0x2B = coded-one 0x0700_0022 0x2B tt n c in
-      deep divideOf 0x0700_0022 c refl tt
+  pub divide-turn : n ≡ 0x2B → Deep divideOf
+  unfolding codeOf rowOf table ends lows highs doubles
+  divide-turn i =
+      deep divideOf 0x0700_0022 (rw i) refl tt
       (λ h. ap (λ (j : ℕ). doneOf s (tokenMade j 0x0700_0022 Nothing (s .state .place + 1))) i ∙ divide-done s Nothing (s .state .place + 1) h refl)
       (divide-unmoved (stacksOf (s .state)))
 
@@ -164,9 +159,6 @@ module _ (s : Scene) (n : ℕ) (e : n ≡ byteOf (s .rom) (s .state .place)) whe
 
   pub maybe-turn : codeOf n ≡ 0x0A00_0011 → Deep maybeOf
   maybe-turn c = deep maybeOf 0x0A00_0011 c refl tt (λ h. maybe-done s Nothing (s .state .place + 1) h n) (maybe-unmoved (stacksOf (s .state)))
-
-  pub deep-cut : T (hotFamily (familyIn (codeOf n))) → formIn (codeOf n) ≡ 0 → s .state .length ≤ s .state .place → tokenOf s ≡ refuse 10 s
-  deep-cut hot z l = hot-cut hot (s .state .place + 1) (bare (codeOf n) refl z .0) (omega arith)
 
   -- ---- branches
   abbrev aimHere : Aim
@@ -194,11 +186,11 @@ module _ (s : Scene) (n : ℕ) (e : n ≡ byteOf (s .rom) (s .state .place)) whe
     always-cut l = branch-cut 0x0303_0000 c refl tt l
 
     pub always-turn : behindBranch (s .state .wide) (s .state .place) ≤ s .state .length
-        → tokenOf s ≡ turnOf s (takenOf aimHere (s .state .stack .height) (s .state .stack .height) (s .state .back .height) (s .state .place)) (s .state .stack .cells) (s .state .back .cells)
+        → tokenOf s ≡ takenOf s aimHere (s .state .stack .height)
     always-turn l = branch-done 0x0303_0000 c refl tt l ∙ by aimHere
       where
         by : (a : Aim) → doneOf s (tokenMade n 0x0303_0000 (Branch (offsetOf (s .rom) (s .state .wide) (s .state .place + 1)) a) (behindBranch (s .state .wide) (s .state .place)))
-            ≡ turnOf s (takenOf a (s .state .stack .height) (s .state .stack .height) (s .state .back .height) (s .state .place)) (s .state .stack .cells) (s .state .back .cells)
+            ≡ takenOf s a (s .state .stack .height)
         by (Inside to) = always-inside s n _ _ h to
         by Outside = always-outside s n _ _ h
 
@@ -211,17 +203,17 @@ module _ (s : Scene) (n : ℕ) (e : n ≡ byteOf (s .rom) (s .state .place)) whe
       choice-empty z = branch-done 0x0403_0010 c refl tt l ∙ choice-low s n _ _ h aimHere z
 
       pub choice-taken : 1 ≤ s .state .stack .height → cellOf s 0 ≡ 0
-          → tokenOf s ≡ turnOf s (takenOf aimHere (s .state .stack .height) (s .state .stack .height - 1) (s .state .back .height) (s .state .place)) (s .state .stack .cells) (s .state .back .cells)
+          → tokenOf s ≡ takenOf s aimHere (s .state .stack .height - 1)
       unfolding leftOf
       choice-taken o z = branch-done 0x0403_0010 c refl tt l ∙ by aimHere
         where
           by : (a : Aim) → doneOf s (tokenMade n 0x0403_0010 (Branch (offsetOf (s .rom) (s .state .wide) (s .state .place + 1)) a) (behindBranch (s .state .wide) (s .state .place)))
-              ≡ turnOf s (takenOf a (s .state .stack .height) (s .state .stack .height - 1) (s .state .back .height) (s .state .place)) (s .state .stack .cells) (s .state .back .cells)
+              ≡ takenOf s a (s .state .stack .height - 1)
           by (Inside to) = let y : s .state .stack .height - 1 + 0 ≡ s .state .stack .height - 1 = omega arith in choice-inside s n _ _ h o to z ∙ rw y
           by Outside = choice-outside s n _ _ h o z
 
       pub choice-fallen : 1 ≤ s .state .stack .height → (cellOf s 0 ≡ 0 → ⊥)
-          → tokenOf s ≡ turnOf s (turned 0 (s .state .stack .height - 1) (s .state .back .height) (behindBranch (s .state .wide) (s .state .place))) (s .state .stack .cells) (s .state .back .cells)
+          → tokenOf s ≡ goes s (packed (s .state) (s .state .stack .cells) (s .state .stack .height - 1) (s .state .back .cells) (s .state .back .height) (behindBranch (s .state .wide) (s .state .place)))
       unfolding leftOf
       choice-fallen o z =
           let y : s .state .stack .height - 1 + 0 ≡ s .state .stack .height - 1 = omega arith in

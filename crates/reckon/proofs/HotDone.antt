@@ -7,6 +7,7 @@ use native.Mathlib.Omega.{arith}
 use borrow.Author.Tests.{lt-ltb, le-ltb, eq-eqb, ne-eqb, eqb-true, ltb-false}
 use lib.Dec.{T, ltb, eqb}
 use Rattle.cells.specs.Choice.{pick}
+use Rattle.rom.specs.Bytes.{word32Of}
 use Rattle.rom.specs.declared.branch.Aim.{Aim}
 use Rattle.rom.specs.declared.branch.Aim.the-variants.{Inside, Outside}
 use Rattle.tokens.specs.Family.{plain}
@@ -22,7 +23,6 @@ use Rattle.state.specs.Scene.{Scene, Turn, refuse, goes, cellOf}
 use Rattle.state.specs.Refusals.{refusalOf}
 use Rattle.state.specs.Effects.{actOf, effects, operandIn, gave}
 use Rattle.state.specs.Step.{doneOf}
-use Rattle.reckon.specs.Fast.{behindPlain, operandPlain}
 use Rattle.state.specs.Done.{carried, stopped}
 
 -- what holds of each of a list holds of what is among it
@@ -84,7 +84,16 @@ module _ (s : Scene) (n : ℕ) (o : Operand) (next : ℕ) where
       by false false true p q r = stopped s (tokenMade n (codeOf n) o next) 15 refl (plain-refuses (codeOf n) t ∙ rw (p, q, r))
       by false false false p q r = carried s (tokenMade n (codeOf n) o next) (plain-refuses (codeOf n) t ∙ rw (p, q, r)) ∙ plain-acts (codeOf n) t
 
--- the operand of such a token, and the place behind it
+-- the operand of such a token, a literal or none, and the place behind it
+abbrev literalCode : ℕ
+literalCode = 0x0101_0001
+
+abbrev pub behindPlain : ℕ → ℕ → ℕ
+behindPlain code place = pick (eqb code literalCode) (place + 1 + 4) (place + 1)
+
+abbrev pub operandPlain : List ℕ → ℕ → ℕ → ℕ
+operandPlain rom code place = pick (eqb code literalCode) (word32Of rom (place + 1)) 0
+
 module _ (rom : List ℕ) (size : ℕ) (wide : Bool) (p n : ℕ) (f : familyIn (codeOf n) ≡ plain) where
   abbrev Behind : ℕ → Type 0
   Behind k = (behindOf rom wide (p + 1) (formIn k) ≡ behindPlain k p) × (operandIn (operandOf rom size wide (p + 1) (formIn k)) ≡ operandPlain rom k p)

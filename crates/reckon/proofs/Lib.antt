@@ -1,9 +1,9 @@
-pub mod Paths
-pub mod Arms
-pub mod Returns
-pub mod Deep
-pub mod Given
 pub mod Hot
 pub mod HotDone
 pub mod HotAgrees
-pub mod FastMade
+pub mod Made
+pub mod Paths
+pub mod Given
+pub mod Arms
+pub mod Returns
+pub mod Deep

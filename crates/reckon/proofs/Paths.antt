@@ -1,8 +1,10 @@
 -- A plain token's outcome by its code, a law for each way that the work of a token can end. Assumes nothing.
 use Prim.Native.Nat.{ℕ, _+_, _-_, _≤_, _<_}
 use mathlib.Core.Path.{_≡_, refl, _∙_}
+use mathlib.Core.Bool.{false}
 use mathlib.Core.List.{List, [], _∷_}
 use native.Mathlib.Omega.{arith}
+use lib.Dec.{eqb}
 use lib.ListN.{length}
 use borrow.Author.Tests.{lt-ltb, le-ltb}
 use Rattle.tokens.specs.Family.{plain}
@@ -11,8 +13,9 @@ use Rattle.tokens.specs.Table.{rowOf}
 use Rattle.tokens.specs.Code.{codeOf, familyIn, takesIn, givesIn, returnTakesIn, returnGivesIn}
 use Rattle.state.specs.Stacks.{Stacks, stacks, outcome, leftOf, seenOf, reckonedOf, plainOf, reckonOf}
 use Rattle.tokens.specs.Rows.{return-results-fit}
-use Rattle.reckon.specs.Reckoned.{moved, Stands, Reckons, OnData}
-use Rattle.reckon.specs.declared.reckon.Moved.{Moved}
+use Rattle.reckon.specs.Fast.{OnData, turned}
+use Rattle.reckon.specs.declared.turned.Fared.the-variants.{On, Not}
+use Rattle.reckon.proofs.Made.{data-made}
 
 module _ (n operand base : ℕ) (s : Stacks) (k : ℕ) (e : codeOf n ≡ k) where
   pub low : s .height < takesIn k → outcome 14 s ≡ reckonOf n operand s base
@@ -46,33 +49,36 @@ none-given s (r ∷ rs) h = absurd (omega arith)
 none-back : (n k : ℕ) (s : Seen) → codeOf n ≡ k → familyIn k ≡ plain → returnGivesIn k ≡ 0 → reckonedOf (rowOf n .returnResults) s ≡ []
 none-back n k s e f g = none-given s (rowOf n .returnResults) (return-results-fit n (rw e f) ∙ rw e g)
 
--- ---- a token that leaves the return stack alone
-module _ (n operand h b k : ℕ) (c : List ℕ) (e : codeOf n ≡ k) (t : h ≤ 64) where
-  pub data-low : h < takesIn k → OnData n operand c h b (moved 14 h b) c
-  data-low l = (t, refl, λ base bk. low n operand base (stacks c h bk b) k e l)
+-- ---- a token that leaves the return stack alone and has no operand
+abbrev pub Bare : ℕ → Type 0
+Bare k = (familyIn k ≡ plain) × (eqb k 0x0101_0001 ≡ false) × (returnTakesIn k ≡ 0) × (returnGivesIn k ≡ 0)
 
-  module _ (f : familyIn k ≡ plain) (z : returnTakesIn k ≡ 0) (y : returnGivesIn k ≡ 0) (r : b ≤ 32) (l : takesIn k ≤ h) where
-    pub data-high : 64 < h - takesIn k + givesIn k → OnData n operand c h b (moved 15 h b) c
-    data-high g = (t, refl, λ base bk. high n operand base (stacks c h bk b) k e l (omega arith) (omega arith) g)
+module _ (n h b place k : ℕ) (c : List ℕ) (e : codeOf n ≡ k) (f : Bare k) (t : h ≤ 64) (r : b ≤ 32) where
+  pub data-low : h < takesIn k → OnData n c h b place (turned (Not 14) h b place) c
+  data-low l = data-made n h b place k e (f .0) (f .1) t r c 14 h c t (λ operand base bk. low n operand base (stacks c h bk b) k e l)
+
+  module _ (l : takesIn k ≤ h) where
+    back-takes : (base : ℕ) → returnTakesIn k ≤ b - base
+    back-takes base = let z = f .2 in omega arith
+
+    back-fits : b - returnTakesIn k + returnGivesIn k ≤ 32
+    back-fits = let z = f .2 in let y = f .3 in omega arith
+
+    pub data-high : 64 < h - takesIn k + givesIn k → OnData n c h b place (turned (Not 15) h b place) c
+    data-high g =
+        data-made n h b place k e (f .0) (f .1) t r c 15 h c t (λ operand base bk. high n operand base (stacks c h bk b) k e l (back-takes base) back-fits g)
 
     -- d and g are the cells and the height that the code leaves
-    pub data-fine : (vs d : List ℕ) (g : ℕ) → ((bk : List ℕ) → reckonedOf (rowOf n .results) (seenOf operand (stacks c h bk b)) ≡ vs)
-        → d ≡ leftOf c (h - takesIn k) vs → g ≡ h - takesIn k + givesIn k → g ≤ 64 → OnData n operand c h b (moved 0 g b) d
+    pub data-fine : (vs d : List ℕ) (g : ℕ) → ((operand : ℕ) (bk : List ℕ) → reckonedOf (rowOf n .results) (seenOf operand (stacks c h bk b)) ≡ vs)
+        → d ≡ leftOf c (h - takesIn k) vs → g ≡ h - takesIn k + givesIn k → g ≤ 64 → OnData n c h b place (turned On g b (place + 1)) d
     unfolding plainOf leftOf
-    data-fine vs d g q x y′ i = (
-      i,
-      refl,
-      λ base bk.
-          rw (x, y′) (shown bk ∙ fine n operand base (stacks c h bk b) k e l (omega arith) (omega arith) (omega arith)),
-    )
+    data-fine vs d g q x y i =
+        data-made n h b place k e (f .0) (f .1) t r c 0 g d i
+        (λ operand base bk. rw (x, y) (shown operand bk ∙ fine n operand base (stacks c h bk b) k e l (back-takes base) back-fits (rw y at i)))
       where
         same : b ≡ b - returnTakesIn k + returnGivesIn k
-        same = omega arith
+        same = let z = f .2 in let w = f .3 in omega arith
 
-        shown : (bk : List ℕ) → outcome 0 (stacks (leftOf c (h - takesIn k) vs) (h - takesIn k + givesIn k) bk b) ≡ outcome 0 (plainOf n operand (stacks c h bk b))
-        shown bk = rw (e, q bk, none-back n k (seenOf operand (stacks c h bk b)) e f y, ← same)
-
--- so much is said of both stacks
-pub settled : (n operand base h b : ℕ) (c k : List ℕ) (m : Moved) (d : List ℕ) → OnData n operand c h b m d → base ≤ b → b ≤ 32
-    → Reckons n operand base c h k b m d k × Stands base m
-settled n operand base h b c k m d f l r = (f .2 base k, (f .0, rw (f .1) r, rw (f .1) l))
+        shown : (operand : ℕ) (bk : List ℕ) → outcome 0 (stacks (leftOf c (h - takesIn k) vs) (h - takesIn k + givesIn k) bk b)
+            ≡ outcome 0 (plainOf n operand (stacks c h bk b))
+        shown operand bk = rw (e, q operand bk, none-back n k (seenOf operand (stacks c h bk b)) e (f .0) (f .3), ← same)

@@ -1,6 +1,6 @@
 -- What the plain tokens leave that work on both stacks: a law for each way out of the code. Assumes nothing.
 use Prim.Native.Nat.{ℕ, _+_, _-_, _≤_, _<_}
-use mathlib.Core.Path.{_≡_, _∙_}
+use mathlib.Core.Path.{_≡_, refl, _∙_}
 use mathlib.Core.List.{List}
 use native.Mathlib.Omega.{arith}
 use lib.ListN.{getD, set}
@@ -8,76 +8,96 @@ use lib.Seq.{set-getD}
 use Rattle.tokens.specs.Table.{ends, lows, highs, doubles, table, rowOf}
 use Rattle.tokens.specs.Code.{codeOf}
 use Rattle.state.specs.Stacks.{stacks, outcome, leftOf, plainOf}
-use Rattle.tokens.specs.Rows.{coded-one}
-use Rattle.reckon.specs.Reckoned.{moved, Both}
+use Rattle.reckon.specs.Fast.{OnBoth, turned}
+use Rattle.reckon.specs.declared.turned.Fared.the-variants.{On, Not}
+use Rattle.reckon.proofs.Made.{both-made}
 use Rattle.reckon.proofs.Paths.{low, back-low, back-high, high, fine}
 
-module _ (n base h b : ℕ) (c k : List ℕ) (t : h ≤ 64) (o : base ≤ b) (r : b ≤ 32) where
+module _ (base h b place : ℕ) (c k : List ℕ) (t : h ≤ 64) (r : b ≤ 32) where
   -- >r
-  module _ (e : codeOf n ≡ 0x0100_0110) where
-    pub to-low : h < 1 → Both n base c h k b (moved 14 h b) c k
-    to-low l = ((t, r, o), λ operand. low n operand base (stacks c h k b) 0x0100_0110 e l)
+  to-code : codeOf 0x30 ≡ 0x0100_0110
+  unfolding codeOf rowOf table ends lows highs doubles
+  to-code = refl
 
-    pub to-high : 1 ≤ h → 32 ≤ b → Both n base c h k b (moved 16 h b) c k
-    to-high l m = ((t, r, o), λ operand. back-high n operand base (stacks c h k b) 0x0100_0110 e l (omega arith) (omega arith))
+  pub to-low : h < 1 → OnBoth 0x30 base c h k b place (turned (Not 14) h b place) c k
+  to-low l =
+      both-made 0x30 h b place 0x0100_0110 to-code refl refl t r base c k 14 h b c k t r (λ o. o)
+      (λ operand. low 0x30 operand base (stacks c h k b) 0x0100_0110 to-code l)
 
-    to-left : (operand : ℕ) → outcome 0 (stacks c (h - 1) (set k b (getD c (h - 1) 0)) (b + 1)) ≡ outcome 0 (plainOf n operand (stacks c h k b))
-    unfolding plainOf leftOf codeOf rowOf table ends lows highs doubles
-    to-left operand =
-        let x : h - 1 + 0 ≡ h - 1 = omega arith in
-        let y : h - 1 - 0 ≡ h - 1 = omega arith in
-        let z : b - 0 ≡ b = omega arith in
-        rw (coded-one 0x0100_0110 0x30 tt n e) (simp (x, y, z))
+  pub to-high : 1 ≤ h → 32 ≤ b → OnBoth 0x30 base c h k b place (turned (Not 16) h b place) c k
+  to-high l m =
+      both-made 0x30 h b place 0x0100_0110 to-code refl refl t r base c k 16 h b c k t r (λ o. o)
+      (λ operand. back-high 0x30 operand base (stacks c h k b) 0x0100_0110 to-code l (omega arith) (omega arith))
 
-    pub to-fine : 1 ≤ h → b < 32 → Both n base c h k b (moved 0 (h - 1) (b + 1)) c (set k b (getD c (h - 1) 0))
-    to-fine l m = (
-      (omega arith, omega arith, omega arith),
-      λ operand.
-          to-left operand ∙ fine n operand base (stacks c h k b) 0x0100_0110 e l (omega arith) (omega arith) (omega arith),
-    )
+  to-left : (operand : ℕ) → outcome 0 (stacks c (h - 1) (set k b (getD c (h - 1) 0)) (b + 1)) ≡ outcome 0 (plainOf 0x30 operand (stacks c h k b))
+  unfolding plainOf leftOf codeOf rowOf table ends lows highs doubles
+  to-left operand =
+      let x : h - 1 + 0 ≡ h - 1 = omega arith in
+      let y : h - 1 - 0 ≡ h - 1 = omega arith in
+      let z : b - 0 ≡ b = omega arith in
+      simp (x, y, z)
+
+  pub to-fine : 1 ≤ h → b < 32 → OnBoth 0x30 base c h k b place (turned On (h - 1) (b + 1) (place + 1)) c (set k b (getD c (h - 1) 0))
+  to-fine l m =
+      both-made 0x30 h b place 0x0100_0110 to-code refl refl t r base c k 0 (h - 1) (b + 1) c (set k b (getD c (h - 1) 0)) (omega arith) (omega arith)
+      (λ o. omega arith)
+      (λ operand. to-left operand ∙ fine 0x30 operand base (stacks c h k b) 0x0100_0110 to-code l (omega arith) (omega arith) (omega arith))
 
   -- r>
-  module _ (e : codeOf n ≡ 0x0100_1001) where
-    pub from-low : b ≤ base → Both n base c h k b (moved 16 h b) c k
-    from-low l = ((t, r, o), λ operand. back-low n operand base (stacks c h k b) 0x0100_1001 e (omega arith) (omega arith))
+  from-code : codeOf 0x31 ≡ 0x0100_1001
+  unfolding codeOf rowOf table ends lows highs doubles
+  from-code = refl
 
-    pub from-high : base < b → 64 ≤ h → Both n base c h k b (moved 15 h b) c k
-    from-high l m = ((t, r, o), λ operand. high n operand base (stacks c h k b) 0x0100_1001 e (omega arith) (omega arith) (omega arith) (omega arith))
+  pub from-low : b ≤ base → OnBoth 0x31 base c h k b place (turned (Not 16) h b place) c k
+  from-low l =
+      both-made 0x31 h b place 0x0100_1001 from-code refl refl t r base c k 16 h b c k t r (λ o. o)
+      (λ operand. back-low 0x31 operand base (stacks c h k b) 0x0100_1001 from-code (omega arith) (omega arith))
 
-    from-left : (operand : ℕ) → outcome 0 (stacks (set c h (getD k (b - 1) 0)) (h + 1) k (b - 1)) ≡ outcome 0 (plainOf n operand (stacks c h k b))
-    unfolding plainOf leftOf codeOf rowOf table ends lows highs doubles
-    from-left operand =
-        let x : h - 0 ≡ h = omega arith in
-        let y : b - 1 - 0 ≡ b - 1 = omega arith in
-        let z : b - 1 + 0 ≡ b - 1 = omega arith in
-        rw (coded-one 0x0100_1001 0x31 tt n e) (simp (x, y, z))
-
-    pub from-fine : base < b → h < 64 → Both n base c h k b (moved 0 (h + 1) (b - 1)) (set c h (getD k (b - 1) 0)) k
-    from-fine l m = (
-      (omega arith, omega arith, omega arith),
-      λ operand.
-          from-left operand ∙ fine n operand base (stacks c h k b) 0x0100_1001 e (omega arith) (omega arith) (omega arith) (omega arith),
-    )
+  from-left : (operand : ℕ) → outcome 0 (stacks (set c h (getD k (b - 1) 0)) (h + 1) k (b - 1)) ≡ outcome 0 (plainOf 0x31 operand (stacks c h k b))
+  unfolding plainOf leftOf codeOf rowOf table ends lows highs doubles
+  from-left operand =
+      let x : h - 0 ≡ h = omega arith in
+      let y : b - 1 - 0 ≡ b - 1 = omega arith in
+      let z : b - 1 + 0 ≡ b - 1 = omega arith in
+      simp (x, y, z)
 
   -- r@
-  module _ (e : codeOf n ≡ 0x0100_1101) where
-    pub copy-low : b ≤ base → Both n base c h k b (moved 16 h b) c k
-    copy-low l = ((t, r, o), λ operand. back-low n operand base (stacks c h k b) 0x0100_1101 e (omega arith) (omega arith))
+  copy-code : codeOf 0x32 ≡ 0x0100_1101
+  unfolding codeOf rowOf table ends lows highs doubles
+  copy-code = refl
 
-    pub copy-high : base < b → 64 ≤ h → Both n base c h k b (moved 15 h b) c k
-    copy-high l m = ((t, r, o), λ operand. high n operand base (stacks c h k b) 0x0100_1101 e (omega arith) (omega arith) (omega arith) (omega arith))
+  pub copy-low : b ≤ base → OnBoth 0x32 base c h k b place (turned (Not 16) h b place) c k
+  copy-low l =
+      both-made 0x32 h b place 0x0100_1101 copy-code refl refl t r base c k 16 h b c k t r (λ o. o)
+      (λ operand. back-low 0x32 operand base (stacks c h k b) 0x0100_1101 copy-code (omega arith) (omega arith))
 
-    copy-left : 1 ≤ b → (operand : ℕ) → outcome 0 (stacks (set c h (getD k (b - 1) 0)) (h + 1) k b) ≡ outcome 0 (plainOf n operand (stacks c h k b))
-    unfolding plainOf leftOf codeOf rowOf table ends lows highs doubles
-    copy-left l operand =
-        let x : h - 0 ≡ h = omega arith in
-        let y : b - 1 - 0 ≡ b - 1 = omega arith in
-        let z : b - 1 + 1 ≡ b = omega arith in
-        rw (coded-one 0x0100_1101 0x32 tt n e) (simp (x, y, z, set-getD k (b - 1) 0))
+  copy-left : 1 ≤ b → (operand : ℕ) → outcome 0 (stacks (set c h (getD k (b - 1) 0)) (h + 1) k b) ≡ outcome 0 (plainOf 0x32 operand (stacks c h k b))
+  unfolding plainOf leftOf codeOf rowOf table ends lows highs doubles
+  copy-left l operand =
+      let x : h - 0 ≡ h = omega arith in
+      let y : b - 1 - 0 ≡ b - 1 = omega arith in
+      let z : b - 1 + 1 ≡ b = omega arith in
+      simp (x, y, z, set-getD k (b - 1) 0)
 
-    pub copy-fine : base < b → h < 64 → Both n base c h k b (moved 0 (h + 1) b) (set c h (getD k (b - 1) 0)) k
-    copy-fine l m = (
-      (omega arith, r, o),
-      λ operand.
-          copy-left (omega arith) operand ∙ fine n operand base (stacks c h k b) 0x0100_1101 e (omega arith) (omega arith) (omega arith) (omega arith),
-    )
+  module _ (l : base < b) where
+    pub from-high : 64 ≤ h → OnBoth 0x31 base c h k b place (turned (Not 15) h b place) c k
+    from-high m =
+        both-made 0x31 h b place 0x0100_1001 from-code refl refl t r base c k 15 h b c k t r (λ o. o)
+        (λ operand. high 0x31 operand base (stacks c h k b) 0x0100_1001 from-code (omega arith) (omega arith) (omega arith) (omega arith))
+
+    pub from-fine : h < 64 → OnBoth 0x31 base c h k b place (turned On (h + 1) (b - 1) (place + 1)) (set c h (getD k (b - 1) 0)) k
+    from-fine m =
+        both-made 0x31 h b place 0x0100_1001 from-code refl refl t r base c k 0 (h + 1) (b - 1) (set c h (getD k (b - 1) 0)) k (omega arith) (omega arith)
+        (λ o. omega arith)
+        (λ operand. from-left operand ∙ fine 0x31 operand base (stacks c h k b) 0x0100_1001 from-code (omega arith) (omega arith) (omega arith) (omega arith))
+
+    pub copy-high : 64 ≤ h → OnBoth 0x32 base c h k b place (turned (Not 15) h b place) c k
+    copy-high m =
+        both-made 0x32 h b place 0x0100_1101 copy-code refl refl t r base c k 15 h b c k t r (λ o. o)
+        (λ operand. high 0x32 operand base (stacks c h k b) 0x0100_1101 copy-code (omega arith) (omega arith) (omega arith) (omega arith))
+
+    pub copy-fine : h < 64 → OnBoth 0x32 base c h k b place (turned On (h + 1) b (place + 1)) (set c h (getD k (b - 1) 0)) k
+    copy-fine m =
+        both-made 0x32 h b place 0x0100_1101 copy-code refl refl t r base c k 0 (h + 1) b (set c h (getD k (b - 1) 0)) k (omega arith) r
+        (λ o. o)
+        (λ operand. copy-left (omega arith) operand ∙ fine 0x32 operand base (stacks c h k b) 0x0100_1101 copy-code (omega arith) (omega arith) (omega arith) (omega arith))

@@ -1,3 +1,2 @@
 pub mod Reckoned
 pub mod Fast
-pub mod HotCodes

@@ -1,293 +1,234 @@
-// Tokens that work on the two stacks alone, in place. A token's code (tokens::code_of) is matched whole: it fixes what the token takes and gives, so
-// that each arm makes only the tests that its shape can fail.
+// Tokens that work on the two stacks alone, in place. Each makes only the tests that what it takes and gives can fail, in the order 14,
+// 16, 15, and leaves the cells and the heights as they were where it is refused. Tokens that are alike are one function of their number,
+// which its caller gives as a literal: the compiler settles the `match` on it there.
 ghost use mathlib.Core.Path.{_≡_};
-ghost use Prim.Native.Nat.{_+_, _^_, _≤_, _<_};
-ghost use Rattle.tokens.specs.Family.{plain};
-ghost use Rattle.tokens.specs.Code.{codeOf, familyIn};
-ghost use Rattle.state.specs.Stacks.{divideOf, pickUpOf, turnedOf, rollUpOf, maybeOf};
-ghost use Rattle.reckon.specs.Reckoned.{Stands, Reckons, OnData, Plainly, AnyCells, Both, OfNone, OfOne, OfTwo, OfThree, Works};
+ghost use mathlib.Core.List.{List};
+ghost use Prim.Native.Nat.{ℕ, _+_, _^_, _≤_, _<_};
+ghost use Rattle.state.specs.Stacks.{turnedOf};
+ghost use Rattle.reckon.specs.Reckoned.{Like, OfNone, OfOne, OfTwo, OfThree};
+ghost use Rattle.reckon.specs.Fast.{OnData, OnBoth};
+use crate::turned::Turned;
+use crate::turned::on;
+use crate::turned::refuse;
 
-// What a token's work leaves besides the cells: 0 or why it is refused, and the heights of the data and the return stack.
-pub struct Moved(pub u32, pub usize, pub usize);
-
-// Codes FF_PO_RR_DD of the plain tokens, by what they take and give.
-const NOTHING: u32 = 0x0100_0000; // noop, b(<mark), b(>resolve)
-
-const PUSH: u32 = 0x0100_0001; // A4..A8, depth
-
-pub const LITERAL: u32 = 0x0101_0001; // b(lit)
-
-const ONE: u32 = 0x0100_0011;
-
-const TWO: u32 = 0x0100_0021; // nip too
-
-const THREE: u32 = 0x0100_0031;
-
-const DROP: u32 = 0x0100_0010;
-
-const DROP_TWO: u32 = 0x0100_0020;
-
-const DUP: u32 = 0x0100_0012;
-
-const OVER: u32 = 0x0100_0023; // over, tuck
-
-const SWAP: u32 = 0x0100_0022;
-
-const ROT: u32 = 0x0100_0033; // rot, -rot
-
-const DUP_TWO: u32 = 0x0100_0024;
-
-const OVER_TWO: u32 = 0x0100_0046;
-
-const SWAP_TWO: u32 = 0x0100_0044;
-
-const ROT_TWO: u32 = 0x0100_0066;
-
-const TO_RETURN: u32 = 0x0100_0110;
-
-const FROM_RETURN: u32 = 0x0100_1001;
-
-const COPY_RETURN: u32 = 0x0100_1101;
-
-// A plain token, by its code. Each arm refuses in the order 14, 16, 15, and then leaves the cells and the heights as they were. No plain token has another
-// code, as no number but those of `said`, `one`, `two` and `three` has theirs.
-pub fn reckon(
-    number: u32,
-    code: u32,
-    operand: u32,
-    stack: &mut [u32; 64],
-    back: &mut [u32; 32],
-    h: usize,
-    b: usize,
-    base: usize,
-) -> Moved
-    requires { ⌜ (code ≡ codeOf number) × (familyIn code ≡ plain) × (h ≤ 64) × (base ≤ b) × (b ≤ 32) ⌝ }
-    ensures { λ r. ⌜ Reckons number operand base (now (stack .entry)) h (now (back .entry)) b r (now (stack .exit)) (now (back .exit)) × Stands base r ⌝ }
+// 7B noop, B1 b(<mark), B2 b(>resolve)
+pub fn nothing(number: u32, h: usize, b: usize, place: u32) -> Turned
+    requires { ⌜ Like number 0x7B × (h ≤ 64) × (b ≤ 32) × (place < 16384) ⌝ }
+    ensures { λ r. ⌜ ((c : List ℕ) → OnData number c h b place r c) ⌝ }
 {
-    match code {
-        NOTHING => Moved(0, h, b),
-        PUSH => say(number, stack, h, b),
-        LITERAL => literal(number, operand, stack, h, b),
-        ONE => by_one(number, stack, h, b),
-        TWO => by_two(number, stack, h, b),
-        THREE => by_three(number, stack, h, b),
-        DROP => drop_one(number, h, b),
-        DROP_TWO => drop_two(number, h, b),
-        DUP => dup(number, stack, h, b),
-        OVER => over(number, stack, h, b),
-        SWAP => swap(number, stack, h, b),
-        ROT => rot(number, stack, h, b),
-        DUP_TWO => dup_two(number, stack, h, b),
-        OVER_TWO => over_two(number, stack, h, b),
-        SWAP_TWO => swap_two(number, stack, h, b),
-        ROT_TWO => rot_two(number, stack, h, b),
-        TO_RETURN => to_return(number, &*stack, back, h, b, base),
-        FROM_RETURN => from_return(number, stack, &*back, h, b, base),
-        COPY_RETURN => copy_return(number, stack, &*back, h, b, base),
-        _ => Moved(0, h, b),
-    }
+    on(h, b, place + 1)
 }
 
 // A4 to A8, 51 depth
-fn say(number: u32, stack: &mut [u32; 64], h: usize, b: usize) -> Moved
-    requires { ⌜ (codeOf number ≡ 0x0100_0001) × (h ≤ 64) × (b ≤ 32) ⌝ }
-    ensures { λ r. ⌜ Plainly number (now (stack .entry)) h b r (now (stack .exit)) ⌝ }
+pub fn push(number: u32, stack: &mut [u32; 64], h: usize, b: usize, place: u32) -> Turned
+    requires { ⌜ Like number 0xA5 × (h ≤ 64) × (b ≤ 32) × (place < 16384) ⌝ }
+    ensures { λ r. ⌜ OnData number (now (stack .entry)) h b place r (now (stack .exit)) ⌝ }
 {
     if 64 <= h {
-        return Moved(15, h, b);
+        return refuse(15, h, b, place);
     }
     stack[h] = said(number, h);
-    Moved(0, h + 1, b)
-}
-
-// 10 b(lit)
-fn literal(number: u32, operand: u32, stack: &mut [u32; 64], h: usize, b: usize) -> Moved
-    requires { ⌜ (codeOf number ≡ 0x0101_0001) × (h ≤ 64) × (b ≤ 32) ⌝ }
-    ensures { λ r. ⌜ OnData number operand (now (stack .entry)) h b r (now (stack .exit)) ⌝ }
-{
-    if 64 <= h {
-        return Moved(15, h, b);
-    }
-    stack[h] = operand;
-    Moved(0, h + 1, b)
+    on(h + 1, b, place + 1)
 }
 
 // A token of the top cell alone
-fn by_one(number: u32, stack: &mut [u32; 64], h: usize, b: usize) -> Moved
-    requires { ⌜ (codeOf number ≡ 0x0100_0011) × (h ≤ 64) × (b ≤ 32) ⌝ }
-    ensures { λ r. ⌜ Plainly number (now (stack .entry)) h b r (now (stack .exit)) ⌝ }
+pub fn by_one(number: u32, stack: &mut [u32; 64], h: usize, b: usize, place: u32) -> Turned
+    requires { ⌜ Like number 0x26 × (h ≤ 64) × (b ≤ 32) × (place < 16384) ⌝ }
+    ensures { λ r. ⌜ OnData number (now (stack .entry)) h b place r (now (stack .exit)) ⌝ }
 {
     if h < 1 {
-        return Moved(14, h, b);
+        return refuse(14, h, b, place);
     }
     stack[h - 1] = one(number, stack[h - 1]);
-    Moved(0, h, b)
+    on(h, b, place + 1)
 }
 
 // A token of the two highest cells
-fn by_two(number: u32, stack: &mut [u32; 64], h: usize, b: usize) -> Moved
-    requires { ⌜ (codeOf number ≡ 0x0100_0021) × (h ≤ 64) × (b ≤ 32) ⌝ }
-    ensures { λ r. ⌜ Plainly number (now (stack .entry)) h b r (now (stack .exit)) ⌝ }
+pub fn by_two(number: u32, stack: &mut [u32; 64], h: usize, b: usize, place: u32) -> Turned
+    requires { ⌜ Like number 0x1E × (h ≤ 64) × (b ≤ 32) × (place < 16384) ⌝ }
+    ensures { λ r. ⌜ OnData number (now (stack .entry)) h b place r (now (stack .exit)) ⌝ }
 {
     if h < 2 {
-        return Moved(14, h, b);
+        return refuse(14, h, b, place);
     }
     stack[h - 2] = two(number, stack[h - 2], stack[h - 1]);
-    Moved(0, h - 1, b)
+    on(h - 1, b, place + 1)
 }
 
 // A token of the three highest cells
-fn by_three(number: u32, stack: &mut [u32; 64], h: usize, b: usize) -> Moved
-    requires { ⌜ (codeOf number ≡ 0x0100_0031) × (h ≤ 64) × (b ≤ 32) ⌝ }
-    ensures { λ r. ⌜ Plainly number (now (stack .entry)) h b r (now (stack .exit)) ⌝ }
+pub fn by_three(number: u32, stack: &mut [u32; 64], h: usize, b: usize, place: u32) -> Turned
+    requires { ⌜ Like number 0x44 × (h ≤ 64) × (b ≤ 32) × (place < 16384) ⌝ }
+    ensures { λ r. ⌜ OnData number (now (stack .entry)) h b place r (now (stack .exit)) ⌝ }
 {
     if h < 3 {
-        return Moved(14, h, b);
+        return refuse(14, h, b, place);
     }
     stack[h - 3] = three(number, stack[h - 3], stack[h - 2], stack[h - 1]);
-    Moved(0, h - 2, b)
+    on(h - 2, b, place + 1)
 }
 
 // 46 drop
-fn drop_one(number: u32, h: usize, b: usize) -> Moved
-    requires { ⌜ (codeOf number ≡ 0x0100_0010) × (h ≤ 64) × (b ≤ 32) ⌝ }
-    ensures { λ r. ⌜ AnyCells number h b r ⌝ }
+pub fn drop_one(h: usize, b: usize, place: u32) -> Turned
+    requires { ⌜ (h ≤ 64) × (b ≤ 32) × (place < 16384) ⌝ }
+    ensures { λ r. ⌜ ((c : List ℕ) → OnData 0x46 c h b place r c) ⌝ }
 {
     if h < 1 {
-        return Moved(14, h, b);
+        return refuse(14, h, b, place);
     }
-    Moved(0, h - 1, b)
+    on(h - 1, b, place + 1)
 }
 
 // 52 2drop
-fn drop_two(number: u32, h: usize, b: usize) -> Moved
-    requires { ⌜ (codeOf number ≡ 0x0100_0020) × (h ≤ 64) × (b ≤ 32) ⌝ }
-    ensures { λ r. ⌜ AnyCells number h b r ⌝ }
+pub fn drop_two(h: usize, b: usize, place: u32) -> Turned
+    requires { ⌜ (h ≤ 64) × (b ≤ 32) × (place < 16384) ⌝ }
+    ensures { λ r. ⌜ ((c : List ℕ) → OnData 0x52 c h b place r c) ⌝ }
 {
     if h < 2 {
-        return Moved(14, h, b);
+        return refuse(14, h, b, place);
     }
-    Moved(0, h - 2, b)
+    on(h - 2, b, place + 1)
 }
 
 // 47 dup
-fn dup(number: u32, stack: &mut [u32; 64], h: usize, b: usize) -> Moved
-    requires { ⌜ (codeOf number ≡ 0x0100_0012) × (h ≤ 64) × (b ≤ 32) ⌝ }
-    ensures { λ r. ⌜ Plainly number (now (stack .entry)) h b r (now (stack .exit)) ⌝ }
+pub fn dup(stack: &mut [u32; 64], h: usize, b: usize, place: u32) -> Turned
+    requires { ⌜ (h ≤ 64) × (b ≤ 32) × (place < 16384) ⌝ }
+    ensures { λ r. ⌜ OnData 0x47 (now (stack .entry)) h b place r (now (stack .exit)) ⌝ }
 {
     if h < 1 {
-        return Moved(14, h, b);
+        return refuse(14, h, b, place);
     }
     if 64 <= h {
-        return Moved(15, h, b);
+        return refuse(15, h, b, place);
     }
     stack[h] = stack[h - 1];
-    Moved(0, h + 1, b)
+    on(h + 1, b, place + 1)
 }
 
-// 48 over, 4C tuck
-fn over(number: u32, stack: &mut [u32; 64], h: usize, b: usize) -> Moved
-    requires { ⌜ (codeOf number ≡ 0x0100_0023) × (h ≤ 64) × (b ≤ 32) ⌝ }
-    ensures { λ r. ⌜ Plainly number (now (stack .entry)) h b r (now (stack .exit)) ⌝ }
+// 48 over
+pub fn over(stack: &mut [u32; 64], h: usize, b: usize, place: u32) -> Turned
+    requires { ⌜ (h ≤ 64) × (b ≤ 32) × (place < 16384) ⌝ }
+    ensures { λ r. ⌜ OnData 0x48 (now (stack .entry)) h b place r (now (stack .exit)) ⌝ }
 {
     if h < 2 {
-        return Moved(14, h, b);
+        return refuse(14, h, b, place);
     }
     if 64 <= h {
-        return Moved(15, h, b);
+        return refuse(15, h, b, place);
+    }
+    stack[h] = stack[h - 2];
+    on(h + 1, b, place + 1)
+}
+
+// 4C tuck
+pub fn tuck(stack: &mut [u32; 64], h: usize, b: usize, place: u32) -> Turned
+    requires { ⌜ (h ≤ 64) × (b ≤ 32) × (place < 16384) ⌝ }
+    ensures { λ r. ⌜ OnData 0x4C (now (stack .entry)) h b place r (now (stack .exit)) ⌝ }
+{
+    if h < 2 {
+        return refuse(14, h, b, place);
+    }
+    if 64 <= h {
+        return refuse(15, h, b, place);
     }
     let under = stack[h - 2];
-    if number == 0x48 {
-        stack[h] = under;
-        return Moved(0, h + 1, b);
-    }
     let top = stack[h - 1];
     stack[h - 2] = top;
     stack[h - 1] = under;
     stack[h] = top;
-    Moved(0, h + 1, b)
+    on(h + 1, b, place + 1)
 }
 
 // 49 swap
-fn swap(number: u32, stack: &mut [u32; 64], h: usize, b: usize) -> Moved
-    requires { ⌜ (codeOf number ≡ 0x0100_0022) × (h ≤ 64) × (b ≤ 32) ⌝ }
-    ensures { λ r. ⌜ Plainly number (now (stack .entry)) h b r (now (stack .exit)) ⌝ }
+pub fn swap(stack: &mut [u32; 64], h: usize, b: usize, place: u32) -> Turned
+    requires { ⌜ (h ≤ 64) × (b ≤ 32) × (place < 16384) ⌝ }
+    ensures { λ r. ⌜ OnData 0x49 (now (stack .entry)) h b place r (now (stack .exit)) ⌝ }
 {
     if h < 2 {
-        return Moved(14, h, b);
+        return refuse(14, h, b, place);
     }
     let under = stack[h - 2];
     stack[h - 2] = stack[h - 1];
     stack[h - 1] = under;
-    Moved(0, h, b)
+    on(h, b, place + 1)
 }
 
-// 4A rot, 4B -rot
-fn rot(number: u32, stack: &mut [u32; 64], h: usize, b: usize) -> Moved
-    requires { ⌜ (codeOf number ≡ 0x0100_0033) × (h ≤ 64) × (b ≤ 32) ⌝ }
-    ensures { λ r. ⌜ Plainly number (now (stack .entry)) h b r (now (stack .exit)) ⌝ }
+// 4A rot
+pub fn rot(stack: &mut [u32; 64], h: usize, b: usize, place: u32) -> Turned
+    requires { ⌜ (h ≤ 64) × (b ≤ 32) × (place < 16384) ⌝ }
+    ensures { λ r. ⌜ OnData 0x4A (now (stack .entry)) h b place r (now (stack .exit)) ⌝ }
 {
     if h < 3 {
-        return Moved(14, h, b);
+        return refuse(14, h, b, place);
     }
     let third = stack[h - 3];
     let under = stack[h - 2];
     let top = stack[h - 1];
-    if number == 0x4A {
-        stack[h - 3] = under;
-        stack[h - 2] = top;
-        stack[h - 1] = third;
-        return Moved(0, h, b);
+    stack[h - 3] = under;
+    stack[h - 2] = top;
+    stack[h - 1] = third;
+    on(h, b, place + 1)
+}
+
+// 4B -rot
+pub fn rot_back(stack: &mut [u32; 64], h: usize, b: usize, place: u32) -> Turned
+    requires { ⌜ (h ≤ 64) × (b ≤ 32) × (place < 16384) ⌝ }
+    ensures { λ r. ⌜ OnData 0x4B (now (stack .entry)) h b place r (now (stack .exit)) ⌝ }
+{
+    if h < 3 {
+        return refuse(14, h, b, place);
     }
+    let third = stack[h - 3];
+    let under = stack[h - 2];
+    let top = stack[h - 1];
     stack[h - 3] = top;
     stack[h - 2] = third;
     stack[h - 1] = under;
-    Moved(0, h, b)
+    on(h, b, place + 1)
 }
 
 // 53 2dup
-fn dup_two(number: u32, stack: &mut [u32; 64], h: usize, b: usize) -> Moved
-    requires { ⌜ (codeOf number ≡ 0x0100_0024) × (h ≤ 64) × (b ≤ 32) ⌝ }
-    ensures { λ r. ⌜ Plainly number (now (stack .entry)) h b r (now (stack .exit)) ⌝ }
+pub fn dup_two(stack: &mut [u32; 64], h: usize, b: usize, place: u32) -> Turned
+    requires { ⌜ (h ≤ 64) × (b ≤ 32) × (place < 16384) ⌝ }
+    ensures { λ r. ⌜ OnData 0x53 (now (stack .entry)) h b place r (now (stack .exit)) ⌝ }
 {
     if h < 2 {
-        return Moved(14, h, b);
+        return refuse(14, h, b, place);
     }
     if 62 < h {
-        return Moved(15, h, b);
+        return refuse(15, h, b, place);
     }
     let under = stack[h - 2];
     let top = stack[h - 1];
     stack[h] = under;
     stack[h + 1] = top;
-    Moved(0, h + 2, b)
+    on(h + 2, b, place + 1)
 }
 
 // 54 2over
-fn over_two(number: u32, stack: &mut [u32; 64], h: usize, b: usize) -> Moved
-    requires { ⌜ (codeOf number ≡ 0x0100_0046) × (h ≤ 64) × (b ≤ 32) ⌝ }
-    ensures { λ r. ⌜ Plainly number (now (stack .entry)) h b r (now (stack .exit)) ⌝ }
+pub fn over_two(stack: &mut [u32; 64], h: usize, b: usize, place: u32) -> Turned
+    requires { ⌜ (h ≤ 64) × (b ≤ 32) × (place < 16384) ⌝ }
+    ensures { λ r. ⌜ OnData 0x54 (now (stack .entry)) h b place r (now (stack .exit)) ⌝ }
 {
     if h < 4 {
-        return Moved(14, h, b);
+        return refuse(14, h, b, place);
     }
     if 62 < h {
-        return Moved(15, h, b);
+        return refuse(15, h, b, place);
     }
     let under = stack[h - 4];
     let top = stack[h - 3];
     stack[h] = under;
     stack[h + 1] = top;
-    Moved(0, h + 2, b)
+    on(h + 2, b, place + 1)
 }
 
 // 55 2swap
-fn swap_two(number: u32, stack: &mut [u32; 64], h: usize, b: usize) -> Moved
-    requires { ⌜ (codeOf number ≡ 0x0100_0044) × (h ≤ 64) × (b ≤ 32) ⌝ }
-    ensures { λ r. ⌜ Plainly number (now (stack .entry)) h b r (now (stack .exit)) ⌝ }
+pub fn swap_two(stack: &mut [u32; 64], h: usize, b: usize, place: u32) -> Turned
+    requires { ⌜ (h ≤ 64) × (b ≤ 32) × (place < 16384) ⌝ }
+    ensures { λ r. ⌜ OnData 0x55 (now (stack .entry)) h b place r (now (stack .exit)) ⌝ }
 {
     if h < 4 {
-        return Moved(14, h, b);
+        return refuse(14, h, b, place);
     }
     let p = stack[h - 4];
     let q = stack[h - 3];
@@ -297,16 +238,16 @@ fn swap_two(number: u32, stack: &mut [u32; 64], h: usize, b: usize) -> Moved
     stack[h - 3] = s;
     stack[h - 2] = p;
     stack[h - 1] = q;
-    Moved(0, h, b)
+    on(h, b, place + 1)
 }
 
 // 56 2rot
-fn rot_two(number: u32, stack: &mut [u32; 64], h: usize, b: usize) -> Moved
-    requires { ⌜ (codeOf number ≡ 0x0100_0066) × (h ≤ 64) × (b ≤ 32) ⌝ }
-    ensures { λ r. ⌜ Plainly number (now (stack .entry)) h b r (now (stack .exit)) ⌝ }
+pub fn rot_two(stack: &mut [u32; 64], h: usize, b: usize, place: u32) -> Turned
+    requires { ⌜ (h ≤ 64) × (b ≤ 32) × (place < 16384) ⌝ }
+    ensures { λ r. ⌜ OnData 0x56 (now (stack .entry)) h b place r (now (stack .exit)) ⌝ }
 {
     if h < 6 {
-        return Moved(14, h, b);
+        return refuse(14, h, b, place);
     }
     let p = stack[h - 6];
     let q = stack[h - 5];
@@ -320,78 +261,71 @@ fn rot_two(number: u32, stack: &mut [u32; 64], h: usize, b: usize) -> Moved
     stack[h - 3] = u;
     stack[h - 2] = p;
     stack[h - 1] = q;
-    Moved(0, h, b)
+    on(h, b, place + 1)
 }
 
 // 30 >r
-fn to_return(
-    number: u32,
-    stack: &[u32; 64],
-    back: &mut [u32; 32],
-    h: usize,
-    b: usize,
-    base: usize,
-) -> Moved
-    requires { ⌜ (codeOf number ≡ 0x0100_0110) × (h ≤ 64) × (base ≤ b) × (b ≤ 32) ⌝ }
-    ensures { λ r. ⌜ Both number base (now (stack .entry)) h (now (back .entry)) b r (now (stack .entry)) (now (back .exit)) ⌝ }
+pub fn to_return(stack: &[u32; 64], back: &mut [u32; 32], h: usize, b: usize, place: u32) -> Turned
+    requires { ⌜ (h ≤ 64) × (b ≤ 32) × (place < 16384) ⌝ }
+    ensures { λ r. ⌜ ((base : ℕ) → OnBoth 0x30 base (now (stack .entry)) h (now (back .entry)) b place r (now (stack .entry)) (now (back .exit))) ⌝ }
 {
     if h < 1 {
-        return Moved(14, h, b);
+        return refuse(14, h, b, place);
     }
     if 32 <= b {
-        return Moved(16, h, b);
+        return refuse(16, h, b, place);
     }
     back[b] = stack[h - 1];
-    Moved(0, h - 1, b + 1)
+    on(h - 1, b + 1, place + 1)
 }
 
 // 31 r>
-fn from_return(
-    number: u32,
+pub fn from_return(
     stack: &mut [u32; 64],
     back: &[u32; 32],
     h: usize,
     b: usize,
     base: usize,
-) -> Moved
-    requires { ⌜ (codeOf number ≡ 0x0100_1001) × (h ≤ 64) × (base ≤ b) × (b ≤ 32) ⌝ }
-    ensures { λ r. ⌜ Both number base (now (stack .entry)) h (now (back .entry)) b r (now (stack .exit)) (now (back .entry)) ⌝ }
+    place: u32,
+) -> Turned
+    requires { ⌜ (h ≤ 64) × (b ≤ 32) × (place < 16384) ⌝ }
+    ensures { λ r. ⌜ OnBoth 0x31 base (now (stack .entry)) h (now (back .entry)) b place r (now (stack .exit)) (now (back .entry)) ⌝ }
 {
     if b <= base {
-        return Moved(16, h, b);
+        return refuse(16, h, b, place);
     }
     if 64 <= h {
-        return Moved(15, h, b);
+        return refuse(15, h, b, place);
     }
     stack[h] = back[b - 1];
-    Moved(0, h + 1, b - 1)
+    on(h + 1, b - 1, place + 1)
 }
 
 // 32 r@
-fn copy_return(
-    number: u32,
+pub fn copy_return(
     stack: &mut [u32; 64],
     back: &[u32; 32],
     h: usize,
     b: usize,
     base: usize,
-) -> Moved
-    requires { ⌜ (codeOf number ≡ 0x0100_1101) × (h ≤ 64) × (base ≤ b) × (b ≤ 32) ⌝ }
-    ensures { λ r. ⌜ Both number base (now (stack .entry)) h (now (back .entry)) b r (now (stack .exit)) (now (back .entry)) ⌝ }
+    place: u32,
+) -> Turned
+    requires { ⌜ (h ≤ 64) × (b ≤ 32) × (place < 16384) ⌝ }
+    ensures { λ r. ⌜ OnBoth 0x32 base (now (stack .entry)) h (now (back .entry)) b place r (now (stack .exit)) (now (back .entry)) ⌝ }
 {
     if b <= base {
-        return Moved(16, h, b);
+        return refuse(16, h, b, place);
     }
     if 64 <= h {
-        return Moved(15, h, b);
+        return refuse(15, h, b, place);
     }
     stack[h] = back[b - 1];
-    Moved(0, h + 1, b)
+    on(h + 1, b, place + 1)
 }
 
 // What a token pushes that takes nothing.
 fn said(number: u32, h: usize) -> u32
-    requires { ⌜ (codeOf number ≡ 0x0100_0001) × (h ≤ 64) ⌝ }
+    requires { ⌜ Like number 0xA5 × (h ≤ 64) ⌝ }
     ensures { λ r. ⌜ OfNone number h r ⌝ }
 {
     match number {
@@ -407,7 +341,7 @@ fn said(number: u32, h: usize) -> u32
 
 // Of the top of the stack.
 fn one(number: u32, a: u32) -> u32
-    requires { ⌜ codeOf number ≡ 0x0100_0011 ⌝ }
+    requires { ⌜ Like number 0x26 ⌝ }
     ensures { λ r. ⌜ OfOne number a r ⌝ }
 {
     match number {
@@ -429,7 +363,7 @@ fn one(number: u32, a: u32) -> u32
 
 // Of the two highest cells, b under a.
 fn two(number: u32, b: u32, a: u32) -> u32
-    requires { ⌜ codeOf number ≡ 0x0100_0021 ⌝ }
+    requires { ⌜ Like number 0x1E ⌝ }
     ensures { λ r. ⌜ OfTwo number b a r ⌝ }
 {
     match number {
@@ -461,7 +395,7 @@ fn two(number: u32, b: u32, a: u32) -> u32
 
 // Of the three highest, c under b under a.
 fn three(number: u32, c: u32, b: u32, a: u32) -> u32
-    requires { ⌜ codeOf number ≡ 0x0100_0031 ⌝ }
+    requires { ⌜ Like number 0x44 ⌝ }
     ensures { λ r. ⌜ OfThree number c b a r ⌝ }
 {
     match number {
@@ -472,23 +406,23 @@ fn three(number: u32, c: u32, b: u32, a: u32) -> u32
 }
 
 // 2B u/mod: the remainder stands under the quotient.
-pub fn divide(stack: &mut [u32; 64], h: usize, b: usize) -> Moved
-    requires { ⌜ h ≤ 64 ⌝ }
-    ensures { λ r. ⌜ Works divideOf (now (stack .entry)) h b r (now (stack .exit)) ⌝ }
+pub fn divide(stack: &mut [u32; 64], h: usize, b: usize, place: u32) -> Turned
+    requires { ⌜ (h ≤ 64) × (b ≤ 32) × (place < 16384) ⌝ }
+    ensures { λ r. ⌜ OnData 0x2B (now (stack .entry)) h b place r (now (stack .exit)) ⌝ }
 {
     if h < 2 {
-        return Moved(14, h, b);
+        return refuse(14, h, b, place);
     }
     let parts = cells::u_mod(stack[h - 2], stack[h - 1]);
     match parts {
-        cells::Divided::ByZero => Moved(21, h, b),
+        cells::Divided::ByZero => refuse(21, h, b, place),
         cells::Divided::Parts {
             remainder,
             quotient,
         } => {
             stack[h - 2] = remainder;
             stack[h - 1] = quotient;
-            Moved(0, h, b)
+            on(h, b, place + 1)
         }
     }
 }
@@ -501,35 +435,35 @@ fn count_of(a: u32) -> usize
 }
 
 // 4E pick
-pub fn pick_up(stack: &mut [u32; 64], h: usize, b: usize) -> Moved
-    requires { ⌜ h ≤ 64 ⌝ }
-    ensures { λ r. ⌜ Works pickUpOf (now (stack .entry)) h b r (now (stack .exit)) ⌝ }
+pub fn pick_up(stack: &mut [u32; 64], h: usize, b: usize, place: u32) -> Turned
+    requires { ⌜ (h ≤ 64) × (b ≤ 32) × (place < 16384) ⌝ }
+    ensures { λ r. ⌜ OnData 0x4E (now (stack .entry)) h b place r (now (stack .exit)) ⌝ }
 {
     if h < 1 {
-        return Moved(14, h, b);
+        return refuse(14, h, b, place);
     }
     let count = count_of(stack[h - 1]);
     if h < count + 2 {
-        return Moved(14, h, b);
+        return refuse(14, h, b, place);
     }
     stack[h - 1] = stack[h - 2 - count];
-    Moved(0, h, b)
+    on(h, b, place + 1)
 }
 
 // 4F roll
-pub fn roll_up(stack: &mut [u32; 64], h: usize, b: usize) -> Moved
-    requires { ⌜ h ≤ 64 ⌝ }
-    ensures { λ r. ⌜ Works rollUpOf (now (stack .entry)) h b r (now (stack .exit)) ⌝ }
+pub fn roll_up(stack: &mut [u32; 64], h: usize, b: usize, place: u32) -> Turned
+    requires { ⌜ (h ≤ 64) × (b ≤ 32) × (place < 16384) ⌝ }
+    ensures { λ r. ⌜ OnData 0x4F (now (stack .entry)) h b place r (now (stack .exit)) ⌝ }
 {
     if h < 1 {
-        return Moved(14, h, b);
+        return refuse(14, h, b, place);
     }
     let count = count_of(stack[h - 1]);
     if h < count + 2 {
-        return Moved(14, h, b);
+        return refuse(14, h, b, place);
     }
     let g = turn(stack, h - 2 - count, count);
-    Moved(0, g + 1, b)
+    on(g + 1, b, place + 1)
 }
 
 // Moves the cell at a place above so many others, each of which comes one down, and gives the place where it then stands.
@@ -549,20 +483,20 @@ fn turn(stack: &mut [u32; 64], start: usize, count: usize) -> usize
 }
 
 // 50 ?dup
-pub fn maybe(stack: &mut [u32; 64], h: usize, b: usize) -> Moved
-    requires { ⌜ h ≤ 64 ⌝ }
-    ensures { λ r. ⌜ Works maybeOf (now (stack .entry)) h b r (now (stack .exit)) ⌝ }
+pub fn maybe(stack: &mut [u32; 64], h: usize, b: usize, place: u32) -> Turned
+    requires { ⌜ (h ≤ 64) × (b ≤ 32) × (place < 16384) ⌝ }
+    ensures { λ r. ⌜ OnData 0x50 (now (stack .entry)) h b place r (now (stack .exit)) ⌝ }
 {
     if h < 1 {
-        return Moved(14, h, b);
+        return refuse(14, h, b, place);
     }
     let top = stack[h - 1];
     if top == 0 {
-        return Moved(0, h, b);
+        return on(h, b, place + 1);
     }
     if 64 <= h {
-        return Moved(15, h, b);
+        return refuse(15, h, b, place);
     }
     stack[h] = top;
-    Moved(0, h + 1, b)
+    on(h + 1, b, place + 1)
 }

@@ -1,5 +1,5 @@
+use Rattle.reckon.proofs.Made.{always-cut-made, always-out-made, always-made}
 use denote.Ref.{now}
-use Rattle.reckon.proofs.FastMade.{always-cut-made, always-out-made, always-made}
 use borrow.Author.Needs.{needs}
 use Rattle.reckon.proofs.in_place.always.Statement.{statement}
 use Rattle.reckon.proofs.in_place.always.Tie as tie
@@ -9,7 +9,10 @@ always-spec =
     tie.close
     (tie.spec
     (λ c κs. search needs)
-    (λ c. let a = c .before .before .before .args in λ base x k g. always-cut-made (now (a .rom)) (a .length) (a .wide) base x (a .h) k (a .b) (a .place) (search needs) (search needs, g, search needs, search needs, search needs) _ (c .before .behind-branch .ensures) (c .if1 .taken))
     (λ c κs. search needs)
-    (λ c. let a = c .before .before .before .before .before .args in λ base x k g. always-out-made (now (a .rom)) (a .length) (a .wide) base x (a .h) k (a .b) (a .place) (search needs) (search needs, g, search needs, search needs, search needs) _ _ (c .before .before .before .behind-branch .ensures) (c .before .before .if1 .left) (c .before .branch-to .ensures) (c .if2 .taken))
-    (λ c. let a = c .before .before .before .before .before .args in λ base x k g. always-made (now (a .rom)) (a .length) (a .wide) base x (a .h) k (a .b) (a .place) (search needs) (search needs, g, search needs, search needs, search needs) _ _ (c .before .before .before .behind-branch .ensures) (c .before .before .if1 .left) (c .before .branch-to .ensures) (c .if2 .left)))
+    (λ c. let s = c .before .before .before .before in let a = s .args in rw (c .refuse .ensures) (λ cells. always-cut-made (now (a .rom)) (a .length) (a .wide) (a .h) (a .b) (a .place) cells (s .pre .0) (s .pre .1) _ (c .before .before .behind-branch .ensures) (c .before .if1 .taken)))
+    (λ c κs. search needs)
+    (λ c κs. search needs)
+    (λ c. let s = c .before .before .before .before .before .before in let a = s .args in rw (c .refuse2 .ensures) (λ cells. always-out-made (now (a .rom)) (a .length) (a .wide) (a .h) (a .b) (a .place) cells (s .pre .0) (s .pre .1) _ (c .before .before .before .before .behind-branch .ensures) (c .before .before .before .if1 .left) _ (c .before .before .branch-to .ensures) (c .before .if2 .taken)))
+    (λ c κs. search needs)
+    (λ c. let s = c .before .before .before .before .before .before in let a = s .args in rw (c .on .ensures) (λ cells. always-made (now (a .rom)) (a .length) (a .wide) (a .h) (a .b) (a .place) cells (s .pre .0) (s .pre .1) _ (c .before .before .before .before .behind-branch .ensures) (c .before .before .before .if1 .left) _ (c .before .before .branch-to .ensures) (c .before .if2 .left))))

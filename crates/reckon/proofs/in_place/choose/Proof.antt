@@ -1,5 +1,5 @@
+use Rattle.reckon.proofs.Made.{choice-cut-made, choice-low-made, choice-out-made, choice-taken-made, choice-fallen-made}
 use denote.Ref.{now}
-use Rattle.reckon.proofs.FastMade.{choice-cut-made, choice-low-made, choice-out-made, choice-taken-made, choice-fallen-made}
 use borrow.Author.Needs.{needs}
 use Rattle.reckon.proofs.in_place.choose.Statement.{statement}
 use Rattle.reckon.proofs.in_place.choose.Tie as tie
@@ -9,11 +9,16 @@ choose-spec =
     tie.close
     (tie.spec
     (λ c κs. search needs)
-    (λ c. let a = c .before .before .before .args in λ base k g. choice-cut-made (now (a .rom)) (a .length) (a .wide) base (now (a .stack)) (a .h) k (a .b) (a .place) (search needs) (search needs, g, search needs, search needs, search needs) _ (c .before .behind-branch .ensures) (c .if1 .taken))
-    (λ c. let a = c .before .before .before .before .args in λ base k g. choice-low-made (now (a .rom)) (a .length) (a .wide) base (now (a .stack)) (a .h) k (a .b) (a .place) (search needs) (search needs, g, search needs, search needs, search needs) _ (c .before .before .behind-branch .ensures) (c .before .if1 .left) (c .if2 .taken))
-    (λ c. search needs)
-    (λ c. search needs)
-    (λ c. let a = c .before .before .before .before .before .before .args in λ base k g. choice-fallen-made (now (a .rom)) (a .length) (a .wide) base (now (a .stack)) (a .h) k (a .b) (a .place) (search needs) (search needs, g, search needs, search needs, search needs) _ (c .before .before .before .before .behind-branch .ensures) (c .before .before .before .if1 .left) (c .before .before .if2 .left) (c .if3 .taken))
     (λ c κs. search needs)
-    (λ c. let a = c .before .before .before .before .before .before .before .before .args in λ base k g. choice-out-made (now (a .rom)) (a .length) (a .wide) base (now (a .stack)) (a .h) k (a .b) (a .place) (search needs) (search needs, g, search needs, search needs, search needs) _ (c .before .before .before .before .before .before .behind-branch .ensures) (c .before .before .before .before .before .if1 .left) _ (c .before .before .before .before .if2 .left) (c .before .before .if3 .left) (c .before .branch-to .ensures) (c .if4 .taken))
-    (λ c. let a = c .before .before .before .before .before .before .before .before .args in λ base k g. choice-taken-made (now (a .rom)) (a .length) (a .wide) base (now (a .stack)) (a .h) k (a .b) (a .place) (search needs) (search needs, g, search needs, search needs, search needs) _ (c .before .before .before .before .before .before .behind-branch .ensures) (c .before .before .before .before .before .if1 .left) _ (c .before .before .before .before .if2 .left) (c .before .before .if3 .left) (c .before .branch-to .ensures) (c .if4 .left)))
+    (λ c. let s = c .before .before .before .before in let a = s .args in rw (c .refuse .ensures) (choice-cut-made (now (a .rom)) (a .length) (a .wide) (a .h) (a .b) (a .place) (now (a .stack)) (s .pre .0) (s .pre .1) _ (c .before .before .behind-branch .ensures) (c .before .if1 .taken)))
+    (λ c κs. search needs)
+    (λ c. let s = c .before .before .before .before .before in let a = s .args in rw (c .refuse2 .ensures) (choice-low-made (now (a .rom)) (a .length) (a .wide) (a .h) (a .b) (a .place) (now (a .stack)) (s .pre .0) (s .pre .1) _ (c .before .before .before .behind-branch .ensures) (c .before .before .if1 .left) (c .before .if2 .taken)))
+    (λ c. search needs)
+    (λ c. search needs)
+    (λ c κs. search needs)
+    (λ c. let s = c .before .before .before .before .before .before .before in let a = s .args in rw (c .on .ensures) (choice-fallen-made (now (a .rom)) (a .length) (a .wide) (a .h) (a .b) (a .place) (now (a .stack)) (s .pre .0) (s .pre .1) _ (c .before .before .before .before .before .behind-branch .ensures) (c .before .before .before .before .if1 .left) (c .before .before .before .if2 .left) (c .before .if3 .taken)))
+    (λ c κs. search needs)
+    (λ c κs. search needs)
+    (λ c. let s = c .before .before .before .before .before .before .before .before .before in let a = s .args in rw (c .refuse3 .ensures) (choice-out-made (now (a .rom)) (a .length) (a .wide) (a .h) (a .b) (a .place) (now (a .stack)) (s .pre .0) (s .pre .1) _ (c .before .before .before .before .before .before .before .behind-branch .ensures) (c .before .before .before .before .before .before .if1 .left) _ (c .before .before .branch-to .ensures) (c .before .before .before .before .before .if2 .left) (c .before .before .before .if3 .left) (c .before .if4 .taken)))
+    (λ c κs. search needs)
+    (λ c. let s = c .before .before .before .before .before .before .before .before .before in let a = s .args in rw (c .on2 .ensures) (choice-taken-made (now (a .rom)) (a .length) (a .wide) (a .h) (a .b) (a .place) (now (a .stack)) (s .pre .0) (s .pre .1) _ (c .before .before .before .before .before .before .before .behind-branch .ensures) (c .before .before .before .before .before .before .if1 .left) _ (c .before .before .branch-to .ensures) (c .before .before .before .before .before .if2 .left) (c .before .before .before .if3 .left) (c .before .if4 .left))))

@@ -1,18 +1,19 @@
-use Rattle.reckon.proofs.Paths.{data-low}
 use Rattle.reckon.proofs.Arms.{drop-two-fine}
+use Rattle.reckon.proofs.Paths.{data-low}
+use Rattle.tokens.specs.Code.{codeOf}
+use Rattle.tokens.specs.Table.{ends, lows, highs, doubles, table, rowOf}
+use mathlib.Core.Path.{refl}
 use borrow.Author.Needs.{needs}
 use Rattle.reckon.proofs.reckon.drop_two.Statement.{statement}
 use Rattle.reckon.proofs.reckon.drop_two.Tie as tie
 
 pub drop-two-spec : {M : Type 1} → statement M
+unfolding codeOf rowOf table ends lows highs doubles
 drop-two-spec =
     tie.close
     (tie.spec
-    (λ c.
-    let s = c .before in
-    let a = s .args in
-    λ cells operand. data-low (a .number) operand (a .h) (a .b) 0x0100_0020 cells (s .pre .0) (s .pre .1) (search needs))
-    (λ c.
-    let s = c .before in
-    let a = s .args in
-    λ cells operand. drop-two-fine (a .number) operand (a .h) (a .b) cells (s .pre .1) (s .pre .2) (s .pre .0) (search needs)))
+    (λ c κs. search needs)
+    (λ c. let s = c .before .before in let a = s .args in rw (c .refuse .ensures) (λ cells. data-low 0x52 (a .h) (a .b) (a .place) 0x0100_0020 cells refl (refl, refl, refl, refl) (s .pre .0) (s .pre .1) (search needs)))
+    (λ c. search needs)
+    (λ c κs. search needs)
+    (λ c. let s = c .before .before in let a = s .args in rw (c .on .ensures) (λ cells. drop-two-fine (a .h) (a .b) (a .place) cells (s .pre .0) (s .pre .1) (search needs))))

@@ -1,5 +1,6 @@
-use denote.Ref.{now}
 use Rattle.reckon.proofs.Deep.{roll-low, roll-deep, roll-fine}
+use Rattle.reckon.proofs.Made.{roll-made}
+use denote.Ref.{now}
 use borrow.Author.Needs.{needs}
 use Rattle.reckon.proofs.reckon.roll_up.Statement.{statement}
 use Rattle.reckon.proofs.reckon.roll_up.Tie as tie
@@ -8,25 +9,18 @@ pub roll-up-spec : {M : Type 1} → statement M
 roll-up-spec =
     tie.close
     (tie.spec
-    (λ c.
-    let s = c .before in
-    let a = s .args in
-    roll-low (a .h) (a .b) (now (a .stack)) (s .pre) (search needs))
+    (λ c κs. search needs)
+    (λ c. let s = c .before .before in let a = s .args in rw (c .refuse .ensures) (roll-made (a .h) (a .b) (a .place) (now (a .stack)) (s .pre .0) (s .pre .1) 14 (a .h) _ (roll-low (a .h) (a .b) (now (a .stack)) (s .pre .0) (search needs))))
     (λ c. search needs)
     (λ c. search needs)
     (λ c κs. search needs)
     (λ c. search needs)
-    (λ c.
-    let s = c .before .before .before .before in
-    let a = s .args in
-    let n = c .before .count-of in
-    roll-deep (a .h) (a .b) (now (a .stack)) (s .pre) (n .result) (n .ensures .0) (search needs) (search needs))
+    (λ c κs. search needs)
+    (λ c. let s = c .before .before .before .before .before in let a = s .args in rw (c .refuse2 .ensures) (roll-made (a .h) (a .b) (a .place) (now (a .stack)) (s .pre .0) (s .pre .1) 14 (a .h) _ (roll-deep (a .h) (a .b) (now (a .stack)) (s .pre .0) (c .before .before .count-of .result) (c .before .before .count-of .ensures .0) (search needs) (search needs))))
     (λ c. search needs)
     (λ c. search needs)
     (λ c κs. search needs)
     (λ c. search needs)
-    (λ c.
-    let s = c .before .before .before .before .before .before in
-    let a = s .args in
-    let n = c .before .before .before .count-of in
-    roll-fine (a .h) (a .b) (now (a .stack)) (s .pre) (n .result) (n .ensures .0) (search needs) (search needs) _ _ (c .turn .ensures .1) (c .turn .ensures .0)))
+    (λ c. search needs)
+    (λ c κs. search needs)
+    (λ c. let s = c .before .before .before .before .before .before .before in let a = s .args in rw (c .on .ensures) (roll-made (a .h) (a .b) (a .place) (now (a .stack)) (s .pre .0) (s .pre .1) 0 _ _ (roll-fine (a .h) (a .b) (now (a .stack)) (s .pre .0) (c .before .before .before .before .count-of .result) (c .before .before .before .before .count-of .ensures .0) (search needs) (search needs) _ _ (c .before .turn .ensures .1) (c .before .turn .ensures .0)))))

@@ -1,18 +1,20 @@
-use denote.Ref.{now}
-use Rattle.reckon.proofs.Paths.{data-low}
 use Rattle.reckon.proofs.Arms.{swap-fine}
+use Rattle.reckon.proofs.Paths.{data-low}
+use Rattle.tokens.specs.Code.{codeOf}
+use Rattle.tokens.specs.Table.{ends, lows, highs, doubles, table, rowOf}
+use denote.Ref.{now}
+use mathlib.Core.Path.{refl}
 use borrow.Author.Needs.{needs}
 use Rattle.reckon.proofs.reckon.swap.Statement.{statement}
 use Rattle.reckon.proofs.reckon.swap.Tie as tie
 
 pub swap-spec : {M : Type 1} → statement M
+unfolding codeOf rowOf table ends lows highs doubles
 swap-spec =
     tie.close
     (tie.spec
-    (λ c.
-    let s = c .before in
-    let a = s .args in
-    λ operand. data-low (a .number) operand (a .h) (a .b) 0x0100_0022 (now (a .stack)) (s .pre .0) (s .pre .1) (search needs))
+    (λ c κs. search needs)
+    (λ c. let s = c .before .before in let a = s .args in rw (c .refuse .ensures) (data-low 0x49 (a .h) (a .b) (a .place) 0x0100_0022 (now (a .stack)) refl (refl, refl, refl, refl) (s .pre .0) (s .pre .1) (search needs)))
     (λ c. search needs)
     (λ c. search needs)
     (λ c. search needs)
@@ -23,7 +25,6 @@ swap-spec =
     (λ c. search needs)
     (λ c. search needs)
     (λ c. search needs)
-    (λ c.
-    let s = c .before .before .before in
-    let a = s .args in
-    λ operand. swap-fine (a .number) operand (a .h) (a .b) (now (a .stack)) (s .pre .1) (s .pre .2) (s .pre .0) (search needs)))
+    (λ c. search needs)
+    (λ c κs. search needs)
+    (λ c. let s = c .before .before .before .before in let a = s .args in rw (c .on .ensures) (swap-fine (a .h) (a .b) (a .place) (now (a .stack)) (s .pre .0) (s .pre .1) (search needs))))

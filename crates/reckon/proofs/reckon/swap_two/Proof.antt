@@ -1,18 +1,20 @@
-use denote.Ref.{now}
-use Rattle.reckon.proofs.Paths.{data-low}
 use Rattle.reckon.proofs.Arms.{swap-two-fine}
+use Rattle.reckon.proofs.Paths.{data-low}
+use Rattle.tokens.specs.Code.{codeOf}
+use Rattle.tokens.specs.Table.{ends, lows, highs, doubles, table, rowOf}
+use denote.Ref.{now}
+use mathlib.Core.Path.{refl}
 use borrow.Author.Needs.{needs}
 use Rattle.reckon.proofs.reckon.swap_two.Statement.{statement}
 use Rattle.reckon.proofs.reckon.swap_two.Tie as tie
 
 pub swap-two-spec : {M : Type 1} → statement M
+unfolding codeOf rowOf table ends lows highs doubles
 swap-two-spec =
     tie.close
     (tie.spec
-    (λ c.
-    let s = c .before in
-    let a = s .args in
-    λ operand. data-low (a .number) operand (a .h) (a .b) 0x0100_0044 (now (a .stack)) (s .pre .0) (s .pre .1) (search needs))
+    (λ c κs. search needs)
+    (λ c. let s = c .before .before in let a = s .args in rw (c .refuse .ensures) (data-low 0x55 (a .h) (a .b) (a .place) 0x0100_0044 (now (a .stack)) refl (refl, refl, refl, refl) (s .pre .0) (s .pre .1) (search needs)))
     (λ c. search needs)
     (λ c. search needs)
     (λ c. search needs)
@@ -35,7 +37,6 @@ swap-two-spec =
     (λ c. search needs)
     (λ c. search needs)
     (λ c. search needs)
-    (λ c.
-    let s = c .before .before .before .before .before in
-    let a = s .args in
-    λ operand. swap-two-fine (a .number) operand (a .h) (a .b) (now (a .stack)) (s .pre .1) (s .pre .2) (s .pre .0) (search needs)))
+    (λ c. search needs)
+    (λ c κs. search needs)
+    (λ c. let s = c .before .before .before .before .before .before in let a = s .args in rw (c .on .ensures) (swap-two-fine (a .h) (a .b) (a .place) (now (a .stack)) (s .pre .0) (s .pre .1) (search needs))))
