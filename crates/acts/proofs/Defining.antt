@@ -9,6 +9,7 @@ use lib.Dec.{eqb, ltb, leb, leb→le}
 use lib.ListN.{getD}
 use Rattle.cells.specs.Tests.{pick-is}
 use Rattle.cells.specs.Facts.{holds, both-hold}
+use Rattle.tokens.specs.Family.{assign, call, define}
 use Rattle.tokens.specs.Table.{isProgram}
 use Rattle.tokens.specs.Decode.{tokenOf, decodeOf, isKind}
 use Rattle.tokens.specs.Place.{judged, misplacedOf, readOf}
@@ -30,15 +31,14 @@ use Rattle.state.specs.Numbers.{kindOfByte, kindAt, kindHeld, kindsOf}
 use Rattle.state.specs.Scene.{scene, turn, told}
 use Rattle.state.specs.Refusals.{rounded}
 use Rattle.state.specs.Effects.{gave, behindBody, effects, actOf}
-use Rattle.state.specs.Moves.{stepped, popOf, pushOf, callOf}
+use Rattle.state.specs.Moves.{Popped, stepped, popOf, pushOf, callOf}
 use Rattle.state.specs.Step.{doneOf}
-use Rattle.acts.specs.Slow.{QuietOf, QuietBy, Defines, Colons, Variables, Fresh, TakesValue}
+use Rattle.acts.specs.Acts.{QuietOf, QuietBy, Defines, Colons, Variables, Fresh, TakesValue}
 use Rattle.state.specs.KeepsTests.{find-at}
 use Rattle.state.specs.KeepsToken.{behind-body}
 use Rattle.state.specs.declared.state.State.{State}
 use Rattle.state.specs.declared.state.Numbers.{Numbers}
 use Rattle.state.specs.declared.answer.Answer.the-variants.{Going, Refused}
-use Rattle.state.specs.declared.answer.Popped.{Popped}
 use Rattle.state.specs.declared.answer.Stepped.{Stepped}
 use Rattle.acts.proofs.Cold.{assign-unknown, assign-low, assign-good, call-unknown, call-high, call-value, call-deep, call-body}
 use Rattle.acts.proofs.Cold.{define-held, define-most, colon-stops, colon-good, variable-full, variable-good, value-low, value-good, constant-low, constant-good}
@@ -72,21 +72,21 @@ kind-other k n =
 
 -- ---- b(to)
 module _ (st : State) (o : Operand) (next m at : ℕ) (e : m ≡ numberIn o) (f : at ≡ seekFrom (st .numbers .names) m (st .numbers .count) 0) where
-  unassigned : (k : ℕ) (r : Stepped) → kindOf (kindsOf (st .numbers)) m ≡ k → eqb k value ≡ false → r ≡ stepped (Refused 12) st → QuietOf 0x1004_0010 o st next r
+  unassigned : (k : ℕ) (r : Stepped) → kindOf (kindsOf (st .numbers)) m ≡ k → eqb k value ≡ false → r ≡ stepped (Refused 12) st → QuietOf assign o st next r
   unfolding unknownOf
   unassigned k r g z w n rom work store =
       let u : kindOf (kindsOf (st .numbers)) (numberIn o) ≡ k = ap (λ (x : ℕ). kindOf (kindsOf (st .numbers)) x) (sym e) ∙ g in
       rw w (sym (stopped (scene rom work store st) (tokenOf n 0x1004_0010 o next) 12 refl
       (assign-unknown (scene rom work store st) n o next (ap (λ (x : ℕ). not (eqb x value)) u ∙ ap not z))))
 
-  pub assign-outside : (r : Stepped) → isProgram m ≡ false → r ≡ stepped (Refused 12) st → QuietOf 0x1004_0010 o st next r
+  pub assign-outside : (r : Stepped) → isProgram m ≡ false → r ≡ stepped (Refused 12) st → QuietOf assign o st next r
   assign-outside r p w = unassigned 0 r (kind-outside (st .numbers) m p) refl w
 
   module _ (p : isProgram m ≡ true) where
     held : at < st .numbers .count → isHeld (st .numbers) m ≡ true
     held l = lt-ltb _ _ (subst (λ (x : ℕ). x < st .numbers .count) f l)
 
-    pub assign-none : (r : Stepped) → st .numbers .count ≤ at → r ≡ stepped (Refused 12) st → QuietOf 0x1004_0010 o st next r
+    pub assign-none : (r : Stepped) → st .numbers .count ≤ at → r ≡ stepped (Refused 12) st → QuietOf assign o st next r
     assign-none r l w =
         unassigned 0 r (kind-none (st .numbers) m p (le-ltb _ _ (subst (λ (x : ℕ). st .numbers .count ≤ x) f l))) refl w
 
@@ -94,7 +94,7 @@ module _ (st : State) (o : Operand) (next m at : ℕ) (e : m ≡ numberIn o) (f 
       kind-here : kindOf (kindsOf (st .numbers)) m ≡ kindOfByte k
       kind-here = kind-there (st .numbers) m p (held l) ∙ sym (ap kindOfByte (g ∙ ap (λ (x : ℕ). getD (st .numbers .kinds) x 0) f))
 
-      pub assign-other : (r : Stepped) → (k ≡ value → ⊥) → r ≡ stepped (Refused 12) st → QuietOf 0x1004_0010 o st next r
+      pub assign-other : (r : Stepped) → (k ≡ value → ⊥) → r ≡ stepped (Refused 12) st → QuietOf assign o st next r
       assign-other r n w = unassigned (kindOfByte k) r kind-here (kind-other k n) w
 
       module _ (v : k ≡ value) where
@@ -105,12 +105,12 @@ module _ (st : State) (o : Operand) (next m at : ℕ) (e : m ≡ numberIn o) (f 
             ap (λ (x : ℕ). kindOf (kindsOf (st .numbers)) x) (sym e) ∙ kind-here ∙ ap kindOfByte v in
             ap (λ (x : ℕ). not (eqb x value)) u
 
-        pub assign-low-told : (r : Stepped) → st .stack .height < 1 → r ≡ stepped (Refused 14) st → QuietOf 0x1004_0010 o st next r
+        pub assign-low-told : (r : Stepped) → st .stack .height < 1 → r ≡ stepped (Refused 14) st → QuietOf assign o st next r
         assign-low-told r h w n rom work store =
             rw w (sym (stopped (scene rom work store st) (tokenOf n 0x1004_0010 o next) 14 refl (assign-low (scene rom work store st) n o next (assigned n) h)))
 
         pub assign-told : (q : Popped) (d : State) (r : Stepped) → 1 ≤ st .stack .height → st .stack .height ≤ 64 → q ≡ popOf st
-            → d ≡ withNumbers (movedTo (q .state) next) (assignedOf (q .state .numbers) at (q .cell)) → r ≡ stepped Going d → QuietOf 0x1004_0010 o st next r
+            → d ≡ withNumbers (movedTo (q .state) next) (assignedOf (q .state .numbers) at (q .cell)) → r ≡ stepped Going d → QuietOf assign o st next r
         unfolding actOf effects
         assign-told q d r h i b y w n rom work store =
             let c = first-pop st q h b in
@@ -126,17 +126,17 @@ module _ (st : State) (o : Operand) (next m at : ℕ) (e : m ≡ numberIn o) (f 
 
 -- ---- a program number
 module _ (st : State) (m next at : ℕ) (f : at ≡ seekOf (st .numbers) m) where
-  unknown-told : (r : Stepped) → kindOf (kindsOf (st .numbers)) m ≡ 0 → r ≡ stepped (Refused 12) st → QuietBy m 0x1100_0000 st next r
+  unknown-told : (r : Stepped) → kindOf (kindsOf (st .numbers)) m ≡ 0 → r ≡ stepped (Refused 12) st → QuietBy m call st next r
   unfolding unknownOf
   unknown-told r g w o rom work store =
       rw w (sym (stopped (scene rom work store st) (tokenOf m 0x1100_0000 o next) 12 refl
       (call-unknown (scene rom work store st) m o next (ap (λ (x : ℕ). eqb x 0) g))))
 
-  pub enter-outside : (r : Stepped) → isProgram m ≡ false → r ≡ stepped (Refused 12) st → QuietBy m 0x1100_0000 st next r
+  pub enter-outside : (r : Stepped) → isProgram m ≡ false → r ≡ stepped (Refused 12) st → QuietBy m call st next r
   enter-outside r p w = unknown-told r (kind-outside (st .numbers) m p) w
 
   module _ (p : isProgram m ≡ true) where
-    pub enter-none : (r : Stepped) → st .numbers .count ≤ at → r ≡ stepped (Refused 12) st → QuietBy m 0x1100_0000 st next r
+    pub enter-none : (r : Stepped) → st .numbers .count ≤ at → r ≡ stepped (Refused 12) st → QuietBy m call st next r
     enter-none r l w =
         unknown-told r (kind-none (st .numbers) m p (le-ltb _ _ (subst (λ (x : ℕ). st .numbers .count ≤ x) f l))) w
 
@@ -155,7 +155,7 @@ module _ (st : State) (m next at : ℕ) (f : at ≡ seekOf (st .numbers) m) wher
       value-at = i ∙ ap (λ (x : ℕ). getD (st .numbers .values) x 0) f
 
       pub enter-body : (wide : Bool) (r : Stepped) → k ≡ colon → wide ≡ getD (st .numbers .wides) at false → r ≡ callOf st v wide next
-          → QuietBy m 0x1100_0000 st next r
+          → QuietBy m call st next r
       unfolding callOf actOf effects
       enter-body wide r b j w o rom work store = by (ltb (st .calls .count) 16) refl
         where
@@ -179,12 +179,12 @@ module _ (st : State) (m next at : ℕ) (f : at ≡ seekOf (st .numbers) m) wher
         no-body : eqb (getD (st .numbers .kinds) (seekOf (st .numbers) m) 0) colon ≡ false
         no-body = ne-eqb _ _ (λ z. b (kind-at ∙ z))
 
-        pub enter-high : (r : Stepped) → 64 < st .stack .height + 1 → r ≡ stepped (Refused 15) st → QuietBy m 0x1100_0000 st next r
+        pub enter-high : (r : Stepped) → 64 < st .stack .height + 1 → r ≡ stepped (Refused 15) st → QuietBy m call st next r
         enter-high r d w o rom work store =
             rw w (sym (stopped (scene rom work store st) (tokenOf m 0x1100_0000 o next) 15 refl
             (call-high (scene rom work store st) m o next (known-told o) no-body d)))
 
-        pub enter-value : (r : Stepped) → st .stack .height + 1 ≤ 64 → r ≡ pushOf (movedTo st next) v → QuietBy m 0x1100_0000 st next r
+        pub enter-value : (r : Stepped) → st .stack .height + 1 ≤ 64 → r ≡ pushOf (movedTo st next) v → QuietBy m call st next r
         unfolding actOf effects
         enter-value r d w o rom work store =
             rw (pushed-here st next v r (omega arith) w, value-at)
@@ -231,7 +231,7 @@ module _ (rom : List ℕ) (size : ℕ) (wide : Bool) (kinds : List ℕ) where
   ends-within p at l e = subst (λ (b : Body). behindBody b ≤ size) e (behind-body rom size wide kinds p l .1)
 
 -- ---- b(:)
-module _ (rom : List ℕ) (st : State) (m next : ℕ) (h : st .stack .height ≤ 64) (e : Fresh st m) (kinds : List ℕ) (b : Body)
+module _ (rom : List ℕ) (st : State) (m next : ℕ) (h : st .stack .height ≤ 64) (e : Fresh (st .numbers) m) (kinds : List ℕ) (b : Body)
     (k : kinds ≡ kindsOf (st .numbers)) (f : b ≡ bodyOf rom (st .length) (st .wide) kinds next) where
   body-is : (x : Body) → b ≡ x → bodyOf rom (st .length) (st .wide) (kindsOf (st .numbers)) next ≡ x
   body-is x g = ap (λ (l : List ℕ). bodyOf rom (st .length) (st .wide) l next) (sym k) ∙ sym f ∙ g
@@ -253,7 +253,7 @@ module _ (rom : List ℕ) (st : State) (m next : ℕ) (h : st .stack .height ≤
   colon-end at l g = ends-within rom (st .length) (st .wide) (kindsOf (st .numbers)) next at l (body-is (Ends at) g)
 
 -- ---- b(value), b(constant)
-module _ (st : State) (m next : ℕ) (h : st .stack .height ≤ 64) (e : Fresh st m) where
+module _ (st : State) (m next : ℕ) (h : st .stack .height ≤ 64) (e : Fresh (st .numbers) m) where
   by-kind : (k : ℕ) (P : ℕ → Type 0) → TakesValue k → P value → P constant → P k
   by-kind k P t v c = by (eqb k constant) refl
     where
@@ -262,7 +262,7 @@ module _ (st : State) (m next : ℕ) (h : st .stack .height ≤ 64) (e : Fresh s
       by false z = subst P (sym (t (eqb-false k constant z))) v
 
   pub value-low-told : (k : ℕ) (r : Stepped) → TakesValue k → st .stack .height < 1 → r ≡ stepped (Refused 14) st
-      → QuietOf 0x0E15_0000 (Definition m k) st next r
+      → QuietOf define (Definition m k) st next r
   value-low-told k r t l w n rom work store =
       by-kind k (λ (x : ℕ). told r work store ≡ doneOf (scene rom work store st) (tokenOf n 0x0E15_0000 (Definition m x) next)) t
       (rw w (sym (stopped (scene rom work store st) (tokenOf n 0x0E15_0000 (Definition m value) next) 14 refl
@@ -276,7 +276,7 @@ module _ (st : State) (m next : ℕ) (h : st .stack .height ≤ 64) (e : Fresh s
 
     pub value-told : (k : ℕ) (d : State) (r : Stepped) → TakesValue k
         → d ≡ withNumbers (movedTo (p .state) next) (definedOf (p .state .numbers) m k (p .cell) (p .state .wide)) → r ≡ stepped Going d
-        → QuietOf 0x0E15_0000 (Definition m k) st next r
+        → QuietOf define (Definition m k) st next r
     unfolding actOf effects
     value-told k d r t g w n rom work store =
         let c = first-pop st p l f in
@@ -293,7 +293,7 @@ module _ (st : State) (m next : ℕ) (h : st .stack .height ≤ 64) (e : Fresh s
         (constant-good (scene rom work store st) n (Definition m constant) next m (e .0) (e .1) h l)))
 
 -- ---- b(variable)
-module _ (st : State) (m next at : ℕ) (h : st .stack .height ≤ 64) (e : Fresh st m) (i : at ≡ rounded (st .«work_place»)) where
+module _ (st : State) (m next at : ℕ) (h : st .stack .height ≤ 64) (e : Fresh (st .numbers) m) (i : at ≡ rounded (st .«work_place»)) where
   abbrev cells : ℕ
   cells = rounded (st .«work_place»)
 
@@ -339,7 +339,7 @@ constant-left k e n =
         absurd (omega arith)
 
 -- ---- 13, and a number that is new
-pub fresh-told : (st : State) (m at : ℕ) → at ≡ seekOf (st .numbers) m → st .numbers .count ≤ at → st .numbers .count < 256 → Fresh st m
+pub fresh-told : (st : State) (m at : ℕ) → at ≡ seekOf (st .numbers) m → st .numbers .count ≤ at → st .numbers .count < 256 → Fresh (st .numbers) m
 fresh-told st m at f l h = (le-ltb _ _ (subst (λ (x : ℕ). st .numbers .count ≤ x) f l), omega arith)
 
 module _ (rom work : List ℕ) (st : State) (o : Operand) (next m at : ℕ) (e : m ≡ newNumber o) (f : at ≡ seekOf (st .numbers) m) where

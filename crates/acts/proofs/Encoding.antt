@@ -6,6 +6,7 @@ use mathlib.Core.List.{List, [], _∷_, _++_}
 use native.Mathlib.Omega.{arith}
 use borrow.Author.Tests.{eq-eqb, ne-eqb}
 use lib.ListN.{length, set, length-append}
+use Rattle.tokens.specs.Family.{encodeInt, encodeString, join}
 use Rattle.tokens.specs.Decode.{tokenOf}
 use Rattle.memory.specs.Window.{badRange, rangeOf, windowOf, partOf, resolveOf}
 use Rattle.memory.specs.Writing.{writtenOf, bytesOf}
@@ -15,11 +16,10 @@ use Rattle.memory.specs.declared.window.Window.the-variants.{Rom, Work, Nowhere
 use Rattle.state.specs.State.{withWork, moved}
 use Rattle.state.specs.Scene.{scene, turn, told}
 use Rattle.state.specs.Effects.{gave, effects, actOf}
-use Rattle.state.specs.Moves.{stepped, popOf}
-use Rattle.acts.specs.Slow.{Quiet, Writes, WritesFrom, pairOn, encodedOn}
+use Rattle.state.specs.Moves.{Popped, stepped, popOf}
+use Rattle.acts.specs.Acts.{Quiet, Writes, WritesFrom, pairOn, encodedOn}
 use Rattle.state.specs.declared.state.State.{State}
 use Rattle.state.specs.declared.answer.Answer.the-variants.{Going, Refused}
-use Rattle.state.specs.declared.answer.Popped.{Popped}
 use Rattle.state.specs.declared.answer.Stepped.{Stepped}
 use Rattle.acts.proofs.Cold.{join-apart, join-good, int-good, string-bad, string-full, string-good}
 use Rattle.state.specs.Done.{carried, stopped}
@@ -28,14 +28,14 @@ use Rattle.acts.proofs.Pops.{poppedBy, cellAt, first-pop, two-pops, fou
 -- ---- encode+
 module _ (st : State) (next : ℕ) (h : st .stack .height ≤ 64) (l : 4 ≤ st .stack .height) (p q t u : Popped)
     (e : p ≡ popOf st) (f : q ≡ popOf (p .state)) (g : t ≡ popOf (q .state)) (i : u ≡ popOf (t .state)) where
-  pub apart-told : (x : ℕ) (r : Stepped) → x ≡ (u .cell + t .cell) % 2 ^ 32 → (x ≡ q .cell → ⊥) → r ≡ stepped (Refused 25) st → Quiet 0x1400_0042 st next r
+  pub apart-told : (x : ℕ) (r : Stepped) → x ≡ (u .cell + t .cell) % 2 ^ 32 → (x ≡ q .cell → ⊥) → r ≡ stepped (Refused 25) st → Quiet join st next r
   apart-told x r a n w o k rom work store =
       let c = four-pops st p q t u l e f g i in
       rw w (sym (stopped (scene rom work store st) (tokenOf k 0x1400_0042 o next) 25 refl
       (join-apart (scene rom work store st) k o next h l (ne-eqb _ _ (λ z. n (a ∙ rw (c .2, c .3, c .1) z))))))
 
   pub joined-told : (x y : ℕ) (r : Stepped) → x ≡ (u .cell + t .cell) % 2 ^ 32 → x ≡ q .cell → y ≡ (t .cell + p .cell) % 2 ^ 32
-      → r ≡ stepped Going (pairOn (u .state) next (u .cell) y) → Quiet 0x1400_0042 st next r
+      → r ≡ stepped Going (pairOn (u .state) next (u .cell) y) → Quiet join st next r
   unfolding actOf effects
   joined-told x y r a b d w o k rom work store =
       let c = four-pops st p q t u l e f g i in
@@ -62,7 +62,7 @@ encoded-told st k next count s r then store e w =
 module _ (st : State) (next : ℕ) (l : 1 ≤ st .stack .height) (h : st .stack .height + 1 ≤ 64) (m : st .«work_place» + 4 ≤ 16384)
     (p : Popped) (e : p ≡ popOf st) where
   pub int-told : (work then : List ℕ) (r : Stepped) → then ≡ writtenOf work (st .«work_place») (bytesOf (p .cell))
-      → r ≡ stepped Going (encodedOn (p .state) next 4) → Writes 0x1200_0012 work then st next r
+      → r ≡ stepped Going (encodedOn (p .state) next 4) → Writes encodeInt work then st next r
   unfolding actOf effects
   int-told work then r a w n o rom store =
       let c = first-pop st p l e in
@@ -104,14 +104,14 @@ module _ (rom work then : List ℕ) (size address count at : ℕ) (h : size ≤ 
 module _ (st : State) (next : ℕ) (h : st .stack .height ≤ 64) (l : 2 ≤ st .stack .height) (p q : Popped) (e : p ≡ popOf st) (f : q ≡ popOf (p .state))
     (rom work : List ℕ) where
   pub string-bad-told : (r : Stepped) → badRange rom work (st .length) (q .cell) (p .cell) ≡ true → r ≡ stepped (Refused 22) st
-      → WritesFrom 0x1300_0022 rom work work st next r
+      → WritesFrom encodeString rom work work st next r
   string-bad-told r b w n o store =
       let c = two-pops st p q l e f in
       rw w (sym (stopped (scene rom work store st) (tokenOf n 0x1300_0022 o next) 22 refl
       (string-bad (scene rom work store st) n o next h l (rw (← c .0, ← c .1) b))))
 
   module _ (b : badRange rom work (st .length) (q .cell) (p .cell) ≡ false) where
-    pub string-full-told : (r : Stepped) → 16384 < st .«work_place» + (p .cell + 1) → r ≡ stepped (Refused 24) st → WritesFrom 0x1300_0022 rom work work st next r
+    pub string-full-told : (r : Stepped) → 16384 < st .«work_place» + (p .cell + 1) → r ≡ stepped (Refused 24) st → WritesFrom encodeString rom work work st next r
     string-full-told r m w n o store =
         let c = two-pops st p q l e f in
         rw w (sym (stopped (scene rom work store st) (tokenOf n 0x1300_0022 o next) 24 refl
@@ -120,7 +120,7 @@ module _ (st : State) (next : ℕ) (h : st .stack .height ≤ 64) (l : 2 ≤ st 
     module _ (m : st .«work_place» + (p .cell + 1) ≤ 16384) where
       pub string-told : (then last : List ℕ) (r : Stepped) → then ≡ writtenOf work (st .«work_place») (resolveOf rom work (st .length) (q .cell) (p .cell))
           → last ≡ set then (st .«work_place» + p .cell) 0 → r ≡ stepped Going (encodedOn (q .state) next (p .cell + 1))
-          → WritesFrom 0x1300_0022 rom work last st next r
+          → WritesFrom encodeString rom work last st next r
       unfolding actOf effects
       string-told then last r a d w n o store =
           let c = two-pops st p q l e f in

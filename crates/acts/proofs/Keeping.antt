@@ -1,12 +1,14 @@
 -- Properties written, nodes opened and closed: what a call on the tree answers is what the step says. Assumes nothing.
-use Prim.Native.Nat.{ℕ, _≤_}
+use Prim.Native.Nat.{ℕ, _-_, _≤_}
 use mathlib.Core.Path.{_≡_, refl, sym, ap, _∙_}
 use mathlib.Core.Bool.{Bool, true, false}
 use mathlib.Core.List.{List, [], _∷_}
+use native.Mathlib.Omega.{arith}
 use borrow.Author.Tests.{eq-eqb, ne-eqb, eqb-true}
 use lib.Dec.{eqb}
 use lib.ListN.{length}
 use Rattle.cells.specs.Choice.{pick}
+use Rattle.tokens.specs.Family.{finishDevice, newDevice}
 use Rattle.tokens.specs.Decode.{tokenOf}
 use Rattle.tokens.specs.declared.decoding.Token.{Token}
 use Rattle.memory.specs.Window.{badRange, resolveOf}
@@ -16,28 +18,88 @@ use Rattle.tree.specs.Node.{noRoom, outermost, childOf, finishedOf, newDeviceOf
 use Rattle.tree.specs.Node.{doneOf as treeDone}
 use Rattle.tree.specs.declared.tree.Tree.{Tree}
 use Rattle.tree.specs.declared.tree.Written.{Written}
-use Rattle.state.specs.State.{moved, withTree}
+use Rattle.tree.specs.declared.tree.Outcome.{Outcome}
+use Rattle.tree.specs.declared.tree.Outcome.the-variants.{Done, Refused as NotDone}
+use Rattle.state.specs.State.{moved, movedTo, withTree}
 use Rattle.state.specs.Scene.{Scene, scene, turn, told}
 use Rattle.state.specs.Refusals.{refusalOf, titleOf}
 use Rattle.state.specs.Titles.{title-good}
 use Rattle.state.specs.Effects.{gave, effects, actOf}
-use Rattle.state.specs.Moves.{stepped, popOf}
+use Rattle.state.specs.Moves.{Popped, stepped, popOf, restacked}
+use Rattle.state.specs.Apart.{Arrays, joined, backOn, handed}
 use Rattle.state.specs.Step.{doneOf}
-use Rattle.acts.specs.Slow.{Quiet, KeepsFrom, KeepsBy, keptOn}
+use Rattle.acts.specs.Acts.{Quiet, KeepsFrom, KeepsBy, outcomeOn, keptOn, filedCore, filedOf}
 use Rattle.state.specs.declared.state.State.{State}
 use Rattle.state.specs.declared.answer.Answer.the-variants.{Going, Refused}
-use Rattle.state.specs.declared.answer.Popped.{Popped}
 use Rattle.state.specs.declared.answer.Stepped.{Stepped}
+use Rattle.state.specs.declared.apart.Core.{Core}
+use Rattle.tree.specs.declared.in_place.Tail.{Tail}
+use Rattle.acts.specs.declared.acted.Acted.{Acted}
 use Rattle.acts.proofs.Cold.{open-full, open-good, close-outermost, close-good, property-bad-name, property-bad-value, property-put, title-bad, title-put}
 use Rattle.state.specs.Done.{carried, stopped}
 use Rattle.acts.proofs.Pops.{poppedBy, cellAt, two-pops, four-pops, popped-on}
+
+-- ---- what a call in place on the tree leaves: refused, the tree as it was
+never-done : (why : ℕ) → Done ≡ NotDone why → ⊥
+never-done why e = let z : _≡_ {A = ℕ} 0 1 = cc in omega arith
+
+same-tree : (b : Bool) (n : ℕ) (t u : Tree) (why : ℕ) → pick b (refusedOf n t) (treeDone u) .outcome ≡ NotDone why → pick b (refusedOf n t) (treeDone u) .tree ≡ t
+same-tree true n t u why e = refl
+same-tree false n t u why e = absurd (never-done why e)
+
+module _ (w : Written) (why : ℕ) (f : w .outcome ≡ NotDone why) where
+  pub open-same : (t : Tree) → w ≡ newDeviceOf t → w .tree ≡ t
+  open-same t e = ap (λ (x : Written). x .tree) e ∙ same-tree (noRoom t) 20 t (childOf t) why (ap (λ (x : Written). x .outcome) (sym e) ∙ f)
+
+  pub close-same : (t : Tree) → w ≡ finishDeviceOf t → w .tree ≡ t
+  close-same t e = ap (λ (x : Written). x .tree) e ∙ same-tree (outermost t) 20 t (finishedOf t) why (ap (λ (x : Written). x .outcome) (sym e) ∙ f)
+
+  pub put-same : (t : Tree) (store name value : List ℕ) → w ≡ putOf t store name value → w .tree ≡ t
+  unfolding putOf
+  put-same t store name value e =
+      by (eqb (putRefusal t store name value) 0) (ap (λ (x : Written). x .outcome) (sym e) ∙ f) (ap (λ (x : Written). x .tree) e)
+    where
+      by : (b : Bool) → pick b (treeDone (treePut t store name value)) (refusedOf (putRefusal t store name value) t) .outcome ≡ NotDone why
+          → w .tree ≡ pick b (treeDone (treePut t store name value)) (refusedOf (putRefusal t store name value) t) .tree → w .tree ≡ t
+      by true a b = absurd (never-done why a)
+      by false a b = b
+
+-- and it is what is kept of the whole state
+module _ (st taken : State) (next : ℕ) (w : Written) where
+  pub kept-done : (x : Stepped) → w .outcome ≡ Done → x ≡ stepped Going (withTree (movedTo taken next) (w .tree)) → x ≡ keptOn st taken next w
+  kept-done x e f = f ∙ ap (λ (o : Outcome). outcomeOn st (withTree (movedTo taken next) (w .tree)) o) (sym e)
+
+  pub kept-refused : (x : Stepped) (why : ℕ) → w .outcome ≡ NotDone why → w .tree ≡ st .tree → x ≡ stepped (Refused why) (withTree st (w .tree)) → x ≡ keptOn st taken next w
+  kept-refused x why e k f =
+      f ∙ ap (λ (t : Tree). stepped (Refused why) (withTree st t)) k ∙ ap (λ (o : Outcome). outcomeOn st (withTree (movedTo taken next) (w .tree)) o) (sym e)
+
+-- the same by the numbers that are handed back
+pub filed-back : (a b : Arrays) (k : Core) (taken next records : ℕ) (tail : Tail) (w : Written) (o : Outcome) (r : Acted) → w .outcome ≡ o
+    → r ≡ filedOf k taken next o records tail
+    → withTree (joined a k) (w .tree) ≡ joined b (filedCore k (k .place) (k .height) records)
+    → ((why : ℕ) → w .outcome ≡ NotDone why → w .tree ≡ joined a k .tree)
+    → backOn b (handed (r .told) (r .core)) ≡ keptOn (joined a k) (poppedBy (joined a k) taken) next w
+filed-back a b k taken next records tail w Done r e f h i =
+    kept-done (joined a k) (poppedBy (joined a k) taken) next w (backOn b (handed (r .told) (r .core))) e
+    (ap (λ (x : Acted). backOn b (handed (x .told) (x .core))) f
+    ∙ ap (λ (x : State). stepped Going (movedTo (restacked x (x .stack .cells) (k .height - taken)) next)) (sym h))
+filed-back a b k taken next records tail w (NotDone why) r e f h i =
+    kept-refused (joined a k) (poppedBy (joined a k) taken) next w (backOn b (handed (r .told) (r .core))) why e (i why e)
+    (ap (λ (x : Acted). backOn b (handed (x .told) (x .core))) f ∙ ap (λ (x : State). stepped (Refused why) x) (sym h))
+
+pub filed-numbers : (k : Core) (taken next records : ℕ) (tail : Tail) (o : Outcome) (r : Acted) → r ≡ filedOf k taken next o records tail
+    → (r .core .records ≡ records) × (r .tail ≡ tail) × (r .core .held ≡ k .held)
+filed-numbers k taken next records tail Done r e =
+    (ap (λ (x : Acted). x .core .records) e, ap (λ (x : Acted). x .tail) e, ap (λ (x : Acted). x .core .held) e)
+filed-numbers k taken next records tail (NotDone why) r e =
+    (ap (λ (x : Acted). x .core .records) e, ap (λ (x : Acted). x .tail) e, ap (λ (x : Acted). x .core .held) e)
 
 -- ---- nodes
 module _ (st : State) (next : ℕ) (h : st .stack .height ≤ 64) (w : Written) (r : Stepped) (k : r ≡ keptOn st st next w) where
   given : (v : Written) (work store : List ℕ) → w ≡ v → told r work store ≡ told (keptOn st st next v) work store
   given v work store e = ap (λ (x : Stepped). told x work store) k ∙ ap (λ (x : Written). told (keptOn st st next x) work store) e
 
-  pub open-told : w ≡ newDeviceOf (st .tree) → Quiet 0x1710_0000 st next r
+  pub open-told : w ≡ newDeviceOf (st .tree) → Quiet newDevice st next r
   unfolding actOf effects
   open-told e o n rom work store = by (noRoom (st .tree)) refl
     where
@@ -49,7 +111,7 @@ module _ (st : State) (next : ℕ) (h : st .stack .height ≤ 64) (w : Written) 
           given (treeDone (childOf (st .tree))) work store (e ∙ rw f)
           ∙ sym (carried (scene rom work store st) (tokenOf n 0x1710_0000 o next) (open-good (scene rom work store st) n o next h f))
 
-  pub close-told : w ≡ finishDeviceOf (st .tree) → Quiet 0x1810_0000 st next r
+  pub close-told : w ≡ finishDeviceOf (st .tree) → Quiet finishDevice st next r
   unfolding actOf effects
   close-told e o n rom work store = by (outermost (st .tree)) refl
     where
@@ -125,7 +187,7 @@ module _ (rom work store : List ℕ) (st : State) (next : ℕ) (h : st .stack .h
         → length store ≡ 16384 → wholeTree (st .tree) ≡ true
         → name ≡ resolveOf rom work (st .length) (q .cell) (p .cell) → value ≡ resolveOf rom work (st .length) (u .cell) (t .cell)
         → v ≡ putOf (st .tree) store name (valueOf value false) → then ≡ storeOf (st .tree) store name (valueOf value false)
-        → r ≡ keptOn st (u .state) next v → KeepsFrom rom work store then st next r
+        → r ≡ keptOn st (poppedBy st 4) next v → KeepsFrom rom work store then st next r
     unfolding actOf effects
     property-told name value then v r d m w a x y z k n o =
         let c = four-pops st p q t u l e f g i in
@@ -135,10 +197,10 @@ module _ (rom work store : List ℕ) (st : State) (next : ℕ) (h : st .stack .h
         let j : name ≡ one = rw (← c .0, ← c .1) a in
         let v' : value ≡ resolveOf rom work (st .length) (cellAt st 3) (cellAt st 2) = rw (← c .2, ← c .3) x in
         let i : valueOf value false ≡ two = ap (λ (b : List ℕ). valueOf b false) v' in
-        put-by rom work store st (tokenOf n 0x1500_0040 o next) next 4 one two (u .state) v then r
+        put-by rom work store st (tokenOf n 0x1500_0040 o next) next 4 one two (poppedBy st 4) v then r
         (property-put s n o next h l (rw (← c .0, ← c .1) b) (badName one) (overfull (wouldHold (st .tree) store one two)) (rw (← c .2, ← c .3) d) refl refl
         ∙ sym (refusal-is (st .tree) store one two m w))
-        refl (c .4)
+        refl refl
         (y ∙ ap (λ (b : List ℕ). putOf (st .tree) store b (valueOf value false)) j ∙ ap (λ (b : List ℕ). putOf (st .tree) store one b) i)
         (z ∙ ap (λ (b : List ℕ). storeOf (st .tree) store b (valueOf value false)) j ∙ ap (λ (b : List ℕ). storeOf (st .tree) store one b) i) k
 
@@ -155,7 +217,7 @@ module _ (rom work store : List ℕ) (st : State) (n next : ℕ) (h : st .stack 
   pub title-told : (value then : List ℕ) (v : Written) (r : Stepped) → badRange rom work (st .length) (q .cell) (p .cell) ≡ false
       → length store ≡ 16384 → wholeTree (st .tree) ≡ true → value ≡ resolveOf rom work (st .length) (q .cell) (p .cell)
       → v ≡ putOf (st .tree) store (titleOf n) (valueOf value true) → then ≡ storeOf (st .tree) store (titleOf n) (valueOf value true)
-      → r ≡ keptOn st (q .state) next v → KeepsBy n rom work store then st next r
+      → r ≡ keptOn st (poppedBy st 2) next v → KeepsBy n rom work store then st next r
   unfolding actOf effects
   title-told value then v r b m w x y z k o =
       let c = two-pops st p q l e f in
@@ -163,10 +225,10 @@ module _ (rom work store : List ℕ) (st : State) (n next : ℕ) (h : st .stack 
       let one = valueOf (resolveOf rom work (st .length) (cellAt st 1) (cellAt st 0)) true in
       let v' : value ≡ resolveOf rom work (st .length) (cellAt st 1) (cellAt st 0) = rw (← c .0, ← c .1) x in
       let i : valueOf value true ≡ one = ap (λ (b : List ℕ). valueOf b true) v' in
-      put-by rom work store st (tokenOf n 0x1600_0020 o next) next 2 (titleOf n) one (q .state) v then r
+      put-by rom work store st (tokenOf n 0x1600_0020 o next) next 2 (titleOf n) one (poppedBy st 2) v then r
       (title-put s n o next h l (overfull (wouldHold (st .tree) store (titleOf n) one)) (rw (← c .0, ← c .1) b) refl
       ∙ sym (refusal-is (st .tree) store (titleOf n) one m w
       ∙ ap (λ (b : Bool). pick b 26 (pick (overfull (wouldHold (st .tree) store (titleOf n) one)) 27 0)) (title-good n)))
-      refl (c .2)
+      refl refl
       (y ∙ ap (λ (b : List ℕ). putOf (st .tree) store (titleOf n) b) i)
       (z ∙ ap (λ (b : List ℕ). storeOf (st .tree) store (titleOf n) b) i) k

@@ -1,7 +1,9 @@
 pub mod Cold
+pub mod Backs
 pub mod Pops
 pub mod Memories
 pub mod Encoding
 pub mod Defining
+pub mod Slotting
 pub mod Keeping
 pub mod Acting

@@ -19,7 +19,7 @@ use Rattle.state.specs.State.{moved}
 use Rattle.state.specs.Scene.{Scene, scene, turn, refuse, goes, cellOf}
 use Rattle.state.specs.Effects.{gave, effects, actOf}
 use Rattle.state.specs.Step.{doneOf}
-use Rattle.acts.specs.Slow.{ofCell, lookOf, storeWhy, storeThen}
+use Rattle.acts.specs.Acts.{ofCell, lookOf, storeWhy, storeThen}
 use Rattle.state.specs.declared.state.State.{State}
 use Rattle.state.specs.declared.answer.Answer.the-variants.{Going, Refused}
 use Rattle.acts.proofs.Cold.{fetch-cell, fetch-byte, store-cell, store-byte}

@@ -1,150 +1,137 @@
-// Program numbers: entered, given another value, and defined.
+// Program numbers defined. Each function is lent the four arrays of the numbers and the two tables by number, which have to say the same.
 ghost use mathlib.Core.Path.{_≡_};
 ghost use mathlib.Core.Bool.{true};
-ghost use Prim.Native.Nat.{_≤_, _<_, _+_};
+ghost use Prim.Native.Nat.{_≤_, _+_};
+ghost use Rattle.tokens.specs.Family.{define};
 ghost use Rattle.tokens.specs.Decode.{isKind};
+ghost use Rattle.tokens.specs.Table.{isProgram};
 ghost use Rattle.tokens.specs.declared.decoding.Operand.the-variants.{Definition};
-ghost use Rattle.state.specs.Numbers.{definedOf, assignedOf};
-ghost use Rattle.state.specs.State.{withNumbers};
 ghost use Rattle.state.specs.Refusals.{rounded as Refusals·rounded};
-ghost use Rattle.acts.specs.Slow.{QuietOf, QuietBy, Defines, Colons, Variables, Fresh, TakesValue, IsDefinition};
-use crate::kinds::kinds_of;
+ghost use Rattle.acts.specs.Acts.{QuietOf, Defines, Colons, Variables, Fresh, TakesValue};
+ghost use Rattle.acts.specs.Acts.{numbersOn, Tables, Definable, Numbered, Adds, AddsFrom};
+use crate::tables::note;
+use crate::tables::slot_of;
 use memory::WORK_BASE;
 use memory::write_cell;
-use rom::sizes::DATA_MOST;
 use rom::sizes::NUMBERS_MOST;
 use rom::sizes::WORK_SIZE;
-use state::State;
-use state::Stepped;
-use state::call;
-use state::entry;
-use state::going;
-use state::kind_byte;
+use state::Core;
+use state::Handed;
+use state::go;
 use state::pop;
-use state::push;
-use state::refused;
-use state::seek;
-use state::wide_at;
+use state::stop;
 use tokens::Body;
-use tokens::Operand;
-use tokens::is_program;
-use tokens::kind_in;
-use tokens::new_number;
-use tokens::number_in;
 use tokens::read_body;
 
-// Another value for the number that stands at a place.
-fn assigned(st: State, at: usize, value: u32) -> State
-    requires { ⌜ at < 256 ⌝ }
-    ensures { λ r. ⌜ r ≡ withNumbers st (assignedOf (st .numbers) at value) ⌝ }
-{
-    let mut numbers = st.numbers;
-    numbers.values[at] = value;
-    let mut n = st;
-    n.numbers = numbers;
-    n
-}
-
-// b(to)
-pub fn assign(st: State, operand: Operand, next: u32) -> Stepped
-    requires { ⌜ (st .stack .height ≤ 64) × (st .numbers .count ≤ 256) ⌝ }
-    ensures { λ r. ⌜ QuietOf 0x1004_0010 operand st next r ⌝ }
-{
-    let number = number_in(operand);
-    let numbers = st.numbers;
-    let at = seek(&numbers.names, numbers.count, number);
-    if !is_program(number) {
-        return refused(st, 12);
-    }
-    if numbers.count <= at {
-        return refused(st, 12);
-    }
-    if kind_byte(&numbers.kinds, at) != 0xB8 {
-        return refused(st, 12);
-    }
-    let s = st.stack;
-    if s.height < 1 {
-        return refused(st, 14);
-    }
-    let p = pop(st);
-    let mut n = p.state;
-    n.place = next;
-    going(assigned(n, at, p.cell))
-}
-
-// A program number: a body is entered, any other gives its value.
-pub fn enter(st: State, number: u32, next: u32) -> Stepped
-    requires { ⌜ (st .stack .height ≤ 64) × (st .numbers .count ≤ 256) ⌝ }
-    ensures { λ r. ⌜ QuietBy number 0x1100_0000 st next r ⌝ }
-{
-    let numbers = st.numbers;
-    let at = seek(&numbers.names, numbers.count, number);
-    if !is_program(number) {
-        return refused(st, 12);
-    }
-    if numbers.count <= at {
-        return refused(st, 12);
-    }
-    let value = entry(&numbers.values, at);
-    if kind_byte(&numbers.kinds, at) == 0xB7 {
-        return call(st, value, wide_at(&numbers.wides, at), next);
-    }
-    let s = st.stack;
-    if DATA_MOST < s.height + 1 {
-        return refused(st, 15);
-    }
-    let mut n = st;
-    n.place = next;
-    push(n, value)
-}
-
 // One number more, defined in the width in force.
-fn defined(st: State, number: u32, kind: u8, value: u32) -> State
-    requires { ⌜ st .numbers .count + 1 ≤ 256 ⌝ }
-    ensures { λ r. ⌜ r ≡ withNumbers st (definedOf (st .numbers) number kind value (st .wide)) ⌝ }
+fn defined(
+    names: &mut [u32; 256],
+    kinds: &mut [u8; 256],
+    values: &mut [u32; 256],
+    ways: &mut [bool; 256],
+    slots: &mut [u16; 2048],
+    known: &mut [u8; 2048],
+    core: Core,
+    number: u32,
+    kind: u8,
+    value: u32,
+) -> Core
+    requires { ⌜ Fresh (numbersOn (now names) (now kinds) (now values) (now ways) (core .held)) number
+        × Definable (now slots) (now known) (numbersOn (now names) (now kinds) (now values) (now ways) (core .held)) ⌝ }
+    ensures { λ r. ⌜ Numbered (numbersOn (now (names .entry)) (now (kinds .entry)) (now (values .entry)) (now (ways .entry)) (core .held)) core number kind value r
+        (numbersOn (now (names .exit)) (now (kinds .exit)) (now (values .exit)) (now (ways .exit)) (r .held))
+        × Tables (now (slots .exit)) (now (known .exit)) (now (names .exit)) (now (kinds .exit)) (r .held) ⌝ }
 {
-    let mut numbers = st.numbers;
-    let at = numbers.count;
-    numbers.names[at] = number;
-    numbers.kinds[at] = kind;
-    numbers.values[at] = value;
-    numbers.wides[at] = st.wide;
-    numbers.count = at + 1;
-    let mut n = st;
-    n.numbers = numbers;
-    n
+    let at = core.held;
+    names[at] = number;
+    kinds[at] = kind;
+    values[at] = value;
+    ways[at] = core.wide;
+    note(slots, known, number, kind, at);
+    let mut k = core;
+    k.held = at + 1;
+    k
 }
 
 // b(:), whose number is new: the body is read to its end.
-fn colon(rom: &[u8], st: State, number: u32, next: u32) -> Stepped
-    requires { ⌜ (st .stack .height ≤ 64) × Fresh st number × (next ≤ st .length) ⌝ }
-    ensures { λ r. ⌜ Colons number (now (rom .entry)) st next r ⌝ }
+fn colon(
+    rom: &[u8],
+    names: &mut [u32; 256],
+    kinds: &mut [u8; 256],
+    values: &mut [u32; 256],
+    ways: &mut [bool; 256],
+    slots: &mut [u16; 2048],
+    known: &mut [u8; 2048],
+    core: Core,
+    number: u32,
+    next: u32,
+) -> Handed
+    requires { ⌜ (core .height ≤ 64) × Fresh (numbersOn (now names) (now kinds) (now values) (now ways) (core .held)) number
+        × Definable (now slots) (now known) (numbersOn (now names) (now kinds) (now values) (now ways) (core .held)) × (next ≤ core .length) ⌝ }
+    ensures { λ r. ⌜ Adds (numbersOn (now (names .entry)) (now (kinds .entry)) (now (values .entry)) (now (ways .entry)) (core .held)) core r
+        (numbersOn (now (names .exit)) (now (kinds .exit)) (now (values .exit)) (now (ways .exit)) (r .core .held)) (now (slots .exit)) (now (known .exit))
+        (λ s t. Colons number (now (rom .entry)) s next t) ⌝ }
 {
-    let kinds = kinds_of(st.numbers);
-    match read_body(rom, st.length, st.wide, &kinds, next) {
+    match read_body(rom, core.length, core.wide, &*known, next) {
         Body::Ends(at) => {
             let behind = at + 1;
-            let mut n = defined(st, number, 0xB7, next);
-            n.place = behind;
-            going(n)
+            let mut k = defined(
+                names,
+                kinds,
+                values,
+                ways,
+                slots,
+                known,
+                core,
+                number,
+                0xB7,
+                next,
+            );
+            k.place = behind;
+            go(k)
         }
-        Body::Stops { at: _, why } => refused(st, why),
+        Body::Stops { at: _, why } => stop(core, why),
     }
 }
 
 // b(value), b(constant)
-fn constant(st: State, number: u32, kind: u8, next: u32) -> Stepped
-    requires { ⌜ (st .stack .height ≤ 64) × Fresh st number × TakesValue kind ⌝ }
-    ensures { λ r. ⌜ QuietOf 0x0E15_0000 (Definition number kind) st next r ⌝ }
+fn constant(
+    cells: &[u32; 64],
+    names: &mut [u32; 256],
+    kinds: &mut [u8; 256],
+    values: &mut [u32; 256],
+    ways: &mut [bool; 256],
+    slots: &mut [u16; 2048],
+    known: &mut [u8; 2048],
+    core: Core,
+    number: u32,
+    kind: u8,
+    next: u32,
+) -> Handed
+    requires { ⌜ (core .height ≤ 64) × Fresh (numbersOn (now names) (now kinds) (now values) (now ways) (core .held)) number
+        × Definable (now slots) (now known) (numbersOn (now names) (now kinds) (now values) (now ways) (core .held)) × TakesValue kind ⌝ }
+    ensures { λ r. ⌜ AddsFrom (now (cells .entry)) (numbersOn (now (names .entry)) (now (kinds .entry)) (now (values .entry)) (now (ways .entry)) (core .held)) core r
+        (numbersOn (now (names .exit)) (now (kinds .exit)) (now (values .exit)) (now (ways .exit)) (r .core .held)) (now (slots .exit)) (now (known .exit))
+        (λ s t. QuietOf define (Definition number kind) s next t) ⌝ }
 {
-    let s = st.stack;
-    if s.height < 1 {
-        return refused(st, 14);
+    if core.height < 1 {
+        return stop(core, 14);
     }
-    let p = pop(st);
-    let mut n = p.state;
-    n.place = next;
-    going(defined(n, number, kind, p.cell))
+    let p = pop(cells, core);
+    let mut k = p.core;
+    k.place = next;
+    go(defined(
+        names,
+        kinds,
+        values,
+        ways,
+        slots,
+        known,
+        k,
+        number,
+        kind,
+        p.cell,
+    ))
 }
 
 // The work place rounded up to a multiple of 4.
@@ -156,46 +143,165 @@ fn rounded(at: u32) -> u32
 }
 
 // b(variable): four zero bytes of work memory.
-fn variable(work: &mut [u8], st: State, number: u32, next: u32) -> Stepped
-    requires { ⌜ (st .stack .height ≤ 64) × Fresh st number × (st .«work_place» ≤ 16384) ⌝ }
-    ensures { λ r. ⌜ Variables number (now (work .entry)) (now (work .exit)) st next r ⌝ }
+fn variable(
+    work: &mut [u8],
+    names: &mut [u32; 256],
+    kinds: &mut [u8; 256],
+    values: &mut [u32; 256],
+    ways: &mut [bool; 256],
+    slots: &mut [u16; 2048],
+    known: &mut [u8; 2048],
+    core: Core,
+    number: u32,
+    next: u32,
+) -> Handed
+    requires { ⌜ (core .height ≤ 64) × Fresh (numbersOn (now names) (now kinds) (now values) (now ways) (core .held)) number
+        × Definable (now slots) (now known) (numbersOn (now names) (now kinds) (now values) (now ways) (core .held)) × (core .«work_place» ≤ 16384) ⌝ }
+    ensures { λ r. ⌜ Adds (numbersOn (now (names .entry)) (now (kinds .entry)) (now (values .entry)) (now (ways .entry)) (core .held)) core r
+        (numbersOn (now (names .exit)) (now (kinds .exit)) (now (values .exit)) (now (ways .exit)) (r .core .held)) (now (slots .exit)) (now (known .exit))
+        (λ s t. Variables number (now (work .entry)) (now (work .exit)) s next t) ⌝ }
 {
-    let at = rounded(st.work_place);
+    let at = rounded(core.work_place);
     if WORK_SIZE < (at as usize) + 4 {
-        return refused(st, 24);
+        return stop(core, 24);
     }
     write_cell(work, at, 0);
-    let mut n = defined(st, number, 0xB9, WORK_BASE + at);
-    n.place = next;
-    n.work_place = at + 4;
-    going(n)
+    let mut k = defined(
+        names,
+        kinds,
+        values,
+        ways,
+        slots,
+        known,
+        core,
+        number,
+        0xB9,
+        WORK_BASE + at,
+    );
+    k.place = next;
+    k.work_place = at + 4;
+    go(k)
 }
 
 // A definition, by its kind.
-fn define_new(rom: &[u8], work: &mut [u8], st: State, number: u32, kind: u32, next: u32) -> Stepped
-    requires { ⌜ (st .stack .height ≤ 64) × Fresh st number × (st .«work_place» ≤ 16384) × (next ≤ st .length) × (isKind kind ≡ true) ⌝ }
-    ensures { λ r. ⌜ Defines (Definition number kind) (now (rom .entry)) (now (work .entry)) (now (work .exit)) st next r ⌝ }
+fn define_new(
+    rom: &[u8],
+    work: &mut [u8],
+    cells: &[u32; 64],
+    names: &mut [u32; 256],
+    kinds: &mut [u8; 256],
+    values: &mut [u32; 256],
+    ways: &mut [bool; 256],
+    slots: &mut [u16; 2048],
+    known: &mut [u8; 2048],
+    core: Core,
+    number: u32,
+    kind: u32,
+    next: u32,
+) -> Handed
+    requires { ⌜ (core .height ≤ 64) × Fresh (numbersOn (now names) (now kinds) (now values) (now ways) (core .held)) number
+        × Definable (now slots) (now known) (numbersOn (now names) (now kinds) (now values) (now ways) (core .held))
+        × (core .«work_place» ≤ 16384) × (next ≤ core .length) × (isKind kind ≡ true) ⌝ }
+    ensures { λ r. ⌜ AddsFrom (now (cells .entry)) (numbersOn (now (names .entry)) (now (kinds .entry)) (now (values .entry)) (now (ways .entry)) (core .held)) core r
+        (numbersOn (now (names .exit)) (now (kinds .exit)) (now (values .exit)) (now (ways .exit)) (r .core .held)) (now (slots .exit)) (now (known .exit))
+        (λ s t. Defines (Definition number kind) (now (rom .entry)) (now (work .entry)) (now (work .exit)) s next t) ⌝ }
 {
     match kind {
-        0xB7 => colon(rom, st, number, next),
-        0xB8 => constant(st, number, 0xB8, next),
-        0xB9 => variable(work, st, number, next),
-        _ => constant(st, number, 0xBA, next),
+        0xB7 => colon(
+            rom,
+            names,
+            kinds,
+            values,
+            ways,
+            slots,
+            known,
+            core,
+            number,
+            next,
+        ),
+        0xB8 => constant(
+            cells,
+            names,
+            kinds,
+            values,
+            ways,
+            slots,
+            known,
+            core,
+            number,
+            0xB8,
+            next,
+        ),
+        0xB9 => variable(
+            work,
+            names,
+            kinds,
+            values,
+            ways,
+            slots,
+            known,
+            core,
+            number,
+            next,
+        ),
+        _ => constant(
+            cells,
+            names,
+            kinds,
+            values,
+            ways,
+            slots,
+            known,
+            core,
+            number,
+            0xBA,
+            next,
+        ),
     }
 }
 
 // new-token, external-token, named-token
-pub fn define(rom: &[u8], work: &mut [u8], st: State, operand: Operand, next: u32) -> Stepped
-    requires { ⌜ (st .stack .height ≤ 64) × (st .numbers .count ≤ 256) × (st .«work_place» ≤ 16384) × (next ≤ st .length) × IsDefinition operand ⌝ }
-    ensures { λ r. ⌜ Defines operand (now (rom .entry)) (now (work .entry)) (now (work .exit)) st next r ⌝ }
+pub fn define_number(
+    rom: &[u8],
+    work: &mut [u8],
+    cells: &[u32; 64],
+    names: &mut [u32; 256],
+    kinds: &mut [u8; 256],
+    values: &mut [u32; 256],
+    ways: &mut [bool; 256],
+    slots: &mut [u16; 2048],
+    known: &mut [u8; 2048],
+    core: Core,
+    number: u32,
+    kind: u32,
+    next: u32,
+) -> Handed
+    requires { ⌜ (core .height ≤ 64) × (core .held ≤ 256)
+        × Definable (now slots) (now known) (numbersOn (now names) (now kinds) (now values) (now ways) (core .held))
+        × (core .«work_place» ≤ 16384) × (next ≤ core .length) × (isKind kind ≡ true) × (isProgram number ≡ true) ⌝ }
+    ensures { λ r. ⌜ AddsFrom (now (cells .entry)) (numbersOn (now (names .entry)) (now (kinds .entry)) (now (values .entry)) (now (ways .entry)) (core .held)) core r
+        (numbersOn (now (names .exit)) (now (kinds .exit)) (now (values .exit)) (now (ways .exit)) (r .core .held)) (now (slots .exit)) (now (known .exit))
+        (λ s t. Defines (Definition number kind) (now (rom .entry)) (now (work .entry)) (now (work .exit)) s next t) ⌝ }
 {
-    let number = new_number(operand);
-    let numbers = st.numbers;
-    if seek(&numbers.names, numbers.count, number) < numbers.count {
-        return refused(st, 13);
+    if slot_of(&*slots, number) != 0 {
+        return stop(core, 13);
     }
-    if NUMBERS_MOST <= numbers.count {
-        return refused(st, 13);
+    if NUMBERS_MOST <= core.held {
+        return stop(core, 13);
     }
-    define_new(rom, work, st, number, kind_in(operand), next)
+    define_new(
+        rom,
+        work,
+        cells,
+        names,
+        kinds,
+        values,
+        ways,
+        slots,
+        known,
+        core,
+        number,
+        kind,
+        next,
+    )
 }

@@ -2,11 +2,14 @@
 ghost use mathlib.Core.Path.{_≡_};
 ghost use Prim.Native.Nat.{_≤_, _+_};
 ghost use lib.ListN.{length};
+ghost use Rattle.tokens.specs.Family.{encodeInt, encodeString, join};
 ghost use Rattle.memory.specs.Window.{badRange, resolveOf};
 ghost use Rattle.memory.specs.Writing.{writtenOf};
+ghost use Rattle.state.specs.Apart.{onStack, Moves};
 ghost use Rattle.state.specs.Moves.{stepped};
-ghost use Rattle.acts.specs.Slow.{Quiet, Writes, WritesFrom, pairOn, encodedOn};
+ghost use Rattle.acts.specs.Acts.{Quiet, Writes, WritesFrom, encodedOn};
 ghost use Rattle.state.specs.declared.answer.Answer.the-variants.{Going};
+use crate::flow::pair;
 use memory::WORK_BASE;
 use memory::Window;
 use memory::copy_in;
@@ -16,53 +19,40 @@ use memory::window_of;
 use memory::write_cell;
 use rom::sizes::DATA_MOST;
 use rom::sizes::WORK_SIZE;
-use state::State;
-use state::Stepped;
+use state::Core;
+use state::Handed;
 use state::pop;
-use state::push;
-use state::refused;
-
-// Two cells more, which have room, and the next token.
-pub fn pair(st: State, next: u32, first: u32, second: u32) -> Stepped
-    requires { ⌜ st .stack .height + 2 ≤ 64 ⌝ }
-    ensures { λ r. ⌜ r ≡ stepped Going (pairOn st next first second) ⌝ }
-{
-    let mut n = st;
-    n.place = next;
-    let one = push(n, first);
-    let between = one.state;
-    push(between, second)
-}
+use state::stop;
 
 // Bytes at the work place given by their address and length; the work place moves past them.
-fn encoded(st: State, next: u32, count: u32) -> Stepped
-    requires { ⌜ (st .stack .height + 2 ≤ 64) × (st .«work_place» + count ≤ 16384) ⌝ }
-    ensures { λ r. ⌜ r ≡ stepped Going (encodedOn st next count) ⌝ }
+fn encoded(cells: &mut [u32; 64], core: Core, next: u32, count: u32) -> Handed
+    requires { ⌜ (core .height + 2 ≤ 64) × (core .«work_place» + count ≤ 16384) ⌝ }
+    ensures { λ r. ⌜ Moves (onStack (now (cells .entry))) core r (onStack (now (cells .exit))) (λ s t. t ≡ stepped Going (encodedOn s next count)) ⌝ }
 {
-    let at = st.work_place;
-    let mut n = st;
-    n.work_place = at + count;
-    pair(n, next, WORK_BASE + at, count)
+    let at = core.work_place;
+    let mut k = core;
+    k.work_place = at + count;
+    pair(cells, k, next, WORK_BASE + at, count)
 }
 
 // encode+
-pub fn join(st: State, next: u32) -> Stepped
-    requires { ⌜ st .stack .height ≤ 64 ⌝ }
-    ensures { λ r. ⌜ Quiet 0x1400_0042 st next r ⌝ }
+pub fn join_arrays(cells: &mut [u32; 64], core: Core, next: u32) -> Handed
+    requires { ⌜ core .height ≤ 64 ⌝ }
+    ensures { λ r. ⌜ Moves (onStack (now (cells .entry))) core r (onStack (now (cells .exit))) (λ s t. Quiet join s next t) ⌝ }
 {
-    let s = st.stack;
-    if s.height < 4 {
-        return refused(st, 14);
+    if core.height < 4 {
+        return stop(core, 14);
     }
-    let p = pop(st);
-    let q = pop(p.state);
-    let t = pop(q.state);
-    let u = pop(t.state);
+    let p = pop(&*cells, core);
+    let q = pop(&*cells, p.core);
+    let t = pop(&*cells, q.core);
+    let u = pop(&*cells, t.core);
     if std::num::wrapping_add_u32(u.cell, t.cell) != q.cell {
-        return refused(st, 25);
+        return stop(core, 25);
     }
     pair(
-        u.state,
+        cells,
+        u.core,
         next,
         u.cell,
         std::num::wrapping_add_u32(t.cell, p.cell),
@@ -70,24 +60,24 @@ pub fn join(st: State, next: u32) -> Stepped
 }
 
 // encode-int
-pub fn encode_int(work: &mut [u8], st: State, next: u32) -> Stepped
-    requires { ⌜ (st .stack .height ≤ 64) × (st .«work_place» ≤ 16384) ⌝ }
-    ensures { λ r. ⌜ Writes 0x1200_0012 (now (work .entry)) (now (work .exit)) st next r ⌝ }
+pub fn encode_int(work: &mut [u8], cells: &mut [u32; 64], core: Core, next: u32) -> Handed
+    requires { ⌜ (core .height ≤ 64) × (core .«work_place» ≤ 16384) ⌝ }
+    ensures { λ r. ⌜ Moves (onStack (now (cells .entry))) core r (onStack (now (cells .exit)))
+        (λ s t. Writes encodeInt (now (work .entry)) (now (work .exit)) s next t) ⌝ }
 {
-    let s = st.stack;
-    if s.height < 1 {
-        return refused(st, 14);
+    if core.height < 1 {
+        return stop(core, 14);
     }
-    if DATA_MOST < s.height + 1 {
-        return refused(st, 15);
+    if DATA_MOST < core.height + 1 {
+        return stop(core, 15);
     }
-    let at = st.work_place;
+    let at = core.work_place;
     if WORK_SIZE < (at as usize) + 4 {
-        return refused(st, 24);
+        return stop(core, 24);
     }
-    let p = pop(st);
+    let p = pop(&*cells, core);
     write_cell(work, at, p.cell);
-    encoded(p.state, next, 4)
+    encoded(cells, p.core, next, 4)
 }
 
 // Whether a range lies in no window, of a program that the ROM holds.
@@ -125,25 +115,31 @@ fn lay_string(rom: &[u8], work: &mut [u8], size: u32, address: u32, count: u32, 
 }
 
 // encode-string: the bytes, and a null.
-pub fn encode_string(rom: &[u8], work: &mut [u8], st: State, next: u32) -> Stepped
-    requires { ⌜ (st .stack .height ≤ 64) × (st .«work_place» ≤ 16384) × (st .length ≤ length (now rom)) ⌝ }
-    ensures { λ r. ⌜ WritesFrom 0x1300_0022 (now (rom .entry)) (now (work .entry)) (now (work .exit)) st next r ⌝ }
+pub fn encode_string(
+    rom: &[u8],
+    work: &mut [u8],
+    cells: &mut [u32; 64],
+    core: Core,
+    next: u32,
+) -> Handed
+    requires { ⌜ (core .height ≤ 64) × (core .«work_place» ≤ 16384) × (core .length ≤ length (now rom)) ⌝ }
+    ensures { λ r. ⌜ Moves (onStack (now (cells .entry))) core r (onStack (now (cells .exit)))
+        (λ s t. WritesFrom encodeString (now (rom .entry)) (now (work .entry)) (now (work .exit)) s next t) ⌝ }
 {
-    let s = st.stack;
-    if s.height < 2 {
-        return refused(st, 14);
+    if core.height < 2 {
+        return stop(core, 14);
     }
-    let p = pop(st);
-    let q = pop(p.state);
+    let p = pop(&*cells, core);
+    let q = pop(&*cells, p.core);
     let count = p.cell;
-    if bad_range(rom, &*work, st.length, q.cell, count) {
-        return refused(st, 22);
+    if bad_range(rom, &*work, core.length, q.cell, count) {
+        return stop(core, 22);
     }
-    let at = st.work_place;
+    let at = core.work_place;
     if WORK_SIZE < (at as usize) + ((count as usize) + 1) {
-        return refused(st, 24);
+        return stop(core, 24);
     }
-    lay_string(rom, work, st.length, q.cell, count, at);
+    lay_string(rom, work, core.length, q.cell, count, at);
     put(work, (at as usize) + (count as usize), 0);
-    encoded(q.state, next, count + 1)
+    encoded(cells, q.core, next, count + 1)
 }

@@ -1,9 +1,16 @@
-// The tokens that are carried out by value: each takes the state and hands it back with an answer. For the loops of crate machine, which ask beforehand
-// what `slow` requires; it is no call to make from elsewhere.
-mod by_value;
+// The tokens that crate reckon leaves, in place on the lent arrays of a state that is taken apart. For the loop of crate machine, which keeps heights,
+// tables and records as `cold_token` requires; it is no call to make from elsewhere.
+mod acted;
 mod define;
+mod dispatch;
 mod encode;
-mod kinds;
-mod node;
+mod flow;
+mod memory_tokens;
+mod nodes;
+mod numbers;
+mod properties;
+mod tables;
 
-pub use by_value::slow;
+pub use acted::Acted;
+pub use dispatch::cold_token;
+pub use tables::fill_tables;

@@ -1,31 +1,35 @@
--- A step and a run, turn by turn, from what is carried out in place and by value. Assumes nothing.
+-- A step and a run, turn by turn, from what is carried out on the stacks and what each other token leaves. Assumes nothing.
 use Prim.Native.Nat.{ℕ, zero, suc, _+_, _-_, _<_, _≤_}
 use mathlib.Core.Path.{_≡_, refl, sym, _∙_, ap, subst}
+use mathlib.Core.Bool.{Bool, true, false}
 use mathlib.Core.List.{List}
 use native.Mathlib.Omega.{arith}
 use borrow.Author.Tests.{eq-eqb, ne-eqb}
 use native.Mathlib.Nat.{sub-zero}
-use lib.ListN.{length}
-use Rattle.state.specs.Scene.{Scene, Turn, scene, turn, refuse}
+use lib.Dec.{eqb}
+use Rattle.cells.specs.Choice.{pick}
+use Rattle.tree.specs.Whole.{wholeTree}
+use Rattle.tree.specs.declared.tree.Tree.{Tree}
+use Rattle.state.specs.Scene.{Scene, Turn, scene, turn, told, refuse}
 use Rattle.state.specs.Step.{readyOf, tokenOf}
-use Rattle.state.specs.Run.{Outcome, ended, then, after, runFrom}
+use Rattle.state.specs.Run.{Outcome, ended, then, after, unless, runFrom, toldRan}
 use Rattle.state.specs.Sized.{Sized}
 use Rattle.state.specs.Laws.{watchedOf, keeps-watched}
-use Rattle.state.specs.KeepsWhole.{Lent, ready-facts, whole-facts}
-use Rattle.state.specs.Hot.{Cold as IsCold}
-use Rattle.reckon.specs.declared.turned.Fared.{Fared}
-use Rattle.reckon.specs.declared.turned.Fared.the-variants.{On, Cold, Not}
-use Rattle.machine.specs.Carried.{Carried, Stopped, Drives, Drivable}
-use Rattle.machine.specs.declared.running.Driven.{Driven}
+use Rattle.state.specs.KeepsWhole.{Lent, ready-facts, whole-facts, whole-is}
+use Rattle.state.specs.KeepsParts.{base-below}
+use Rattle.state.specs.Apart.{Arrays, arraysOf, coreOf, joined}
+use Rattle.state.specs.declared.apart.Core.{Core}
 use Rattle.state.specs.declared.state.State.{State}
 use Rattle.state.specs.declared.answer.Answer.{Answer}
 use Rattle.state.specs.declared.answer.Answer.the-variants.{Going, Finished, Refused, Spent}
-use Rattle.tree.specs.declared.tree.Tree.{Tree}
-use Rattle.state.specs.KeepsParts.{base-below}
+use Rattle.state.specs.declared.answer.Ran.{Ran}
+use Rattle.acts.specs.Acts.{Fit, everyOn}
+use Rattle.reckon.specs.declared.turned.Fared.{Fared}
+use Rattle.machine.specs.Carried.{Carried, Stopped, Coastable, oneAnswer, oneOf}
 
--- ---- a ready state may be driven
-pub drivable : (s : Scene) → readyOf s ≡ Going → Drivable (s .rom) (s .state)
-drivable s e =
+-- ---- a ready state may coast
+pub coastable : (s : Scene) → readyOf s ≡ Going → Coastable (s .rom) (s .state .calls .bases) (coreOf (s .state))
+coastable s e =
     let f = ready-facts s e in
     let p = whole-facts (s .state) (f .1) .0 in
     (p .height, base-below (s .state .length) (s .state .calls) (s .state .back .height) (p .calls), p .returns, p .place .from, p .place .to, under (f .0), f .0 .most)
@@ -122,57 +126,30 @@ run-known (suc k) n s (Spent m) e h = rw (e, runFrom)
 pub stopped : (x y : Fared) (s : Scene) (n b : ℕ) → x ≡ y → Stopped x s n b → Stopped y s n b
 stopped x y s n b e p = subst (λ (z : Fared). Stopped z s n b) e p
 
--- ---- a step
--- a token that was carried out in place
-pub one-carried : (n : ℕ) (s t : Scene) → n ≡ 1 → Carried (n - 0) s t → (tokenOf s .answer ≡ Going) × (then s (tokenOf s) ≡ t)
-one-carried n s t e c =
-    let k : n - 0 ≡ 1 = omega arith in
-    let d = subst (λ (j : ℕ). Carried j s t) k c in
-    (d .0, d .2)
-
-pub none-carried : (n : ℕ) (s t : Scene) → n ≡ 0 → Carried (n - 0) s t → s ≡ t
-none-carried n s t e c = let k : n - 0 ≡ 0 = omega arith in subst (λ (j : ℕ). Carried j s t) k c
-
-module _ (rom work store : List ℕ) (st : State) (d : Driven) (v : Drives rom st 0 1 d) where
-  ends : (x : Fared) → d .fared ≡ x → Stopped x (scene rom work store (d .state)) (d .count) 1
-  ends x e = stopped (d .fared) x (scene rom work store (d .state)) (d .count) 1 e (v .1 work store .1)
-
-  pub step-carried : d .fared ≡ On → turn Going (d .state) work store ≡ tokenOf (scene rom work store st)
-  step-carried e =
-      let o = one-carried (d .count) (scene rom work store st) (scene rom work store (d .state)) (ends On e) (v .1 work store .0) in
-      sym (ap (λ (a : Answer). turn a (tokenOf (scene rom work store st) .state) (tokenOf (scene rom work store st) .work) (tokenOf (scene rom work store st) .store)) (o .0)
-      ∙ ap (λ (x : Scene). turn Going (x .state) (x .work) (x .store)) (o .1))
-
-  same : d .count < 1 → scene rom work store st ≡ scene rom work store (d .state)
-  same l = none-carried (d .count) (scene rom work store st) (scene rom work store (d .state)) (omega arith) (v .1 work store .0)
-
-  pub cold-here : d .fared ≡ Cold → readyOf (scene rom work store st) ≡ Going
-      → (readyOf (scene rom work store (d .state)) ≡ Going) × IsCold rom (d .state .place)
-  cold-here c e = (subst (λ (x : Scene). readyOf x ≡ Going) (same (ends Cold c .0)) e, ends Cold c .1)
-
-  pub step-cold : d .fared ≡ Cold → (r : Turn) → r ≡ tokenOf (scene rom work store (d .state)) → r ≡ tokenOf (scene rom work store st)
-  step-cold c r e = e ∙ ap (λ (x : Scene). tokenOf x) (sym (same (ends Cold c .0)))
-
-  pub step-refused-here : (why : ℕ) → d .fared ≡ Not why → turn (Refused why) (d .state) work store ≡ tokenOf (scene rom work store st)
-  step-refused-here why c = sym (ends (Not why) c .1) ∙ ap (λ (x : Scene). tokenOf x) (sym (same (ends (Not why) c .0)))
-
 -- ---- the loop of a run
 -- a ready scene, whose run ends as the whole run does
 abbrev pub Going-on : ℕ → Outcome → ℕ → Scene → Type 0
 Going-on b w n s = (readyOf s ≡ Going) × Sized (s .state) × (runFrom (b - n) n s ≡ w)
 
--- behind the tokens that were carried out in place
-pub driven : (b n : ℕ) (w : Outcome) (rom work store : List ℕ) (st : State) → Going-on b w n (scene rom work store st) → (d : Driven) → Drives rom st n b d
-    → Going-on b w (d .count) (scene rom work store (d .state))
-driven b n w rom work store st i d v =
-    let r = driven-run b n (d .count) (scene rom work store st) (scene rom work store (d .state)) (v .0 .0) (v .0 .1) (v .1 work store .0) (i .1) (i .0) in
-    (r .1, r .2, sym (r .0) ∙ i .2)
+-- behind the tokens that were carried out on the stacks
+pub carried-on : (b n m : ℕ) (w : Outcome) (s t : Scene) → n ≤ m → m ≤ b → Carried (m - n) s t → Going-on b w n s → Going-on b w m t
+carried-on b n m w s t l h c i = let r = driven-run b n m s t l h c (i .1) (i .0) in (r .1, r .2, sym (r .0) ∙ i .2)
 
--- the first of them
-pub begun : (b : ℕ) (rom work store : List ℕ) (st : State) → readyOf (scene rom work store st) ≡ Going → Sized st → (d : Driven) → Drives rom st 0 b d
-    → Going-on b (runFrom b 0 (scene rom work store st)) (d .count) (scene rom work store (d .state))
-begun b rom work store st e z d v =
-    driven b 0 (runFrom b 0 (scene rom work store st)) rom work store st (e, z, ap (λ (k : ℕ). runFrom k 0 (scene rom work store st)) (sub-zero b)) d v
+pub begun : (b : ℕ) (s : Scene) → readyOf s ≡ Going → Sized (s .state) → Going-on b (runFrom b 0 s) 0 s
+begun b s e z = (e, z, ap (λ (k : ℕ). runFrom k 0 s) (sub-zero b))
+
+-- what the other tokens ask of a ready state
+pub fit : (s : Scene) → readyOf s ≡ Going → Fit (s .rom) (coreOf (s .state))
+fit s e =
+    let f = ready-facts s e in
+    let p = whole-facts (s .state) (f .1) .0 in
+    let a = f .0 .most in
+    let b = f .0 .romTo in
+    let d = p .place .to in
+    (p .height, p .numbers .count, p .work, a, omega arith)
+
+pub tree-whole : (s : Scene) → readyOf s ≡ Going → wholeTree (s .state .tree) ≡ true
+tree-whole s e = let f = ready-facts s e in let p = whole-facts (s .state) (f .1) .0 in sym (whole-is (s .state) p) ∙ f .1
 
 pub ends-spent : (b n : ℕ) (w : Outcome) (s : Scene) → Going-on b w n s → b ≤ n → ended (Spent n) n s ≡ w
 ends-spent b n w s i l = sym (run-spent b n s (i .0) l) ∙ i .2
@@ -181,7 +158,7 @@ module _ (b n : ℕ) (w : Outcome) (s : Scene) (i : Going-on b w n s) (l : n < b
   pub ends-refused : (why : ℕ) → tokenOf s ≡ refuse why s → ended (Refused why) n s ≡ w
   ends-refused why p = sym (run-refused b n why s (i .0) l p) ∙ i .2
 
-  -- and behind the token that was done by value, by its answer
+  -- and behind a token that is not hot, by its answer
   module _ (r : Turn) (t : r ≡ tokenOf s) where
     pub turn-ends : (a : Answer) → r .answer ≡ a → after a n (then s r) (λ to. runFrom (b - (n + 1)) (n + 1) to) ≡ w
     turn-ends a g = sym (run-turn b n s r a (i .0) l t g) ∙ i .2
@@ -196,5 +173,83 @@ module _ (b n : ℕ) (w : Outcome) (s : Scene) (i : Going-on b w n s) (l : n < b
         let k = turn-ready s r (i .1) (i .0) t g in
         (ready-again (then s r) (k .0) a, k .1, turn-ends Going g)
 
+-- ---- a token that is not hot, on the arrays of the scene's state: what it leaves is the scene's own turn
+pub came : (t : Scene) (k : Core) (c p : List ℕ) (w : List Bool) (b n ki v : List ℕ) (wy : List Bool) (pa ow ti si : List ℕ) (then : Arrays → State) (x : Answer) (work store : List ℕ)
+    → readyOf t ≡ Going
+    → ((a : Arrays) → wholeTree (joined (everyOn c p w b n ki v wy pa ow ti si a) k .tree) ≡ true
+    → turn x (then a) work store ≡ tokenOf (scene (t .rom) (t .work) (t .store) (joined (everyOn c p w b n ki v wy pa ow ti si a) k)))
+    → k ≡ coreOf (t .state)
+    → c ≡ t .state .stack .cells
+    → p ≡ t .state .calls .places
+    → w ≡ t .state .calls .wides
+    → b ≡ t .state .calls .bases
+    → n ≡ t .state .numbers .names
+    → ki ≡ t .state .numbers .kinds
+    → v ≡ t .state .numbers .values
+    → wy ≡ t .state .numbers .wides
+    → pa ≡ t .state .tree .parents
+    → ow ≡ t .state .tree .owners
+    → ti ≡ t .state .tree .names
+    → si ≡ t .state .tree .values
+    → turn x (then (arraysOf (t .state))) work store ≡ tokenOf t
+came t k c p w b n ki v wy pa ow ti si then x work store e h q q1 q2 q3 q4 q5 q6 q7 q8 q9 q10 q11 q12 =
+    let q0 : joined (everyOn c p w b n ki v wy pa ow ti si (arraysOf (t .state))) k ≡ t .state = rw (q, q1, q2, q3, q4, q5, q6, q7, q8, q9, q10, q11, q12) in
+    h (arraysOf (t .state)) (ap (λ (x : State). wholeTree (x .tree)) q0 ∙ tree-whole t e)
+    ∙ ap (λ (x : State). tokenOf (scene (t .rom) (t .work) (t .store) x)) q0
+
 pub not-spent : (n : ℕ) → Spent n ≡ Going → ⊥
 not-spent n e = let z : _≡_ {A = ℕ} 0 1 = cc in omega arith
+
+pub all-spent : (n b : ℕ) → n ≡ b → b ≤ n
+all-spent n b e = omega arith
+
+-- ---- a step from a run of one token
+module _ (s : Scene) (z : Sized (s .state)) (e : readyOf s ≡ Going) where
+  one-from : (a : Answer) (r : Turn) → tokenOf s ≡ r → r .answer ≡ a → (x : Ran) (work store : List ℕ)
+      → toldRan x work store ≡ after a 0 (then s r) (λ to. runFrom 0 1 to) → told (oneOf x) work store ≡ r
+  unfolding runFrom
+  one-from Going r t g x work store d = by (readyOf (then s r)) refl d
+    where
+      watched : readyOf (then s r) ≡ watchedOf (r .state)
+      watched = turn-ready s r z e (sym t) g .0
+
+      carried : (a : Answer) → oneAnswer a ≡ Going → toldRan x work store ≡ ended a 1 (then s r) → told (oneOf x) work store ≡ r
+      carried a o f =
+          let n : x .count ≡ 1 = ap (λ (y : Outcome). y .count) f in
+          let p : x .answer ≡ a = ap (λ (y : Outcome). y .answer) f in
+          rw n (ap (λ (y : Answer). turn (oneAnswer y) (x .state) work store) p
+          ∙ ap (λ (y : Answer). turn y (x .state) work store) (o ∙ sym g)
+          ∙ ap (λ (y : Outcome). turn (r .answer) (y .state) (y .work) (y .store)) f)
+
+      by : (a : Answer) → readyOf (then s r) ≡ a → toldRan x work store ≡ unless (readyOf (then s r)) 1 (then s r) (ended (Spent 1) 1 (then s r))
+          → told (oneOf x) work store ≡ r
+      by Going q f = carried (Spent 1) refl (f ∙ rw q)
+      by Finished q f = absurd (never-finished (eqb (r .state .tree .active) 0) (sym q ∙ watched))
+        where
+          never-finished : (b : Bool) → Finished ≡ pick b (Refused 7) Going → ⊥
+          never-finished true k = let y : _≡_ {A = ℕ} 0 1 = cc in omega arith
+          never-finished false k = let y : _≡_ {A = ℕ} 0 1 = cc in omega arith
+      by (Refused why) q f = carried (Refused why) refl (f ∙ rw q)
+      by (Spent m) q f = carried (Spent m) refl (f ∙ rw q)
+  one-from Finished r t g x work store f =
+      let n : x .count ≡ 1 = ap (λ (y : Outcome). y .count) f in
+      let p : x .answer ≡ Finished = ap (λ (y : Outcome). y .answer) f in
+      rw n (ap (λ (y : Answer). turn (oneAnswer y) (x .state) work store) p
+      ∙ ap (λ (y : Answer). turn y (x .state) work store) (sym g)
+      ∙ ap (λ (y : Outcome). turn (r .answer) (y .state) (y .work) (y .store)) f)
+  one-from (Refused why) r t g x work store f = uncarried (Refused why) g f
+    where
+      uncarried : (a : Answer) → r .answer ≡ a → toldRan x work store ≡ ended a 0 (then s r) → told (oneOf x) work store ≡ r
+      uncarried a g f =
+          let n : x .count ≡ 0 = ap (λ (y : Outcome). y .count) f in
+          let p : x .answer ≡ a = ap (λ (y : Outcome). y .answer) f in
+          rw n (ap (λ (y : Answer). turn y (x .state) work store) (p ∙ sym g)
+          ∙ ap (λ (y : Outcome). turn (r .answer) (y .state) (y .work) (y .store)) f)
+  one-from (Spent m) r t g x work store f =
+      let n : x .count ≡ 0 = ap (λ (y : Outcome). y .count) f in
+      let p : x .answer ≡ Spent m = ap (λ (y : Outcome). y .answer) f in
+      rw n (ap (λ (y : Answer). turn y (x .state) work store) (p ∙ sym g)
+      ∙ ap (λ (y : Outcome). turn (r .answer) (y .state) (y .work) (y .store)) f)
+
+  pub one-told : (x : Ran) (work store : List ℕ) → toldRan x work store ≡ runFrom 1 0 s → told (oneOf x) work store ≡ tokenOf s
+  one-told x work store d = one-from (tokenOf s .answer) (tokenOf s) refl refl x work store (d ∙ run-turn 1 0 s (tokenOf s) (tokenOf s .answer) e (omega arith) refl refl)

@@ -1,15 +1,16 @@
-// A step and a run. Both test the state, and then carry tokens out: the hot ones in place, as many as there are, and each other by value.
+// A step and a run. Both test the state, take it apart once, carry tokens out in place, and put it together once.
 ghost use mathlib.Core.Path.{_≡_};
 ghost use Prim.Native.Nat.{_≤_, _<_};
-ghost use lib.ListN.{length};
 ghost use Rattle.state.specs.Scene.{scene, told};
 ghost use Rattle.state.specs.Step.{readyOf, tokenOf, stepOf};
 ghost use Rattle.state.specs.Run.{runOf, toldRan, ranOf};
-ghost use Rattle.machine.specs.Carried.{Glides, Drives, Drivable, wentOf};
-ghost use Rattle.reckon.specs.Fast.{Holds};
-ghost use Rattle.acts.specs.Slow.{Ready};
+ghost use Rattle.state.specs.Apart.{joined, arrays};
 ghost use Rattle.state.specs.Sized.{Sized};
-use acts::slow;
+ghost use Rattle.reckon.specs.Fast.{Holds};
+ghost use Rattle.acts.specs.Acts.{Ready};
+ghost use Rattle.machine.specs.Carried.{Glides, Coastable, Coasts, wentOf, cruisedBy, cruisedTo, oneOf};
+use acts::cold_token;
+use acts::fill_tables;
 use reckon::Fared;
 use reckon::fast;
 use rom::sizes::ROM_LEAST;
@@ -17,13 +18,22 @@ use rom::sizes::ROM_MOST;
 use rom::sizes::STORE_SIZE;
 use rom::sizes::WORK_SIZE;
 use state::Answer;
+use state::Back;
+use state::Calls;
+use state::Core;
+use state::Numbers;
 use state::Ran;
+use state::Stack;
 use state::State;
 use state::Stepped;
+use state::Told;
 use state::base;
+use state::core_of;
 use state::going;
 use state::is_whole;
 use state::refused;
+use tree::Tree;
+use tree::tail_of;
 
 // How far tokens went in place: the count, how the next token fared that was not carried out, `On` where the budget is spent, the heights
 // of the two stacks, and the place.
@@ -35,11 +45,18 @@ pub struct Went {
     pub place: u32,
 }
 
-// The same with the state.
-pub struct Driven {
-    pub state: State,
+// The same with the numbers of a state.
+pub struct Coasted {
     pub count: u32,
     pub fared: Fared,
+    pub core: Core,
+}
+
+// How a run ended, of a state that is taken apart.
+pub struct Cruised {
+    pub answer: Answer,
+    pub count: u32,
+    pub core: Core,
 }
 
 // What is known before a token is looked at: 6, 1, 7, 4, or that the state is finished.
@@ -132,55 +149,250 @@ fn gone(count: u32, fared: Fared, height: usize, returns: usize, place: u32) -> 
     }
 }
 
-// The same on a state: its stacks are taken out once and put back once.
-fn drive(rom: &[u8], st: State, count: u32, budget: u32) -> Driven
-    requires { ⌜ Drivable (now rom) st × (count ≤ budget) ⌝ }
-    ensures { λ r. ⌜ Drives (now (rom .entry)) st count budget r ⌝ }
+// The same on the numbers of a state.
+fn coast(
+    rom: &[u8],
+    cells: &mut [u32; 64],
+    back: &mut [u32; 32],
+    bases: &[usize; 16],
+    core: Core,
+    count: u32,
+    budget: u32,
+) -> Coasted
+    requires { ⌜ Coastable (now rom) (now bases) core × (count ≤ budget) ⌝ }
+    ensures { λ r. ⌜ Coasts (now (rom .entry)) (now (bases .entry)) count budget (now (cells .entry)) (now (back .entry)) core r (now (cells .exit)) (now (back .exit)) ⌝ }
 {
-    let mut stack = st.stack;
-    let mut back = st.back;
-    let h = stack.height;
-    let b = back.height;
     let w = glide(
         rom,
-        st.length,
-        st.wide,
-        &mut stack.cells,
-        &mut back.cells,
-        h,
-        b,
-        base(st.calls),
-        st.place,
+        core.length,
+        core.wide,
+        cells,
+        back,
+        core.height,
+        core.returns,
+        base(bases, core.frames),
+        core.place,
         count,
         budget,
     );
     let fared = w.fared;
-    stack.height = w.height;
-    back.height = w.returns;
-    let mut n = st;
-    n.stack = stack;
-    n.back = back;
-    n.place = w.place;
-    Driven {
-        state: n,
+    let mut k = core;
+    k.height = w.height;
+    k.returns = w.returns;
+    k.place = w.place;
+    Coasted {
         count: w.count,
         fared: fared,
+        core: k,
+    }
+}
+
+fn halted(answer: Answer, count: u32, core: Core) -> Cruised
+    ensures { λ r. ⌜ r ≡ cruisedBy answer count core ⌝ }
+{
+    Cruised {
+        answer: answer,
+        count: count,
+        core: core,
+    }
+}
+
+// The tokens of a state that is ready and taken apart, until one finishes or is refused or the budget is spent. It is lent every array of the state, and
+// so has one parameter for each, in the state's order. The state is not tested again, but for one thing: a finish-device can make the root active where a
+// state was offered whose node 2 or above is a child of the root, and that is 7.
+fn cruise(
+    rom: &[u8],
+    work: &mut [u8],
+    store: &mut [u8],
+    cells: &mut [u32; 64],
+    back: &mut [u32; 32],
+    places: &mut [u32; 16],
+    wides: &mut [bool; 16],
+    bases: &mut [usize; 16],
+    names: &mut [u32; 256],
+    kinds: &mut [u8; 256],
+    values: &mut [u32; 256],
+    ways: &mut [bool; 256],
+    parents: &mut [u32; 32],
+    owners: &mut [u32; 128],
+    titles: &mut [u32; 128],
+    sizes: &mut [u32; 128],
+    start: Core,
+    budget: u32,
+) -> Cruised
+    requires { ⌜ Ready (now rom) (now work) (now store) (joined (arrays (now cells) (now back) (now places) (now wides) (now bases) (now names) (now kinds) (now values) (now ways) (now parents) (now owners) (now titles) (now sizes)) start)
+        × Sized (joined (arrays (now cells) (now back) (now places) (now wides) (now bases) (now names) (now kinds) (now values) (now ways) (now parents) (now owners) (now titles) (now sizes)) start) ⌝ }
+    ensures { λ r. ⌜ cruisedTo r (arrays (now (cells .exit)) (now (back .exit)) (now (places .exit)) (now (wides .exit)) (now (bases .exit)) (now (names .exit)) (now (kinds .exit)) (now (values .exit)) (now (ways .exit)) (now (parents .exit)) (now (owners .exit)) (now (titles .exit)) (now (sizes .exit))) (now (work .exit)) (now (store .exit))
+        ≡ runOf budget (scene (now (rom .entry)) (now (work .entry)) (now (store .entry)) (joined (arrays (now (cells .entry)) (now (back .entry)) (now (places .entry)) (now (wides .entry)) (now (bases .entry)) (now (names .entry)) (now (kinds .entry)) (now (values .entry)) (now (ways .entry)) (now (parents .entry)) (now (owners .entry)) (now (titles .entry)) (now (sizes .entry))) start)) ⌝ }
+{
+    let mut slots = [0u16; 2048];
+    let mut known = [0u8; 2048];
+    fill_tables(&mut slots, &mut known, &*names, &*kinds, start.held);
+    let mut tail = tail_of(&*titles, &*sizes, start.records);
+    let mut core = start;
+    let mut n = 0;
+    while n < budget {
+        let w = coast(rom, &mut *cells, &mut *back, &*bases, core, n, budget);
+        n = w.count;
+        core = w.core;
+        let fared = w.fared;
+        match fared {
+            Fared::On => return halted(Answer::Spent(n), n, core),
+            Fared::Not(why) => return halted(Answer::Refused(why), n, core),
+            Fared::Cold => {}
+        }
+        let r = cold_token(
+            rom,
+            &mut *work,
+            &mut *store,
+            &mut *cells,
+            &mut *places,
+            &mut *wides,
+            &mut *bases,
+            &mut *names,
+            &mut *kinds,
+            &mut *values,
+            &mut *ways,
+            &mut *parents,
+            &mut *owners,
+            &mut *titles,
+            &mut *sizes,
+            &mut slots,
+            &mut known,
+            core,
+            tail,
+        );
+        core = r.core;
+        tail = r.tail;
+        let told = r.told;
+        match told {
+            Told::On => {
+                n += 1;
+                if core.active == 0 {
+                    return halted(Answer::Refused(7), n, core);
+                }
+            }
+            Told::Over => return halted(Answer::Finished, n + 1, core),
+            Told::Not(why) => return halted(Answer::Refused(why), n, core),
+        }
+    }
+    halted(Answer::Spent(n), n, core)
+}
+
+// The same of a state: it is taken apart once and put together once.
+fn tokens(rom: &[u8], work: &mut [u8], store: &mut [u8], st: State, budget: u32) -> Ran
+    requires { ⌜ Ready (now rom) (now work) (now store) st × Sized st ⌝ }
+    ensures { λ r. ⌜ toldRan r (now (work .exit)) (now (store .exit)) ≡ runOf budget (scene (now (rom .entry)) (now (work .entry)) (now (store .entry)) st) ⌝ }
+{
+    let stack = st.stack;
+    let mut cells = stack.cells;
+    let returns = st.back;
+    let mut back = returns.cells;
+    let calls = st.calls;
+    let mut places = calls.places;
+    let mut wides = calls.wides;
+    let mut bases = calls.bases;
+    let numbers = st.numbers;
+    let mut names = numbers.names;
+    let mut kinds = numbers.kinds;
+    let mut values = numbers.values;
+    let mut ways = numbers.wides;
+    let tree = st.tree;
+    let mut parents = tree.parents;
+    let mut owners = tree.owners;
+    let mut titles = tree.names;
+    let mut sizes = tree.values;
+    let r = cruise(
+        rom,
+        work,
+        store,
+        &mut cells,
+        &mut back,
+        &mut places,
+        &mut wides,
+        &mut bases,
+        &mut names,
+        &mut kinds,
+        &mut values,
+        &mut ways,
+        &mut parents,
+        &mut owners,
+        &mut titles,
+        &mut sizes,
+        core_of(st),
+        budget,
+    );
+    let answer = r.answer;
+    let core = r.core;
+    let state = State {
+        length: core.length,
+        place: core.place,
+        wide: core.wide,
+        finished: core.finished,
+        stack: Stack {
+            cells: cells,
+            height: core.height,
+        },
+        back: Back {
+            cells: back,
+            height: core.returns,
+        },
+        calls: Calls {
+            places: places,
+            wides: wides,
+            bases: bases,
+            count: core.frames,
+        },
+        numbers: Numbers {
+            names: names,
+            kinds: kinds,
+            values: values,
+            wides: ways,
+            count: core.held,
+        },
+        work_place: core.work_place,
+        tree: Tree {
+            parents: parents,
+            nodes: core.nodes,
+            active: core.active,
+            owners: owners,
+            names: titles,
+            values: sizes,
+            held: core.records,
+        },
+    };
+    ended(answer, r.count, state)
+}
+
+// A step from a run of one token: a token that was carried out goes on or finishes, whatever the run met behind it.
+fn one(ran: Ran) -> Stepped
+    ensures { λ r. ⌜ r ≡ oneOf ran ⌝ }
+{
+    let answer = ran.answer;
+    let state = ran.state;
+    if ran.count == 0 {
+        return Stepped {
+            answer: answer,
+            state: state,
+        };
+    }
+    match answer {
+        Answer::Going => going(state),
+        Answer::Finished => Stepped {
+            answer: Answer::Finished,
+            state: state,
+        },
+        Answer::Refused(_) => going(state),
+        Answer::Spent(_) => going(state),
     }
 }
 
 // The token of a state that is ready.
 fn token(rom: &[u8], work: &mut [u8], store: &mut [u8], st: State) -> Stepped
-    requires { ⌜ Ready (now rom) (now work) (now store) st ⌝ }
+    requires { ⌜ Ready (now rom) (now work) (now store) st × Sized st ⌝ }
     ensures { λ r. ⌜ told r (now (work .exit)) (now (store .exit)) ≡ tokenOf (scene (now (rom .entry)) (now (work .entry)) (now (store .entry)) st) ⌝ }
 {
-    let d = drive(rom, st, 0, 1);
-    let n = d.state;
-    let fared = d.fared;
-    match fared {
-        Fared::On => going(n),
-        Fared::Cold => slow(rom, work, store, n),
-        Fared::Not(why) => refused(n, why),
-    }
+    one(tokens(rom, work, store, st, 1))
 }
 
 // One token, or why it is refused; a finished state says so again. A refused step leaves the state, work memory and store as they were.
@@ -199,39 +411,6 @@ pub fn step(rom: &[u8], work: &mut [u8], store: &mut [u8], st: State) -> Stepped
             state: st,
         },
     }
-}
-
-// The tokens of a state that is ready, until one finishes or is refused or the budget is spent. The state is not tested again, but for one thing: a
-// finish-device can make the root active where a state was offered whose node 2 or above is a child of the root, and that is 7.
-fn tokens(rom: &[u8], work: &mut [u8], store: &mut [u8], st: State, budget: u32) -> Ran
-    requires { ⌜ Ready (now rom) (now work) (now store) st × Sized st ⌝ }
-    ensures { λ r. ⌜ toldRan r (now (work .exit)) (now (store .exit)) ≡ runOf budget (scene (now (rom .entry)) (now (work .entry)) (now (store .entry)) st) ⌝ }
-{
-    let mut d = drive(rom, st, 0, budget);
-    while d.count < budget {
-        let fared = d.fared;
-        match fared {
-            Fared::On => return ended(Answer::Spent(d.count), d.count, d.state),
-            Fared::Not(why) => return ended(Answer::Refused(why), d.count, d.state),
-            Fared::Cold => {}
-        }
-        let r = slow(rom, &mut *work, &mut *store, d.state);
-        let answer = r.answer;
-        let next = r.state;
-        match answer {
-            Answer::Going => {
-                let tree = next.tree;
-                if tree.active == 0 {
-                    return ended(Answer::Refused(7), d.count + 1, next);
-                }
-                d = drive(rom, next, d.count + 1, budget);
-            }
-            Answer::Finished => return ended(Answer::Finished, d.count + 1, next),
-            Answer::Refused(why) => return ended(Answer::Refused(why), d.count, next),
-            Answer::Spent(n) => return ended(Answer::Spent(n), d.count, next),
-        }
-    }
-    ended(Answer::Spent(d.count), d.count, d.state)
 }
 
 fn ended(answer: Answer, count: u32, state: State) -> Ran

@@ -10,6 +10,7 @@ pub mod Step
 pub mod Run
 pub mod Open
 pub mod Moves
+pub mod Apart
 pub mod Sized
 pub mod KeepsTests
 pub mod Titles
@@ -25,3 +26,4 @@ pub mod StackExamples
 pub mod Seeking
 pub mod Done
 pub mod Hot
+pub mod Untouched

@@ -13,10 +13,15 @@ use Rattle.state.specs.declared.state.State.{State}
 use Rattle.state.specs.declared.answer.Answer.{Answer}
 use Rattle.state.specs.declared.answer.Answer.the-variants.{Going, Refused}
 use Rattle.state.specs.declared.answer.Stepped.{Stepped}
-use Rattle.state.specs.declared.answer.Popped.{Popped}
 
 abbrev pub stepped : Answer → State → Stepped
 stepped a st = record { answer = a; state = st }
+
+-- a cell taken from the data stack, with the state then
+pub record Popped : Type 0 where
+  pub answer : Answer
+  pub cell : ℕ
+  pub state : State
 
 abbrev pub popped : Answer → ℕ → State → Popped
 popped a cell st = record { answer = a; cell = cell; state = st }

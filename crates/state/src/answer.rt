@@ -16,13 +16,6 @@ pub struct Stepped {
     pub state: State,
 }
 
-// A cell taken from the data stack, with the state then.
-pub struct Popped {
-    pub answer: Answer,
-    pub cell: u32,
-    pub state: State,
-}
-
 // A run's answer, how many tokens it carried out, and the state then.
 pub struct Ran {
     pub answer: Answer,

@@ -1,6 +1,7 @@
 // The evaluator's state, what it takes to be whole, how a ROM is opened to one, and the moves on it that every token goes by: push, pop, call and leave.
 // specs/ has what a token, a step and a run are. Every public call is total.
 mod answer;
+mod apart;
 mod moves;
 mod numbers;
 mod opening;
@@ -8,10 +9,16 @@ mod state;
 mod whole;
 
 pub use answer::Answer;
-pub use answer::Popped;
 pub use answer::Ran;
 pub use answer::Stepped;
 pub use answer::number_of;
+pub use apart::Core;
+pub use apart::Handed;
+pub use apart::Taken;
+pub use apart::Told;
+pub use apart::core_of;
+pub use apart::go;
+pub use apart::stop;
 pub use moves::base;
 pub use moves::call;
 pub use moves::entry;
@@ -22,7 +29,6 @@ pub use moves::push;
 pub use moves::refused;
 pub use moves::wide_at;
 pub use numbers::kind_byte;
-pub use numbers::seek;
 pub use opening::open;
 pub use state::Back;
 pub use state::Calls;

@@ -1,14 +1,19 @@
-// One cell pushed or popped, a body entered or left: each takes the state and hands it back with an answer.
+// One cell pushed or popped, a body entered or left: each takes the state's numbers by value and hands them back with an answer, and is lent the arrays
+// that it changes or looks at.
 ghost use mathlib.Core.Path.{_≡_};
 ghost use mathlib.Core.Bool.{false};
 ghost use lib.ListN.{getD};
-ghost use Rattle.state.specs.State.{baseOf};
-ghost use Rattle.state.specs.Moves.{pushOf, popOf, callOf, leaveOf, stepped};
+ghost use Rattle.state.specs.Moves.{pushOf, callOf, leaveOf, stepped};
+ghost use Rattle.state.specs.Apart.{onStack, onCalls, Moves, Looks, Takes, baseIn};
 ghost use Rattle.state.specs.declared.answer.Answer.the-variants.{Refused, Going};
 use crate::answer::Answer;
-use crate::answer::Popped;
 use crate::answer::Stepped;
-use crate::state::Calls;
+use crate::apart::Core;
+use crate::apart::Handed;
+use crate::apart::Taken;
+use crate::apart::Told;
+use crate::apart::go;
+use crate::apart::stop;
 use crate::state::State;
 use rom::sizes::DATA_MOST;
 use rom::sizes::FRAMES_MOST;
@@ -52,97 +57,92 @@ pub fn wide_at(wides: &[bool], at: usize) -> bool
 }
 
 // A cell onto the data stack; 15 where it is full.
-pub fn push(st: State, cell: u32) -> Stepped
-    ensures { λ r. ⌜ r ≡ pushOf st cell ⌝ }
+pub fn push(cells: &mut [u32; 64], core: Core, cell: u32) -> Handed
+    ensures { λ r. ⌜ Moves (onStack (now (cells .entry))) core r (onStack (now (cells .exit))) (λ s t. t ≡ pushOf s cell) ⌝ }
 {
-    let mut s = st.stack;
-    let h = s.height;
+    let h = core.height;
     if h < DATA_MOST {
-        s.cells[h] = cell;
-        s.height = h + 1;
-        let mut n = st;
-        n.stack = s;
-        going(n)
-    } else {
-        refused(st, 15)
+        cells[h] = cell;
+        let mut k = core;
+        k.height = h + 1;
+        return go(k);
     }
+    stop(core, 15)
 }
 
 // The top of the data stack; 14 where it is empty.
-pub fn pop(st: State) -> Popped
-    ensures { λ r. ⌜ r ≡ popOf st ⌝ }
+pub fn pop(cells: &[u32; 64], core: Core) -> Taken
+    ensures { λ r. ⌜ Takes (onStack (now (cells .entry))) core r ⌝ }
 {
-    let mut s = st.stack;
-    let h = s.height;
+    let h = core.height;
     if h == 0 {
-        return Popped {
-            answer: Answer::Refused(14),
+        return Taken {
+            told: Told::Not(14),
             cell: 0,
-            state: st,
+            core: core,
         };
     }
-    let cell = entry(&s.cells, h - 1);
-    s.height = h - 1;
-    let mut n = st;
-    n.stack = s;
-    Popped {
-        answer: Answer::Going,
-        cell: cell,
-        state: n,
+    let mut k = core;
+    k.height = h - 1;
+    Taken {
+        told: Told::On,
+        cell: entry(cells, h - 1),
+        core: k,
     }
 }
 
-// The return stack's height at the entry of the youngest call, 0 where none is open.
-pub fn base(calls: Calls) -> usize
-    ensures { λ r. ⌜ r ≡ baseOf calls ⌝ }
+// The return stack's height at the entry of the youngest of so many calls, 0 where none is open.
+pub fn base(bases: &[usize; 16], frames: usize) -> usize
+    ensures { λ r. ⌜ r ≡ baseIn (now (bases .entry)) frames ⌝ }
 {
-    let open = calls.count;
-    if 0 < open {
-        base_at(&calls.bases, open - 1)
+    if 0 < frames {
+        base_at(bases, frames - 1)
     } else {
         0
     }
 }
 
 // Into a body that starts at a place, in the width that it was defined in; the caller goes on at `next`. 17 where 16 calls are open.
-pub fn call(st: State, to: u32, wide: bool, next: u32) -> Stepped
-    ensures { λ r. ⌜ r ≡ callOf st to wide next ⌝ }
+pub fn call(
+    places: &mut [u32; 16],
+    wides: &mut [bool; 16],
+    bases: &mut [usize; 16],
+    core: Core,
+    to: u32,
+    wide: bool,
+    next: u32,
+) -> Handed
+    ensures { λ r. ⌜ Moves (onCalls (now (places .entry)) (now (wides .entry)) (now (bases .entry))) core r
+        (onCalls (now (places .exit)) (now (wides .exit)) (now (bases .exit))) (λ s t. t ≡ callOf s to wide next) ⌝ }
 {
-    let mut calls = st.calls;
-    let open = calls.count;
+    let open = core.frames;
     if open < FRAMES_MOST {
-        let back = st.back;
-        calls.places[open] = next;
-        calls.wides[open] = st.wide;
-        calls.bases[open] = back.height;
-        calls.count = open + 1;
-        let mut n = st;
-        n.calls = calls;
-        n.place = to;
-        n.wide = wide;
-        going(n)
-    } else {
-        refused(st, 17)
+        places[open] = next;
+        wides[open] = core.wide;
+        bases[open] = core.returns;
+        let mut k = core;
+        k.frames = open + 1;
+        k.place = to;
+        k.wide = wide;
+        return go(k);
     }
+    stop(core, 17)
 }
 
 // Out of a body, back to the caller's place and width. 18 where no call is open, 16 where the return stack is not at the frame's base.
-pub fn leave(st: State) -> Stepped
-    ensures { λ r. ⌜ r ≡ leaveOf st ⌝ }
+pub fn leave(places: &[u32; 16], wides: &[bool; 16], bases: &[usize; 16], core: Core) -> Handed
+    ensures { λ r. ⌜ Looks (onCalls (now (places .entry)) (now (wides .entry)) (now (bases .entry))) core r (λ s t. t ≡ leaveOf s) ⌝ }
 {
-    let mut calls = st.calls;
-    let open = calls.count;
+    let open = core.frames;
     if open == 0 {
-        return refused(st, 18);
+        return stop(core, 18);
     }
-    let back = st.back;
-    if back.height != base(calls) {
-        return refused(st, 16);
+    if core.returns != base_at(bases, open - 1) {
+        return stop(core, 16);
     }
-    let mut n = st;
-    n.place = entry(&calls.places, open - 1);
-    n.wide = wide_at(&calls.wides, open - 1);
-    calls.count = open - 1;
-    n.calls = calls;
-    going(n)
+    let mut k = core;
+    k.place = entry(places, open - 1);
+    k.wide = wide_at(wides, open - 1);
+    k.frames = open - 1;
+    go(k)
 }

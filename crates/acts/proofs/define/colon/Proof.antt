@@ -1,6 +1,13 @@
 use Prim.Native.Nat.{_+_, _≤_}
-use denote.Ref.{now}
+use Rattle.acts.proofs.Backs.{noArrays}
 use Rattle.acts.proofs.Defining.{colon-stops-told, colon-told, colon-end}
+use Rattle.state.specs.Apart.{joined, onNumbers}
+use Rattle.state.specs.Moves.{stepped}
+use Rattle.state.specs.State.{movedTo}
+use Rattle.state.specs.declared.answer.Answer.the-variants.{Going}
+use Rattle.state.specs.declared.state.State.{State}
+use denote.Ref.{now}
+use mathlib.Core.Path.{refl, ap}
 use borrow.Author.Needs.{needs}
 use Rattle.acts.proofs.define.colon.Statement.{statement}
 use Rattle.acts.proofs.define.colon.Tie as tie
@@ -10,29 +17,11 @@ colon-spec =
     tie.close
     (tie.spec
     (λ c κs. search needs)
-    (λ c κs. search needs)
     (λ c. search needs)
-    (λ c.
-    let k1 = c .before .before .before in
-    let k2 = k1 .before .before in
-    let k3 = k2 .before .before in
-    let a : c .before .at .given .0 .0 + 1 ≤ k3 .args .st .length = colon-end (now (k3 .args .rom)) (k3 .args .st) (k3 .args .number) (k3 .args .next)
-    (k3 .pre .0) (k3 .pre .1) (k2 .kinds-of .result) (k1 .read-body .result) (k2 .kinds-of .ensures) (k1 .read-body .ensures) _ (k3 .pre .2)
-    (c .before .at .given .1) in
-    search needs)
+    (λ c. let a = noArrays in let b : c .before .at .given .0 .0 + 1 ≤ c .before .before .before .before .before .before .args .core .length = colon-end (now (c .before .before .before .before .before .before .args .rom)) (joined (onNumbers (now (c .before .before .before .before .before .before .args .names)) (now (c .before .before .before .before .before .before .args .kinds)) (now (c .before .before .before .before .before .before .args .values)) (now (c .before .before .before .before .before .before .args .ways)) a) (c .before .before .before .before .before .before .args .core)) (c .before .before .before .before .before .before .args .number) (c .before .before .before .before .before .before .args .next) (c .before .before .before .before .before .before .pre .0) (c .before .before .before .before .before .before .pre .1) (now (c .before .before .before .before .before .before .args .known)) (c .before .before .before .read-body .result) (c .before .before .before .before .before .before .pre .2 .0 (now (c .before .before .before .before .before .before .args .values)) (now (c .before .before .before .before .before .before .args .ways)) .1) (c .before .before .before .read-body .ensures) _ (c .before .before .before .before .before .before .pre .3) (c .before .at .given .1) in search needs)
     (λ c κs. search needs)
     (λ c κs. search needs)
     (λ c. search needs)
     (λ c κs. search needs)
-    (λ c.
-    let k1 = c .before .before .before .before .before in
-    let k2 = k1 .before .before in
-    let k3 = k2 .before .before in
-    colon-told _ (k3 .args .st) (k3 .args .number) (k3 .args .next) (k3 .pre .0) (k3 .pre .1) _ (k1 .read-body .result) (k2 .kinds-of .ensures)
-    (k1 .read-body .ensures) _ _ (c .before .before .before .at .given .1) (rw (c .before .defined .ensures) at (c .going .ensures)))
-    (λ c.
-    let k1 = c .before .before .before .before in
-    let k2 = k1 .before .before in
-    let k3 = k2 .before .before in
-    colon-stops-told _ (k3 .args .st) (k3 .args .number) (k3 .args .next) (k3 .pre .0) (k3 .pre .1) _ (k1 .read-body .result) (k2 .kinds-of .ensures)
-    (k1 .read-body .ensures) _ _ _ (c .before .before .why .given .1) (c .refused .ensures)))
+    (λ c. rw (c .go .ensures) (λ a. colon-told (now (c .before .before .before .before .before .before .before .before .before .before .before .before .before .before .args .rom)) (joined (onNumbers (now (c .before .before .before .before .before .before .before .before .before .before .before .before .before .before .args .names)) (now (c .before .before .before .before .before .before .before .before .before .before .before .before .before .before .args .kinds)) (now (c .before .before .before .before .before .before .before .before .before .before .before .before .before .before .args .values)) (now (c .before .before .before .before .before .before .before .before .before .before .before .before .before .before .args .ways)) a) (c .before .before .before .before .before .before .before .before .before .before .before .before .before .before .args .core)) (c .before .before .before .before .before .before .before .before .before .before .before .before .before .before .args .number) (c .before .before .before .before .before .before .before .before .before .before .before .before .before .before .args .next) (c .before .before .before .before .before .before .before .before .before .before .before .before .before .before .pre .0) (c .before .before .before .before .before .before .before .before .before .before .before .before .before .before .pre .1) (now (c .before .before .before .before .before .before .before .before .before .before .before .before .before .before .args .known)) (c .before .before .before .before .before .before .before .before .before .before .before .read-body .result) (c .before .before .before .before .before .before .before .before .before .before .before .before .before .before .pre .2 .0 (now (c .before .before .before .before .before .before .before .before .before .before .before .before .before .before .args .values)) (now (c .before .before .before .before .before .before .before .before .before .before .before .before .before .before .args .ways)) .1) (c .before .before .before .before .before .before .before .before .before .before .before .read-body .ensures) _ _ (c .before .before .before .before .before .before .before .before .before .at .given .1) (ap (λ (x : State). stepped Going (movedTo x (c .before .before .before .before .before .before .before .before .before .at .given .0 .0 + 1))) (c .before .defined .ensures .0 a)), c .before .defined .ensures .1))
+    (λ c. rw (c .stop .ensures) (λ a. colon-stops-told (now (c .before .before .before .before .before .before .before .args .rom)) (joined (onNumbers (now (c .before .before .before .before .before .before .before .args .names)) (now (c .before .before .before .before .before .before .before .args .kinds)) (now (c .before .before .before .before .before .before .before .args .values)) (now (c .before .before .before .before .before .before .before .args .ways)) a) (c .before .before .before .before .before .before .before .args .core)) (c .before .before .before .before .before .before .before .args .number) (c .before .before .before .before .before .before .before .args .next) (c .before .before .before .before .before .before .before .pre .0) (c .before .before .before .before .before .before .before .pre .1) (now (c .before .before .before .before .before .before .before .args .known)) (c .before .before .before .before .read-body .result) (c .before .before .before .before .before .before .before .pre .2 .0 (now (c .before .before .before .before .before .before .before .args .values)) (now (c .before .before .before .before .before .before .before .args .ways)) .1) (c .before .before .before .before .read-body .ensures) _ _ _ (c .before .before .why .given .1) refl, c .before .before .before .before .before .before .before .pre .2 .0)))

@@ -1,4 +1,6 @@
 use Rattle.acts.proofs.Defining.{value-kinds, constant-left}
+use Rattle.state.specs.Apart.{onStack}
+use denote.Ref.{now}
 use borrow.Author.Needs.{needs}
 use Rattle.acts.proofs.define.define_new.Statement.{statement}
 use Rattle.acts.proofs.define.define_new.Tie as tie
@@ -8,17 +10,11 @@ define-new-spec =
     tie.close
     (tie.spec
     (λ c κs. search needs)
-    (λ c κs.
-    let k = c .before .before .before in
-    (k .pre .0, k .pre .1, value-kinds .0))
+    (λ c κs. (c .before .before .before .before .before .before .before .before .before .pre .0, c .before .before .before .before .before .before .before .before .before .pre .1, c .before .before .before .before .before .before .before .before .before .pre .2, value-kinds .0))
     (λ c κs. search needs)
-    (λ c κs.
-    let k = c .before .before .before in
-    (k .pre .0, k .pre .1, value-kinds .1))
-    (λ c. λ n store. rw (c .before .match .keys1) (c .colon .ensures _ n store))
-    (λ c. λ n store. rw (c .before .match .keys2) (c .constant .ensures n _ _ store))
+    (λ c κs. (c .before .before .before .before .before .before .before .before .before .pre .0, c .before .before .before .before .before .before .before .before .before .pre .1, c .before .before .before .before .before .before .before .before .before .pre .2, value-kinds .1))
+    (λ c. (λ a n store. rw (c .before .before .before .before .before .before .before .match .keys1) (c .colon .ensures .0 (onStack (now (c .before .before .before .before .before .before .before .before .before .before .args .cells)) a) _ n store), c .colon .ensures .1))
+    (λ c. (λ a n store. rw (c .before .before .before .before .before .before .before .match .keys2) (c .constant .ensures .0 a n _ _ store), c .constant .ensures .1))
     (λ c. search needs)
-    (λ c. λ n store. rw (c .before .before .before .before .match .keys3) (c .before .before .variable .ensures _ n store))
-    (λ c. λ n store.
-    let k = c .before .before .before .before in
-    rw (constant-left (k .args .kind) (k .pre .4) (c .before .match .rest)) (c .constant2 .ensures n _ _ store)))
+    (λ c. (λ a n store. rw (c .before .before .before .before .before .before .before .before .before .before .match .keys3) (c .before .before .variable .ensures .0 (onStack (now (c .before .before .before .before .before .before .before .before .before .before .before .before .before .args .cells)) a) _ n store), c .before .before .variable .ensures .1))
+    (λ c. (λ a n store. rw (constant-left (c .before .before .before .before .before .before .before .before .before .before .args .kind) (c .before .before .before .before .before .before .before .before .before .before .pre .5) (c .before .before .before .before .before .before .before .match .rest)) (c .constant2 .ensures .0 a n _ _ store), c .constant2 .ensures .1)))

@@ -1,4 +1,7 @@
 use Rattle.acts.proofs.Defining.{variable-full-told, variable-told}
+use Rattle.state.specs.Apart.{joined, onNumbers}
+use denote.Ref.{now}
+use mathlib.Core.Path.{refl}
 use borrow.Author.Needs.{needs}
 use Rattle.acts.proofs.define.variable.Statement.{statement}
 use Rattle.acts.proofs.define.variable.Tie as tie
@@ -11,20 +14,11 @@ variable-spec =
     (λ c. search needs)
     (λ c. search needs)
     (λ c κs. search needs)
-    (λ c.
-    let k = c .before .before .before .before in
-    variable-full-told (k .args .st) (k .args .number) (k .args .next) (c .before .before .rounded .result) (k .pre .0) (k .pre .1)
-    (c .before .before .rounded .ensures .0) _ _ (c .before .if1 .taken) (c .refused .ensures))
+    (λ c. rw (c .stop .ensures) (λ a. variable-full-told (joined (onNumbers (now (c .before .before .before .before .args .names)) (now (c .before .before .before .before .args .kinds)) (now (c .before .before .before .before .args .values)) (now (c .before .before .before .before .args .ways)) a) (c .before .before .before .before .args .core)) (c .before .before .before .before .args .number) (c .before .before .before .before .args .next) (c .before .before .rounded .result) (c .before .before .before .before .pre .0) (c .before .before .before .before .pre .1) (c .before .before .rounded .ensures .0) _ _ (c .before .if1 .taken) refl, c .before .before .before .before .pre .2 .0))
     (λ c κs. search needs)
     (λ c. search needs)
     (λ c κs. search needs)
     (λ c. search needs)
     (λ c κs. search needs)
     (λ c. search needs)
-    (λ c.
-    let k1 = c .before .before .before .before .before .before in
-    let k2 = k1 .before in
-    let k3 = k2 .before .before in
-    variable-told (k3 .args .st) (k3 .args .number) (k3 .args .next) (k2 .rounded .result) (k3 .pre .0) (k3 .pre .1) (k2 .rounded .ensures .0) _ _
-    (c .before .defined .result) _ (k1 .if1 .left) (c .before .before .before .before .write-cell .ensures) (c .before .defined .ensures)
-    (c .going .ensures)))
+    (λ c. rw (c .go .ensures) (λ a. variable-told (joined (onNumbers (now (c .before .before .before .before .before .before .before .before .before .before .before .before .before .before .before .args .names)) (now (c .before .before .before .before .before .before .before .before .before .before .before .before .before .before .before .args .kinds)) (now (c .before .before .before .before .before .before .before .before .before .before .before .before .before .before .before .args .values)) (now (c .before .before .before .before .before .before .before .before .before .before .before .before .before .before .before .args .ways)) a) (c .before .before .before .before .before .before .before .before .before .before .before .before .before .before .before .args .core)) (c .before .before .before .before .before .before .before .before .before .before .before .before .before .before .before .args .number) (c .before .before .before .before .before .before .before .before .before .before .before .before .before .before .before .args .next) (c .before .before .before .before .before .before .before .before .before .before .before .before .before .rounded .result) (c .before .before .before .before .before .before .before .before .before .before .before .before .before .before .before .pre .0) (c .before .before .before .before .before .before .before .before .before .before .before .before .before .before .before .pre .1) (c .before .before .before .before .before .before .before .before .before .before .before .before .before .rounded .ensures .0) _ _ _ _ (c .before .before .before .before .before .before .before .before .before .before .before .before .if1 .left) (c .before .before .before .before .before .before .before .before .before .before .write-cell .ensures) (c .before .defined .ensures .0 a) refl, c .before .defined .ensures .1)))

@@ -1,5 +1,5 @@
-use borrow.Author.Tests.{lt-ltb, le-ltb}
 use Rattle.state.specs.Moves.{callOf}
+use borrow.Author.Tests.{lt-ltb, le-ltb}
 use borrow.Author.Needs.{needs}
 use Rattle.state.proofs.moves.call.Statement.{statement}
 use Rattle.state.proofs.moves.call.Tie as tie
@@ -16,6 +16,6 @@ call-spec =
     (λ c. search needs)
     (λ c. search needs)
     (λ c κs. search needs)
+    (λ c. λ a. rw (c .go .ensures, lt-ltb _ _ (c .before .if1 .taken)))
     (λ c κs. search needs)
-    (λ c. rw (lt-ltb _ _ (c .before .before .if1 .taken)) (c .going .ensures))
-    (λ c. rw (le-ltb _ _ (c .before .if1 .left)) (c .refused .ensures)))
+    (λ c. λ a. rw (c .stop .ensures, le-ltb _ _ (c .before .if1 .left))))

@@ -1,5 +1,6 @@
-use borrow.Author.Tests.{eq-eqb, ne-eqb}
 use Rattle.state.specs.Moves.{leaveOf}
+use borrow.Author.Tests.{eq-eqb, ne-eqb, lt-ltb}
+use native.Mathlib.Omega.{arith}
 use borrow.Author.Needs.{needs}
 use Rattle.state.proofs.moves.leave.Statement.{statement}
 use Rattle.state.proofs.moves.leave.Tie as tie
@@ -10,14 +11,15 @@ leave-spec =
     tie.close
     (tie.spec
     (λ c κs. search needs)
-    (λ c. rw (eq-eqb _ _ (c .before .if1 .taken)) (c .refused .ensures))
+    (λ c. λ a. rw (c .stop .ensures, eq-eqb _ _ (c .before .if1 .taken)))
+    (λ c. search needs)
     (λ c κs. search needs)
     (λ c κs. search needs)
-    (λ c. simp (ne-eqb _ _ (c .before .before .before .before .before .if1 .left), ← c .before .before .before .base .ensures, ne-eqb _ _ (c .before .if2 .taken)) (c .refused2 .ensures))
+    (λ c. λ a. let l = c .before .before .before .before .before .if1 .left in rw (c .stop2 .ensures) (simp (ne-eqb _ _ l, lt-ltb 0 (c .before .before .before .before .before .before .args .core .frames) (omega arith), ← c .before .before .before .base-at .ensures, ne-eqb _ _ (c .before .if2 .taken))))
     (λ c. search needs)
     (λ c κs. search needs)
     (λ c. search needs)
     (λ c κs. search needs)
     (λ c. search needs)
     (λ c κs. search needs)
-    (λ c. simp (ne-eqb _ _ (c .before .before .before .before .before .before .before .before .before .before .before .before .before .if1 .left), ← c .before .before .before .before .before .before .before .before .before .before .before .base .ensures, eq-eqb _ _ (c .before .before .before .before .before .before .before .before .before .if2 .left)) (simp (c .before .wide-at .ensures, c .before .before .before .before .before .entry .ensures) at (c .going .ensures))))
+    (λ c. λ a. let l = c .before .before .before .before .before .before .before .before .before .if1 .left in rw (c .go .ensures) (simp (ne-eqb _ _ l, lt-ltb 0 (c .before .before .before .before .before .before .before .before .before .before .args .core .frames) (omega arith), ← c .before .before .before .before .before .before .before .base-at .ensures, eq-eqb _ _ (c .before .before .before .before .before .if2 .left), c .before .before .before .entry .ensures, c .before .wide-at .ensures))))

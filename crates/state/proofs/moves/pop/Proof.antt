@@ -1,6 +1,6 @@
-use borrow.Author.Tests.{ne-eqb}
-use native.Mathlib.Nat.{sub-zero}
 use Rattle.state.specs.Moves.{popOf}
+use borrow.Author.Tests.{eq-eqb, ne-eqb}
+use native.Mathlib.Nat.{sub-zero}
 use borrow.Author.Needs.{needs}
 use Rattle.state.proofs.moves.pop.Statement.{statement}
 use Rattle.state.proofs.moves.pop.Tie as tie
@@ -10,8 +10,8 @@ unfolding popOf
 pop-spec =
     tie.close
     (tie.spec
-    (λ c. rw (c .if1 .taken))
+    (λ c. λ a. rw (eq-eqb _ _ (c .if1 .taken)))
+    (λ c. search needs)
     (λ c. search needs)
     (λ c κs. search needs)
-    (λ c. search needs)
-    (λ c. simp (ne-eqb _ _ (c .before .before .before .before .if1 .left), c .entry .ensures, sub-zero)))
+    (λ c. λ a. simp (ne-eqb _ _ (c .before .before .if1 .left), c .entry .ensures, sub-zero)))

@@ -1,5 +1,5 @@
-use borrow.Author.Tests.{lt-ltb, le-ltb}
 use Rattle.state.specs.Moves.{pushOf}
+use borrow.Author.Tests.{lt-ltb, le-ltb}
 use borrow.Author.Needs.{needs}
 use Rattle.state.proofs.moves.push.Statement.{statement}
 use Rattle.state.proofs.moves.push.Tie as tie
@@ -13,6 +13,6 @@ push-spec =
     (λ c. search needs)
     (λ c. search needs)
     (λ c κs. search needs)
+    (λ c. λ a. rw (c .go .ensures, lt-ltb _ _ (c .before .if1 .taken)))
     (λ c κs. search needs)
-    (λ c. rw (lt-ltb _ _ (c .before .if1 .taken)) (c .going .ensures))
-    (λ c. rw (le-ltb _ _ (c .before .if1 .left)) (c .refused .ensures)))
+    (λ c. λ a. rw (c .stop .ensures, le-ltb _ _ (c .before .if1 .left))))

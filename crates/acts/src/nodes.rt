@@ -1,0 +1,49 @@
+// Nodes opened and closed.
+ghost use Prim.Native.Nat.{_≤_};
+ghost use Rattle.tokens.specs.Family.{newDevice, finishDevice};
+ghost use Rattle.state.specs.Apart.{onNodes, Moves, Looks};
+ghost use Rattle.acts.specs.Acts.{Quiet};
+use state::Core;
+use state::Handed;
+use state::go;
+use state::stop;
+use tree::Outcome;
+use tree::close_child;
+use tree::open_child;
+
+// new-device
+pub fn open_node(parents: &mut [u32; 32], core: Core, next: u32) -> Handed
+    requires { ⌜ core .height ≤ 64 ⌝ }
+    ensures { λ r. ⌜ Moves (onNodes (now (parents .entry))) core r (onNodes (now (parents .exit))) (λ s t. Quiet newDevice s next t) ⌝ }
+{
+    let opened = open_child(parents, core.nodes, core.active);
+    let outcome = opened.outcome;
+    let mut k = core;
+    k.nodes = opened.nodes;
+    k.active = opened.active;
+    match outcome {
+        Outcome::Done => {
+            k.place = next;
+            go(k)
+        }
+        Outcome::Refused(why) => stop(k, why),
+    }
+}
+
+// finish-device
+pub fn close_node(parents: &[u32; 32], core: Core, next: u32) -> Handed
+    requires { ⌜ core .height ≤ 64 ⌝ }
+    ensures { λ r. ⌜ Looks (onNodes (now (parents .entry))) core r (λ s t. Quiet finishDevice s next t) ⌝ }
+{
+    let closed = close_child(parents, core.active);
+    let outcome = closed.outcome;
+    let mut k = core;
+    k.active = closed.active;
+    match outcome {
+        Outcome::Done => {
+            k.place = next;
+            go(k)
+        }
+        Outcome::Refused(why) => stop(k, why),
+    }
+}

@@ -1,0 +1,85 @@
+// Two tables by program number, from 800 to FFF, which are filled once a run and kept by every definition: where a number stands among those that are
+// held, and its kind as reading a body goes by it. So a call, b(to) and a number of a body are one look each.
+ghost use mathlib.Core.Path.{_≡_};
+ghost use Prim.Native.Nat.{_≤_, _<_, _+_};
+ghost use lib.ListN.{replicate};
+ghost use mathlib.Core.List.{List};
+ghost use Rattle.state.specs.Numbers.{kindOfByte, putKind};
+ghost use Rattle.acts.specs.Acts.{Tables, Tabled, slotIn};
+use tokens::is_program;
+
+fn wide(x: u16) -> usize
+    ensures { λ r. ⌜ r ≡ x ⌝ }
+{
+    x as usize
+}
+
+// A kind as reading a body goes by it.
+fn known_kind(kind: u8) -> u8
+    ensures { λ r. ⌜ r ≡ kindOfByte kind ⌝ }
+{
+    match kind {
+        0xB7 => 0xB7,
+        0xB8 => 0xB8,
+        _ => 0xBA,
+    }
+}
+
+// The kind of a number put down, if it is a program's.
+fn put_kind(known: &mut [u8; 2048], number: u32, kind: u8)
+    ensures { λ r. ⌜ now (known .exit) ≡ putKind (now (known .entry)) number kind ⌝ }
+{
+    if is_program(number) {
+        let at = (number - 0x800) as usize;
+        known[at] = kind;
+    }
+}
+
+// One more than where a number stands, so that 0 says that it is not held.
+fn put_slot(slots: &mut [u16; 2048], number: u32, at: usize)
+    requires { ⌜ at < 256 ⌝ }
+    ensures { λ r. ⌜ now (slots .exit) ≡ putKind (now (slots .entry)) number (at + 1) ⌝ }
+{
+    if is_program(number) {
+        let k = (number - 0x800) as usize;
+        slots[k] = (at + 1) as u16;
+    }
+}
+
+// A number that stands at a place among those that are held, put down in both tables.
+pub fn note(slots: &mut [u16; 2048], known: &mut [u8; 2048], number: u32, kind: u8, at: usize)
+    requires { ⌜ at < 256 ⌝ }
+    ensures { λ r. ⌜ (now (slots .exit) ≡ putKind (now (slots .entry)) number (at + 1)) × (now (known .exit) ≡ putKind (now (known .entry)) number (kindOfByte kind)) ⌝ }
+{
+    put_slot(slots, number, at);
+    put_kind(known, number, known_kind(kind));
+}
+
+// Both tables, which are all zero, filled. The youngest is put down first, so that of a number that is held twice the oldest counts.
+pub fn fill_tables(
+    slots: &mut [u16; 2048],
+    known: &mut [u8; 2048],
+    names: &[u32; 256],
+    kinds: &[u8; 256],
+    held: usize,
+)
+    requires { ⌜ (held ≤ 256) × (now slots ≡ replicate 2048 0) × (now known ≡ replicate 2048 0) ⌝ }
+    ensures { λ r. ⌜ Tables (now (slots .exit)) (now (known .exit)) (now (names .entry)) (now (kinds .entry)) held ⌝ }
+{
+    let mut i = held;
+    while 0 < i {
+        i -= 1;
+        note(&mut *slots, &mut *known, names[i], kinds[i], i);
+    }
+}
+
+// One more than where a number stands, and 0 where it is not held.
+pub fn slot_of(slots: &[u16; 2048], number: u32) -> usize
+    ensures { λ r. ⌜ r ≡ slotIn (now (slots .entry)) number ⌝ }
+{
+    if is_program(number) {
+        let k = (number - 0x800) as usize;
+        return wide(slots[k]);
+    }
+    0
+}
