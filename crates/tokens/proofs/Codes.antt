@@ -18,7 +18,7 @@ unfolding codeOf
 nothing n e = rw e
 
 -- below 800 a number is looked up in the list
-listed : (n : ℕ) → n < 0x800 → rowOf n ≡ find table notListed n
+pub listed : (n : ℕ) → n < 0x800 → rowOf n ≡ find table notListed n
 unfolding rowOf
 listed n h = rw (lt-leb _ _ h)
 

@@ -2,15 +2,17 @@
 -- 18, 11 or 12 (heights and branches wait for the run)". Refusal 12: "program number undefined, or not a value after b(to)", by the numbers
 -- defined so far. Assumes nothing.
 use Prim.Native.Nat.{ℕ, zero, suc, _-_}
-use mathlib.Core.Bool.{Bool, true, false, not}
+use mathlib.Core.Bool.{Bool, true, false, not, _&&_}
 use mathlib.Core.List.{List}
 use lib.ListN.{getD}
-use lib.Dec.{eqb}
+use lib.Dec.{ltb, leb, eqb}
 use Rattle.cells.specs.Choice.{pick}
+use Rattle.rom.specs.Bytes.{byteOf}
 use Rattle.tokens.specs.Family.{call, assign}
 use Rattle.tokens.specs.Table.{isProgram}
-use Rattle.tokens.specs.Code.{familyIn}
-use Rattle.tokens.specs.Place.{readOf}
+use Rattle.tokens.specs.Code.{codeOf, familyIn, formIn}
+use Rattle.tokens.specs.Decode.{numberOf, behindNumber, behindOf}
+use Rattle.tokens.specs.Place.{misplacedOf, readOf}
 use Rattle.tokens.specs.declared.decoding.Operand.{Operand}
 use Rattle.tokens.specs.declared.decoding.Operand.the-variants.{Nothing, Literal, Text, Branch, Number, Definition}
 use Rattle.tokens.specs.declared.decoding.Token.{Token}
@@ -33,11 +35,13 @@ numberIn (Branch bits aim) = 0
 numberIn (Number n) = n
 numberIn (Definition n k) = 0
 
--- refusal 12
+-- refusal 12, by a token's code, its number, and the number that stands behind it
+abbrev pub unknownBy : List ℕ → ℕ → ℕ → ℕ → Bool
+unknownBy kinds code n m =
+    pick (eqb (familyIn code) call) (eqb (kindOf kinds n) 0) (pick (eqb (familyIn code) assign) (not (eqb (kindOf kinds m) 0xB8)) false)
+
 unfoldable pub unknownOf : List ℕ → Token → Bool
-unknownOf kinds t =
-    pick (eqb (familyIn (t .code)) call) (eqb (kindOf kinds (t .number)) 0)
-    (pick (eqb (familyIn (t .code)) assign) (not (eqb (kindOf kinds (numberIn (t .operand))) 0xB8)) false)
+unknownOf kinds t = unknownBy kinds (t .code) (t .number) (numberIn (t .operand))
 
 -- what follows a whole token of a body at p: the body ends there, it is refused there, or reading goes on at q
 abbrev pub onward : Bool → Bool → ℕ → (ℕ → Body) → ℕ → Body
@@ -56,3 +60,32 @@ bodyFrom rom length wide kinds (suc k) p = afterOf kinds p (readOf rom length wi
 
 abbrev pub bodyOf : List ℕ → ℕ → Bool → List ℕ → ℕ → Body
 bodyOf rom length wide kinds p = bodyFrom rom length wide kinds (length - p) p
+
+-- ---- for the code's own steps
+-- further than any program reaches
+abbrev pub beyond : ℕ
+beyond = 0x1_0000_0000
+
+-- whether a body goes on behind a token of the number n, with m the number that stands behind that: it is one of the list, in place there,
+-- not b(;), and known
+abbrev pub passes : List ℕ → ℕ → ℕ → Bool
+passes kinds n m =
+    not (eqb (codeOf n) 0) && not (misplacedOf (codeOf n) true) && not (eqb n 0xC2) && not (unknownBy kinds (codeOf n) n m)
+
+-- the place behind such a token at p
+unfoldable pub passedOf : List ℕ → Bool → List ℕ → ℕ → ℕ
+passedOf rom wide kinds p =
+    pick (passes kinds (numberOf rom p) (numberOf rom (behindNumber rom p)))
+    (behindOf rom wide (behindNumber rom p) (formIn (codeOf (numberOf rom p)))) beyond
+
+-- from u/mod to 2*, and from -1 to 3
+abbrev pub frequent : ℕ → Bool
+frequent b = pick (leb b 0x59) (leb 0x2B b) (leb b 0xA8 && leb 0xA4 b)
+
+abbrev pub endsAt : List ℕ → ℕ → ℕ → Bool
+endsAt rom length p = ltb p length && eqb (byteOf rom p) 0xC2
+
+-- how a body ends where it does not go on, by what was read there
+abbrev pub stoppedOf : ℕ → Read → Body
+stoppedOf p (Refused why) = Stops p why
+stoppedOf p (Good t) = pick (eqb (t .number) 0xC2) (Ends p) (Stops p 12)

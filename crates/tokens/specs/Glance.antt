@@ -1,17 +1,15 @@
 -- A token at a glance: what a loop asks of a token, in plain numbers. Code 0 is what is cut off, or not in the list, or badly formed, and
 -- says no more: why, is `readOf`'s to say. Assumes nothing.
 use Prim.Native.Nat.{ℕ, _+_}
-use mathlib.Core.Bool.{Bool, false, not, _&&_}
+use mathlib.Core.Bool.{Bool, _&&_}
 use mathlib.Core.List.{List}
-use lib.Dec.{ltb, eqb}
+use lib.Dec.{ltb}
 use Rattle.cells.specs.Choice.{pick}
 use Rattle.rom.specs.Bytes.{byteOf}
 use Rattle.rom.specs.Branch.{aimOf, placeIn}
-use Rattle.tokens.specs.Family.{call, assign}
 use Rattle.tokens.specs.Table.{isProgram}
-use Rattle.tokens.specs.Code.{codeOf, familyIn, formIn}
+use Rattle.tokens.specs.Code.{codeOf, formIn}
 use Rattle.tokens.specs.Decode.{isDouble, numberOf, behindNumber, behindOf, operandOf, isKind, wholeOf, decodeOf}
-use Rattle.tokens.specs.Body.{kindOf}
 use Rattle.tokens.specs.Definition.{kindIn}
 use Rattle.tokens.specs.declared.decoding.Operand.{Operand}
 use Rattle.tokens.specs.declared.decoding.Operand.the-variants.{Nothing, Literal, Text, Branch, Number, Definition}
@@ -57,16 +55,7 @@ glanced (Whole t) = seenIn t
 unfoldable pub glanceOf : List ℕ → ℕ → Bool → ℕ → Glance
 glanceOf rom length wide p = glanced (decodeOf rom length wide p)
 
--- refusal 12, "program number undefined, or not a value after b(to)", by what is seen
-abbrev pub unknownSeen : List ℕ → ℕ → ℕ → Bool
-unknownSeen kinds code n =
-    pick (eqb (familyIn code) call) (eqb (kindOf kinds n) 0) (pick (eqb (familyIn code) assign) (not (eqb (kindOf kinds n) 0xB8)) false)
-
 -- ---- for the code's own steps
--- b(;), which has one code with exit
-abbrev pub endsSeen : ℕ → ℕ → Bool
-endsSeen code n = eqb code 0x0B_20_00_00 && eqb n 0xC2
-
 -- why a token is refused
 abbrev pub whyIn : Read → ℕ
 whyIn (Refused why) = why

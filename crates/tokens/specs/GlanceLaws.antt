@@ -12,23 +12,20 @@ use Rattle.cells.specs.Tests.{neqb→ne}
 use Rattle.cells.specs.Facts.{holds, both-hold, and-first}
 use Rattle.rom.specs.Bytes.{byteOf, word32Of}
 use Rattle.rom.specs.Branch.{offsetOf, aimOf, placeIn}
-use Rattle.tokens.specs.Family.{call, assign}
 use Rattle.tokens.specs.Row.{none, literal, string, offset, number, head, namedHead}
 use Rattle.tokens.specs.Table.{ends, lows, highs, doubles, table, isProgram, rowOf}
-use Rattle.tokens.specs.Code.{packed, codeOf, familyIn, formIn}
+use Rattle.tokens.specs.Code.{packed, codeOf, formIn}
 use Rattle.tokens.specs.Decode.{isDouble, numberOf, behindNumber, behindOf, operandOf, isKind, formed, listed, tokenOf, decodeOf}
 use Rattle.tokens.specs.Place.{judged, misplacedOf, readOf}
-use Rattle.tokens.specs.Body.{kindOf, numberIn, unknownOf}
 use Rattle.tokens.specs.Definition.{kindIn}
-use Rattle.tokens.specs.Glance.{aboutOf, aimIn, nothingSeen, seenIn, glanced, glanceOf, unknownSeen}
-use Rattle.tokens.specs.Rows.{rows-pass, code-fact}
+use Rattle.tokens.specs.Glance.{aboutOf, aimIn, nothingSeen, seenIn, glanced, glanceOf}
+use Rattle.tokens.specs.Rows.{rows-pass}
 use Rattle.tokens.specs.Laws.{Ahead, decoded-is, decode-ahead}
 use Rattle.tokens.specs.declared.decoding.Operand.{Operand}
 use Rattle.tokens.specs.declared.decoding.Operand.the-variants.{Nothing, Literal, Text, Branch, Number, Definition}
 use Rattle.tokens.specs.declared.decoding.Token.{Token}
 use Rattle.tokens.specs.declared.decoding.Decoded.{Decoded}
 use Rattle.tokens.specs.declared.decoding.Decoded.the-variants.{Cut, Unlisted, Whole}
-use Rattle.tokens.specs.declared.read.Read.{Read}
 use Rattle.tokens.specs.declared.read.Read.the-variants.{Refused, Good}
 use Rattle.tokens.specs.declared.glance.Glance.{Glance}
 
@@ -97,26 +94,9 @@ displaced within g (Whole t) e m = rw (ap codeIn e, m)
 well-placed : (within : Bool) (t : Token) → misplacedOf (t .code) within ≡ false → judged within (Whole t) ≡ Good t
 well-placed within t m = rw m
 
-abbrev tokenIn : Token → Read → Token
-tokenIn t (Refused why) = t
-tokenIn t (Good u) = u
-
 -- ---- by parts
 same-token : (n m c k : ℕ) (o q : Operand) (x y : ℕ) → n ≡ m → c ≡ k → o ≡ q → x ≡ y → tokenOf n c o x ≡ tokenOf m k q y
 same-token n m c k o q x y e f g h = rw (e, f, g, h)
-
-same-unknown : (a b x y u v : Bool) → (a ≡ true → x ≡ u) → (b ≡ true → y ≡ v) → pick a x (pick b y false) ≡ pick a u (pick b v false)
-same-unknown true b x y u v e f = e refl
-same-unknown false true x y u v e f = f refl
-same-unknown false false x y u v e f = refl
-
--- a program number has no operand, and b(to) has a number
-abbrev formKept : ℕ → Bool
-formKept c = pick (eqb (familyIn c) call) (eqb (formIn c) none) (pick (eqb (familyIn c) assign) (eqb (formIn c) number) true)
-
-forms-kept : (n : ℕ) → T (formKept (codeOf n))
-unfolding table ends lows highs doubles
-forms-kept n = code-fact formKept tt tt tt n
 
 -- ---- what `readOf` says at a place where a glance was taken
 module _ (rom : List ℕ) (size : ℕ) (wide within : Bool) (p : ℕ) (g : Glance) (e : glanceOf rom size wide p ≡ g) where
@@ -287,55 +267,3 @@ module _ (rom : List ℕ) (size : ℕ) (wide within : Bool) (p : ℕ) (g : Glanc
           × T (isProgram (g .number) && isKind (g .kind))
       unfolding operandOf
       read-named k = a-definition namedHead _ _ k refl (λ z. omega arith)
-
-      -- refusal 12
-      form-kept : (family : ℕ) → eqb (familyIn (g .code)) family ≡ true
-          → T (pick (eqb family call) (eqb (formIn (g .code)) none) (pick (eqb family assign) (eqb (formIn (g .code)) number) true))
-      form-kept family a =
-          let h : T (formKept (g .code)) = rw (← same-code) (forms-kept (numberOf rom p)) in
-          rw (eqb→eq (familyIn (g .code)) family (holds (eqb (familyIn (g .code)) family) a)) at h
-
-      of-call : eqb (familyIn (g .code)) call ≡ true → numberOf rom p ≡ g .number
-      unfolding operandOf
-      of-call a = own-number Nothing (operand-is none (eqb→eq (formIn (g .code)) none (form-kept call a)))
-
-      of-assign : eqb (familyIn (g .code)) assign ≡ true → numberIn (this .operand) ≡ g .number
-      unfolding operandOf
-      of-assign a =
-          let o : this .operand ≡ Number (numberOf rom (behindNumber rom p)) =
-          operand-is number (eqb→eq (formIn (g .code)) number (form-kept assign a)) in
-          ap numberIn o ∙ own-number (Number (numberOf rom (behindNumber rom p))) o
-
-      unknown-here : (kinds : List ℕ) → unknownOf kinds this ≡ unknownSeen kinds (g .code) (g .number)
-      unfolding unknownOf
-      unknown-here kinds =
-          ap by-code same-code ∙ same-unknown (eqb (familyIn (g .code)) call) (eqb (familyIn (g .code)) assign) _ _ _ _ called assigned
-        where
-          by-code : ℕ → Bool
-          by-code c =
-              pick (eqb (familyIn c) call) (eqb (kindOf kinds (this .number)) 0)
-              (pick (eqb (familyIn c) assign) (not (eqb (kindOf kinds (numberIn (this .operand))) 0xB8)) false)
-
-          called : eqb (familyIn (g .code)) call ≡ true → eqb (kindOf kinds (this .number)) 0 ≡ eqb (kindOf kinds (g .number)) 0
-          called a = ap (λ (k : ℕ). eqb (kindOf kinds k) 0) (of-call a)
-
-          assigned : eqb (familyIn (g .code)) assign ≡ true
-              → not (eqb (kindOf kinds (numberIn (this .operand))) 0xB8) ≡ not (eqb (kindOf kinds (g .number)) 0xB8)
-          assigned a = ap (λ (k : ℕ). not (eqb (kindOf kinds k) 0xB8)) (of-assign a)
-
-      -- of whatever token was read there
-      read-once : (t : Token) → readOf rom size wide within p ≡ Good t → this ≡ t
-      read-once t f = ap (tokenIn t) (sym read-here ∙ f)
-
-      pub unknown-seen : (kinds : List ℕ) (t : Token) → readOf rom size wide within p ≡ Good t
-          → unknownOf kinds t ≡ unknownSeen kinds (g .code) (g .number)
-      unknown-seen kinds t f = ap (unknownOf kinds) (sym (read-once t f)) ∙ unknown-here kinds
-
-      pub read-seen : (t : Token) → readOf rom size wide within p ≡ Good t → seenIn t ≡ g
-      read-seen t f = ap seenIn (sym (read-once t f)) ∙ decoded-here .1
-
-      pub code-seen : (t : Token) → readOf rom size wide within p ≡ Good t → g .code ≡ codeOf (t .number)
-      code-seen t f = sym same-code ∙ ap (λ (u : Token). codeOf (u .number)) (read-once t f)
-
-      pub plain-seen : (t : Token) → readOf rom size wide within p ≡ Good t → formIn (g .code) ≡ none → t .number ≡ g .number
-      plain-seen t f k = ap (λ (r : Read). tokenIn t r .number) (sym f ∙ read-plain k)

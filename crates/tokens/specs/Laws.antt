@@ -144,15 +144,9 @@ module _ (rom : List ℕ) (length : ℕ) (wide : Bool) (kinds : List ℕ) where
   pub body-stops : (p why : ℕ) → readOf rom length wide true p ≡ Refused why → bodyOf rom length wide kinds p ≡ Stops p why
   body-stops p why e = body-is p ∙ rw e
 
-  pub body-past : (p : ℕ) → length ≤ p → bodyOf rom length wide kinds p ≡ Stops p 10
-  body-past p h = body-stops p 10 (none-starts rom length wide true p h)
-
   module _ (p : ℕ) (t : Token) (e : readOf rom length wide true p ≡ Good t) where
     pub body-ends : t .number ≡ 0xC2 → bodyOf rom length wide kinds p ≡ Ends p
     body-ends n = body-is p ∙ rw (e, eq-eqb _ _ n)
-
-    pub body-unknown : (t .number ≡ 0xC2 → ⊥) → unknownOf kinds t ≡ true → bodyOf rom length wide kinds p ≡ Stops p 12
-    body-unknown n u = body-is p ∙ rw (e, ne-eqb _ _ n, u)
 
     pub body-goes : (t .number ≡ 0xC2 → ⊥) → unknownOf kinds t ≡ false → bodyOf rom length wide kinds p ≡ bodyOf rom length wide kinds (t .next)
     body-goes n u = body-is p ∙ rw (e, ne-eqb _ _ n, u)

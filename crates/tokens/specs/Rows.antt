@@ -60,22 +60,6 @@ coded k ks h n e =
     apart true b t = absurd t
     apart false b t = tt
 
--- a code that one number has
-pub coded-one : (k m : ℕ) → T (only k (m ∷ [])) → (n : ℕ) → codeOf n ≡ k → n ≡ m
-coded-one k m h n e = eqb→eq n m (alone (eqb n m) (coded k (m ∷ []) h n e))
-  where
-    alone : (a : Bool) → T (a || false) → T a
-    alone true t = t
-    alone false t = t
-
--- a code that two have, where the number is not the first
-pub coded-other : (k m o : ℕ) → T (only k (m ∷ o ∷ [])) → (n : ℕ) → codeOf n ≡ k → (n ≡ m → ⊥) → n ≡ o
-coded-other k m o h n e q = eqb→eq n o (alone (eqb n o) (rw (ne-eqb n m q) at (coded k (m ∷ o ∷ []) h n e)))
-  where
-    alone : (a : Bool) → T (a || false) → T a
-    alone true t = t
-    alone false t = t
-
 -- ---- what the default arm of a `match` knows of a number: it is none of the keys
 abbrev pub Beside : Type 0 → List ℕ → ℕ → Type 0
 Beside P [] n = P

@@ -1,18 +1,24 @@
 // Reading a body to the b(;) that ends it.
 ghost use mathlib.Core.Path.{_≡_};
-ghost use mathlib.Core.Bool.{true};
+ghost use mathlib.Core.Bool.{Bool, true};
+ghost use Rattle.rom.specs.Bytes.{byteOf};
+ghost use Rattle.tokens.specs.Decode.{isDouble};
 ghost use Rattle.tokens.specs.Place.{readOf};
-ghost use Rattle.tokens.specs.Body.{kindOf, numberIn, unknownOf, bodyOf};
-ghost use Rattle.tokens.specs.Glance.{unknownSeen, endsSeen, whyIn};
+ghost use Rattle.tokens.specs.Body.{kindOf, numberIn, unknownOf, frequent, passedOf, endsAt, stoppedOf, bodyOf};
+use crate::code::double_code;
 use crate::code::family_of;
 use crate::decoding::Operand;
 use crate::decoding::Token;
+use crate::decoding::behind_number;
+use crate::decoding::behind_offset;
+use crate::decoding::behind_string;
 use crate::decoding::is_program;
+use crate::decoding::number_at;
 use crate::family;
-use crate::glance::glance_at;
 use crate::read::Read;
 use crate::read::out_of_place;
 use crate::read::read_at;
+use rom::byte;
 
 // Where a body ends: the place of its b(;), or the place of the first token that is refused, and why.
 pub enum Body {
@@ -61,36 +67,114 @@ pub fn unknown(kinds: &[u8; 2048], token: Token) -> bool
     }
 }
 
-// The same of a token at a glance.
-pub fn unknown_seen(kinds: &[u8; 2048], code: u32, number: u32) -> bool
-    ensures { λ r. ⌜ r ≡ unknownSeen (now (kinds .entry)) code number ⌝ }
-{
-    let work = family_of(code);
-    match work {
-        family::CALL => kind_of(kinds, number) == 0,
-        family::ASSIGN => kind_of(kinds, number) != 0xB8,
-        _ => false,
-    }
-}
+// Further than any program reaches: what stands for no place.
+const BEYOND: usize = 0x1_0000_0000;
 
-// Whether a token at a glance is b(;), which has one code with exit.
-fn ends_body(code: u32, number: u32) -> bool
-    ensures { λ r. ⌜ r ≡ endsSeen code number ⌝ }
+// Whether a byte is one of the tokens that bodies have most of, from u/mod to 2* and from -1 to 3. It is asked before the others.
+fn is_frequent(first: u8) -> bool
+    ensures { λ r. ⌜ r ≡ frequent first ⌝ }
 {
-    if code == 0x0B_20_00_00 {
-        number == 0xC2
+    if first <= 0x59 {
+        0x2B <= first
+    } else if first <= 0xA8 {
+        0xA4 <= first
     } else {
         false
     }
 }
 
-// Why no token of a body stands at a place.
-fn refusal_at(rom: &[u8], length: u32, wide: bool, place: u32) -> u32
-    ensures { λ r. ⌜ r ≡ whyIn (readOf (now (rom .entry)) length wide true place) ⌝ }
+// `passed` where a token's number has two bytes.
+fn passed_double(rom: &[u8], kinds: &[u8; 2048], place: u32, first: u8) -> usize
+    requires { ⌜ (first ≡ byteOf (now rom) place) × (isDouble first ≡ true) ⌝ }
+    ensures { λ r. ⌜ ((wide : Bool) → r ≡ passedOf (now (rom .entry)) wide (now (kinds .entry)) place) ⌝ }
 {
+    let at = place as usize;
+    let number = (first as u32) * 256 + (byte(rom, at + 1) as u32);
+    let code = double_code(number);
+    if code == 0 {
+        return BEYOND;
+    }
+    if out_of_place(code, true) {
+        return BEYOND;
+    }
+    if number < 0x800 {
+        return at + 2;
+    }
+    if kind_of(kinds, number) == 0 {
+        BEYOND
+    } else {
+        at + 2
+    }
+}
+
+// `passed` where b(to) stands.
+fn passed_to(rom: &[u8], kinds: &[u8; 2048], place: u32) -> usize
+    requires { ⌜ byteOf (now rom) place ≡ 0xC3 ⌝ }
+    ensures { λ r. ⌜ ((wide : Bool) → r ≡ passedOf (now (rom .entry)) wide (now (kinds .entry)) place) ⌝ }
+{
+    let at = place as usize + 1;
+    let number = number_at(rom, at);
+    if kind_of(kinds, number) == 0xB8 {
+        behind_number(rom, at)
+    } else {
+        BEYOND
+    }
+}
+
+// The place behind the token at a place, if a body goes on there unless the program ends before: by one look at its first byte, since
+// nothing else is asked of most tokens of a body. Behind b(;), and behind what is refused by itself, there is none.
+fn passed(rom: &[u8], wide: bool, kinds: &[u8; 2048], place: u32) -> usize
+    ensures { λ r. ⌜ r ≡ passedOf (now (rom .entry)) wide (now (kinds .entry)) place ⌝ }
+{
+    let at = place as usize;
+    let first = byte(rom, at);
+    if is_frequent(first) {
+        return at + 1;
+    }
+    match first {
+        0x01..=0x0F => passed_double(rom, kinds, place, first),
+        0x10 => at + 5, // b(lit)
+        0x12 => behind_string(rom, at + 1), // b(")
+        0x13 => behind_offset(at + 1, wide), // bbranch
+        0x14 => behind_offset(at + 1, wide), // b?branch
+        0x1E..=0x20 => at + 1, // + - *
+        0x23..=0x29 => at + 1, // from and to >>a
+        0x6D => at + 1, // @
+        0x71 => at + 1, // c@
+        0x72 => at + 1, // !
+        0x75 => at + 1, // c!
+        0x7B => at + 1, // noop
+        0xB1 => at + 1, // b(<mark)
+        0xB2 => at + 1, // b(>resolve)
+        0xC3 => passed_to(rom, kinds, place),
+        _ => BEYOND,
+    }
+}
+
+// Whether b(;) stands at a place.
+fn ends_at(rom: &[u8], length: u32, place: u32) -> bool
+    ensures { λ r. ⌜ r ≡ endsAt (now (rom .entry)) length place ⌝ }
+{
+    if place < length {
+        byte(rom, place as usize) == 0xC2
+    } else {
+        false
+    }
+}
+
+// How a body ends at a place that it does not go on behind: with its b(;), or with a token that is refused, which a good one is by 12.
+fn stopped(rom: &[u8], length: u32, wide: bool, place: u32) -> Body
+    ensures { λ r. ⌜ r ≡ stoppedOf place (readOf (now (rom .entry)) length wide true place) ⌝ }
+{
+    if ends_at(rom, length, place) {
+        return Body::Ends(place);
+    }
     match read_at(rom, length, wide, true, place) {
-        Read::Refused(why) => why,
-        Read::Good(_) => 0,
+        Read::Refused(why) => Body::Stops {
+            at: place,
+            why: why,
+        },
+        Read::Good(_) => Body::Stops { at: place, why: 12 },
     }
 }
 
@@ -99,22 +183,11 @@ pub fn read_body(rom: &[u8], length: u32, wide: bool, kinds: &[u8; 2048], place:
     ensures { λ r. ⌜ r ≡ bodyOf (now (rom .entry)) length wide (now (kinds .entry)) place ⌝ }
 {
     let mut at = place;
-    while at < length {
-        let g = glance_at(rom, length, wide, at);
-        if g.code == 0 {
-            let why = refusal_at(rom, length, wide, at);
-            return Body::Stops { at: at, why: why };
+    loop {
+        let next = passed(rom, wide, kinds, at);
+        if (length as usize) < next {
+            return stopped(rom, length, wide, at);
         }
-        if out_of_place(g.code, true) {
-            return Body::Stops { at: at, why: 18 };
-        }
-        if ends_body(g.code, g.number) {
-            return Body::Ends(at);
-        }
-        if unknown_seen(kinds, g.code, g.number) {
-            return Body::Stops { at: at, why: 12 };
-        }
-        at = g.next;
+        at = next as u32;
     }
-    Body::Stops { at: at, why: 10 }
 }

@@ -15,7 +15,6 @@ pub use body::kind_of;
 pub use body::number_in;
 pub use body::read_body;
 pub use body::unknown;
-pub use body::unknown_seen;
 pub use code::code_of;
 pub use code::family_of;
 pub use code::gives_of;

@@ -1,0 +1,28 @@
+use borrow.Author.Needs.{needs}
+use Prim.Native.Nat.{_+_, _*_}
+use denote.Ref.{now}
+use mathlib.Core.Path.{sym, _∙_}
+use Rattle.tokens.proofs.Passes.{unlisted-passed, misplaced-passed, unknown-passed, known-passed, listed-passed}
+use Rattle.tokens.proofs.Ranges.{bounds}
+use Rattle.tokens.proofs.body.passed_double.Statement.{statement}
+use Rattle.tokens.proofs.body.passed_double.Tie as tie
+
+pub passed-double-spec : {M : Type 1} → statement M
+passed-double-spec =
+    tie.close
+    (tie.spec
+    (λ c. search needs)
+    (λ c. search needs)
+    (λ c κs. search needs)
+    (λ c. search needs)
+    (λ c. search needs)
+    (λ c κs. let b = bounds 1 0xF (c .before .before .args .first) (c .before .before .pre .1) in search needs)
+    (λ c. let a = c .before .before .before .before .args in λ wide. unlisted-passed (now (a .rom)) wide (now (a .kinds)) (a .place) (a .first) (c .before .before .before .before .pre .0) (c .before .before .before .before .pre .1) (a .first * 256 + c .before .before .byte .result) (rw (← c .before .before .byte .ensures)) (sym (c .before .double-code .ensures) ∙ c .if1 .taken))
+    (λ c κs. search needs)
+    (λ c. let a = c .before .before .before .before .before .before .args in λ wide. misplaced-passed (now (a .rom)) wide (now (a .kinds)) (a .place) (a .first) (c .before .before .before .before .before .before .pre .0) (c .before .before .before .before .before .before .pre .1) (a .first * 256 + c .before .before .before .before .byte .result) (rw (← c .before .before .before .before .byte .ensures)) (rw (← c .before .before .before .double-code .ensures, ← c .before .out-of-place .ensures) (c .if2 .taken)))
+    (λ c. search needs)
+    (λ c. let a = c .before .before .before .before .before .before .before .args in λ wide. listed-passed (now (a .rom)) wide (now (a .kinds)) (a .place) (a .first) (c .before .before .before .before .before .before .before .pre .0) (c .before .before .before .before .before .before .before .pre .1) (a .first * 256 + c .before .before .before .before .before .byte .result) (rw (← c .before .before .before .before .before .byte .ensures)) (c .if3 .taken) (λ z. c .before .before .before .if1 .left (c .before .before .before .before .double-code .ensures ∙ z)) (rw (← c .before .before .before .before .double-code .ensures, ← c .before .before .out-of-place .ensures) (c .before .if2 .left)))
+    (λ c κs. search needs)
+    (λ c. search needs)
+    (λ c. let a = c .before .before .before .before .before .before .before .before .before .args in λ wide. unknown-passed (now (a .rom)) wide (now (a .kinds)) (a .place) (a .first) (c .before .before .before .before .before .before .before .before .before .pre .0) (c .before .before .before .before .before .before .before .before .before .pre .1) (a .first * 256 + c .before .before .before .before .before .before .before .byte .result) (rw (← c .before .before .before .before .before .before .before .byte .ensures)) (c .before .before .if3 .left) (let b = bounds 1 0xF (a .first) (c .before .before .before .before .before .before .before .before .before .pre .1) in search needs) (sym (c .before .kind-of .ensures) ∙ c .if4 .taken))
+    (λ c. let a = c .before .before .before .before .before .before .before .before .before .args in λ wide. known-passed (now (a .rom)) wide (now (a .kinds)) (a .place) (a .first) (c .before .before .before .before .before .before .before .before .before .pre .0) (c .before .before .before .before .before .before .before .before .before .pre .1) (a .first * 256 + c .before .before .before .before .before .before .before .byte .result) (rw (← c .before .before .before .before .before .before .before .byte .ensures)) (c .before .before .if3 .left) (let b = bounds 1 0xF (a .first) (c .before .before .before .before .before .before .before .before .before .pre .1) in search needs) (λ z. c .if4 .left (c .before .kind-of .ensures ∙ z))))
