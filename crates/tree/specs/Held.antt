@@ -64,6 +64,10 @@ sameBytes [] (y ∷ ys) = false
 sameBytes (x ∷ xs) [] = false
 sameBytes (x ∷ xs) (y ∷ ys) = eqb x y && sameBytes xs ys
 
+-- whether they are the same at one byte, so many behind a place
+abbrev pub alikeFrom : List ℕ → List ℕ → ℕ → ℕ → Bool
+alikeFrom a b k i = eqb (getD a (k + i) 0) (getD b (k + i) 0)
+
 -- whether a property is the one of a node and a name
 abbrev pub matches : Property → ℕ → List ℕ → Bool
 matches p node name = eqb (p .node) node && sameBytes (p .name) name

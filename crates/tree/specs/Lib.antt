@@ -7,6 +7,7 @@ pub mod Apart
 pub mod Path
 pub mod Rows
 pub mod Laws
+pub mod SameLaws
 pub mod Layout
 pub mod PathLaws
 pub mod RowLaws

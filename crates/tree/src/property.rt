@@ -6,7 +6,8 @@ ghost use lib.Dec.{eqb};
 ghost use lib.ListN.{length};
 ghost use Rattle.memory.specs.Window.{partOf};
 ghost use Rattle.memory.specs.Writing.{writtenOf};
-ghost use Rattle.tree.specs.Held.{sameBytes, nameSize, valueSize, liveOf};
+ghost use Rattle.tree.specs.Held.{sameBytes, alikeFrom, nameSize, valueSize, liveOf};
+ghost use Rattle.tree.specs.Whole.{everyBelow};
 ghost use Rattle.tree.specs.Node.{refusedOf};
 ghost use Rattle.tree.specs.Property.{valueOf, nameByte, allNameBytes, badName, recordedOf, putOf, storeOf};
 ghost use Rattle.tree.specs.Steps.{foundFrom, sizeOf, fullWith, appendedOf, replacedOf, laidWith, Placed};
@@ -30,11 +31,45 @@ pub struct Found {
     pub at: usize,
 }
 
+// Whether eight bytes from a place on are the same. All of them are compared, with no way out between, so that they are read as one word.
+fn same_eight(a: &[u8], b: &[u8], k: usize) -> bool
+    requires { ⌜ (k + 8 ≤ length (now a)) × (k + 8 ≤ length (now b)) ⌝ }
+    ensures { λ r. ⌜ r ≡ everyBelow 8 (alikeFrom (now (a .entry)) (now (b .entry)) k) ⌝ }
+{
+    (a[k] == b[k])
+        & (a[k + 1] == b[k + 1])
+        & (a[k + 2] == b[k + 2])
+        & (a[k + 3] == b[k + 3])
+        & (a[k + 4] == b[k + 4])
+        & (a[k + 5] == b[k + 5])
+        & (a[k + 6] == b[k + 6])
+        & (a[k + 7] == b[k + 7])
+}
+
+// Eight bytes at a time. The last eight may begin among bytes that were compared already: none is left to be compared alone.
+fn same_words(a: &[u8], b: &[u8]) -> bool
+    requires { ⌜ (8 ≤ length (now a)) × (length (now a) ≡ length (now b)) ⌝ }
+    ensures { λ r. ⌜ r ≡ sameBytes (now (a .entry)) (now (b .entry)) ⌝ }
+{
+    let last = a.len() - 8;
+    let mut k = 0;
+    while k < last {
+        if !same_eight(a, b, k) {
+            return false;
+        }
+        k += 8;
+    }
+    same_eight(a, b, last)
+}
+
 pub fn same_bytes(a: &[u8], b: &[u8]) -> bool
     ensures { λ r. ⌜ r ≡ sameBytes (now (a .entry)) (now (b .entry)) ⌝ }
 {
     if a.len() != b.len() {
         return false;
+    }
+    if 8 <= a.len() {
+        return same_words(a, b);
     }
     let mut k = 0;
     while k < a.len() {

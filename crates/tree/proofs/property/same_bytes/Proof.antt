@@ -22,21 +22,23 @@ same-bytes-spec =
     (tie.spec
     Inv-loop
     μ-loop
-    (λ c. let a = c .before .args in sym (same-unlike (now (a .a)) (now (a .b)) (c .if1 .taken)))
-    (λ c. (search needs, c .if1 .left, refl))
+    (λ c. let a = c .before .before .before .args in sym (same-unlike (now (a .a)) (now (a .b)) (c .if1 .taken)))
+    (λ c κs. search needs)
+    (λ c. c .same-words .ensures)
+    (λ c. (search needs, c .before .if1 .left, refl))
     (λ c. search needs)
     (λ c. search needs)
     (λ c.
     let l = c .before .before .before .before .loop in
-    let a = c .before .before .before .before .before .before .args in
-    sym (same-differs (now (a .a)) (now (a .b)) (l .k) (search needs) (search needs) (c .if2 .taken)) ∙ l .inv .2)
+    let a = c .before .before .before .before .before .before .before .before .before .args in
+    sym (same-differs (now (a .a)) (now (a .b)) (l .k) (search needs) (search needs) (c .if3 .taken)) ∙ l .inv .2)
     (λ c. search needs)
     (λ c. search needs)
     (λ c.
     let l = c .before .before .before .before .loop in
-    let a = c .before .before .before .before .before .before .args in
-    (search needs, l .inv .1, same-more (now (a .a)) (now (a .b)) (l .k) (search needs) (search needs) (c .if2 .left) ∙ l .inv .2))
+    let a = c .before .before .before .before .before .before .before .before .before .args in
+    (search needs, l .inv .1, same-more (now (a .a)) (now (a .b)) (l .k) (search needs) (search needs) (c .if3 .left) ∙ l .inv .2))
     (λ c.
     let l = c .before .loop in
-    let a = c .before .before .before .args in
+    let a = c .before .before .before .before .before .before .args in
     sym (same-end (now (a .a)) (now (a .b)) (l .k) (search needs) (search needs)) ∙ l .inv .2))
