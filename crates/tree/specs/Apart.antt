@@ -8,13 +8,12 @@ use lib.ListN.{length, getD}
 use Rattle.rom.specs.Sizes.{propertiesMost, storeSize}
 use Rattle.tree.specs.Held.{liveAmong}
 use Rattle.tree.specs.Whole.{wholeTree}
-use Rattle.tree.specs.Node.{newDeviceOf, finishDeviceOf}
+use Rattle.tree.specs.Node.{Written, newDeviceOf, finishDeviceOf}
 use Rattle.tree.specs.Property.{putOf, storeOf}
 use Rattle.tree.specs.Steps.{foundFrom}
 use Rattle.tree.specs.declared.tree.Tree.{Tree}
 use Rattle.tree.specs.declared.tree.Outcome.{Outcome}
 use Rattle.tree.specs.declared.tree.Outcome.the-variants.{Done, Refused}
-use Rattle.tree.specs.declared.tree.Written.{Written}
 use Rattle.tree.specs.declared.property.Found.{Found}
 use Rattle.tree.specs.declared.in_place.Tail.{Tail}
 use Rattle.tree.specs.declared.in_place.Kept.{Kept}

@@ -216,7 +216,8 @@ fn add_property(
     done_with(held + 1, live)
 }
 
-// Writes a property of the active node: what `put_property` does, on the tree put together. A record that is there keeps its node and name.
+// Writes a property of the active node. The value is the bytes given, and a null behind them where it is asked for. A record that is there
+// keeps its node and name.
 pub fn put_in(
     store: &mut [u8],
     owners: &mut [u32; PROPERTIES_MOST],
