@@ -3,7 +3,7 @@
 use Prim.Native.Nat.{ℕ, zero, suc, _+_, _-_}
 use mathlib.Core.Bool.{Bool, _||_}
 use mathlib.Core.List.{List}
-use lib.ListN.{length}
+use lib.ListN.{length, replicate}
 use lib.Dec.{ltb, leb, eqb}
 use Rattle.cells.specs.Choice.{pick}
 use Rattle.rom.specs.Sizes.{propertiesMost, storeSize}
@@ -29,6 +29,10 @@ sizeOf count null = pick null (count + 1) count
 abbrev pub fullWith : Tree → ℕ → ℕ → ℕ → ℕ → Bool
 fullWith t live i name value =
     pick (eqb i (t .held)) (leb propertiesMost i || ltb storeSize (live + name + value)) (ltb (storeSize + valueSize t i) (live + value))
+
+-- zeros from a place on, up to another where that lies further
+abbrev pub zeroedOf : List ℕ → ℕ → ℕ → List ℕ
+zeroedOf memory at end = writtenOf memory at (replicate (end - at) 0)
 
 abbrev pub appendedOf : List ℕ → ℕ → List ℕ → List ℕ → List ℕ
 appendedOf store live name value =

@@ -1,4 +1,4 @@
-// Properties: found in the store, and written to it.
+// Properties: their names, where they are found in the store, and the bytes of a value.
 ghost use mathlib.Core.Path.{_≡_};
 ghost use Prim.Native.Nat.{_+_, _-_, _≤_, _<_};
 ghost use mathlib.Core.Bool.{_&&_};
@@ -8,13 +8,11 @@ ghost use Rattle.memory.specs.Window.{partOf};
 ghost use Rattle.memory.specs.Writing.{writtenOf};
 ghost use Rattle.tree.specs.Held.{sameBytes, nameSize, valueSize, liveOf};
 ghost use Rattle.tree.specs.Property.{valueOf, nameByte, allNameBytes, badName};
-ghost use Rattle.tree.specs.Steps.{foundFrom, sizeOf, appendedOf, replacedOf};
+ghost use Rattle.tree.specs.Steps.{foundFrom, sizeOf};
 use crate::tree::NAME_MOST;
 use crate::tree::Tree;
 use crate::tree::wide;
-use memory::clear_from;
 use memory::copy_in;
-use memory::copy_within;
 use memory::put;
 use rom::sizes::PROPERTIES_MOST;
 
@@ -121,30 +119,6 @@ pub fn lay_value(store: &mut [u8], at: usize, value: &[u8], null: bool)
         put(store, at + value.len(), 0);
         return;
     }
-}
-
-// A property more, at the live end.
-pub fn append(store: &mut [u8], live: usize, name: &[u8], value: &[u8], null: bool)
-    requires { ⌜ (live ≤ 16384) × (length (now name) ≤ 31) × (length (now value) ≤ 16384) ⌝ }
-    ensures { λ r. ⌜ now (store .exit) ≡ appendedOf (now (store .entry)) live (now (name .entry)) (valueOf (now (value .entry)) null) ⌝ }
-{
-    copy_in(store, live as u32, name);
-    let at = live + name.len();
-    lay_value(store, at, value, null);
-    let end = at + size_of(value.len(), null);
-    clear_from(store, end as u32);
-}
-
-// Another value in the place of the old one, and what stands behind it moved with it.
-pub fn replace(store: &mut [u8], live: usize, at: usize, old: usize, value: &[u8], null: bool)
-    requires { ⌜ (live ≤ 16384) × (at + old ≤ live) × (length (now value) ≤ 16384) ⌝ }
-    ensures { λ r. ⌜ now (store .exit) ≡ replacedOf (now (store .entry)) live at old (valueOf (now (value .entry)) null) ⌝ }
-{
-    let behind = live - (at + old);
-    let end = at + size_of(value.len(), null);
-    copy_within(store, (at + old) as u32, end as u32, behind as u32);
-    lay_value(store, at, value, null);
-    clear_from(store, (end + behind) as u32);
 }
 
 pub fn value_size(tree: Tree, index: usize) -> usize
