@@ -15,11 +15,12 @@ cat >"$room/crates/rows/src/main.rt" <<'END'
 use libc::STDOUT_FILENO;
 use tree::Row;
 use tree::Tree;
-use tree::finish_device;
+use tree::close_child;
 use tree::fresh_tree;
-use tree::new_device;
 use tree::node_rows;
-use tree::put_property;
+use tree::open_child;
+use tree::put_in;
+use tree::tail_of;
 
 fn say(text: &[u8]) {
     io::write_all(STDOUT_FILENO, text);
@@ -49,6 +50,52 @@ fn show(name: &[u8], tree: Tree, size: usize) {
     say(b"\n");
 }
 
+// The tree with a property of the active node.
+fn put(store: &mut [u8], tree: Tree, name: &[u8], value: &[u8], null: bool) -> Tree {
+    let mut owners = tree.owners;
+    let mut names = tree.names;
+    let mut values = tree.values;
+    let tail = tail_of(&names, &values, tree.held);
+    let kept = put_in(
+        store,
+        &mut owners,
+        &mut names,
+        &mut values,
+        tree.held,
+        tail,
+        tree.active,
+        name,
+        value,
+        null,
+    );
+    let mut t = tree;
+    t.owners = owners;
+    t.names = names;
+    t.values = values;
+    t.held = kept.held;
+    t
+}
+
+// The tree with a child of the active node, which is active then.
+fn open(tree: Tree) -> Tree {
+    let mut parents = tree.parents;
+    let opened = open_child(&mut parents, tree.nodes, tree.active);
+    let mut t = tree;
+    t.parents = parents;
+    t.nodes = opened.nodes;
+    t.active = opened.active;
+    t
+}
+
+// The tree with the active node's parent active.
+fn close(tree: Tree) -> Tree {
+    let parents = tree.parents;
+    let closed = close_child(&parents, tree.active);
+    let mut t = tree;
+    t.active = closed.active;
+    t
+}
+
 fn main() {
     let fresh = fresh_tree();
     show(b"fresh", fresh, 0);
@@ -71,23 +118,20 @@ fn main() {
 
     // node 1 with two properties, its children 2 with one and 3 with none, the later of the two active
     let mut store = [0u8; 16384];
-    let one = put_property(&mut store, fresh, b"a", b"1", false);
-    let two = put_property(&mut store, one.tree, b"b", b"", true);
-    let child = new_device(two.tree);
-    let three = put_property(&mut store, child.tree, b"a", b"2", false);
-    let back = finish_device(three.tree);
-    let other = new_device(back.tree);
-    show(b"small", other.tree, 32);
+    let one = put(&mut store, fresh, b"a", b"1", false);
+    let two = put(&mut store, one, b"b", b"", true);
+    let three = put(&mut store, open(two), b"a", b"2", false);
+    let small = open(close(three));
+    show(b"small", small, 32);
 
     // below node 3 a child, a child's child and so on, until there are 32 nodes; the last has a property
-    let mut full = other.tree;
+    let mut full = small;
     while full.nodes < 32 {
-        let deeper = new_device(full);
-        full = deeper.tree;
+        full = open(full);
     }
-    let last = put_property(&mut store, full, b"a", b"3", false);
-    show(b"full", last.tree, 32);
-    show(b"full", last.tree, 31);
+    let last = put(&mut store, full, b"a", b"3", false);
+    show(b"full", last, 32);
+    show(b"full", last, 31);
 }
 END
 

@@ -14,10 +14,9 @@ use Rattle.tokens.specs.declared.decoding.Token.{Token}
 use Rattle.memory.specs.Window.{badRange, resolveOf}
 use Rattle.tree.specs.Whole.{wholeTree}
 use Rattle.tree.specs.Property.{valueOf, badName, overfull, wouldHold, putRefusal, treePut, storePut, putOf, storeOf}
-use Rattle.tree.specs.Node.{noRoom, outermost, childOf, finishedOf, newDeviceOf, finishDeviceOf, refusedOf}
+use Rattle.tree.specs.Node.{Written, noRoom, outermost, childOf, finishedOf, newDeviceOf, finishDeviceOf, refusedOf}
 use Rattle.tree.specs.Node.{doneOf as treeDone}
 use Rattle.tree.specs.declared.tree.Tree.{Tree}
-use Rattle.tree.specs.declared.tree.Written.{Written}
 use Rattle.tree.specs.declared.tree.Outcome.{Outcome}
 use Rattle.tree.specs.declared.tree.Outcome.the-variants.{Done, Refused as NotDone}
 use Rattle.state.specs.State.{moved, movedTo, withTree}

@@ -22,7 +22,7 @@ use Rattle.memory.specs.Cells.{fetchCellOf, fetchByteOf, cellRefusal, byteRefus
 use Rattle.memory.specs.declared.window.Fetched.{Fetched}
 use Rattle.tree.specs.declared.tree.Outcome.{Outcome}
 use Rattle.tree.specs.declared.tree.Outcome.the-variants.{Done, Refused as NotDone}
-use Rattle.tree.specs.declared.tree.Written.{Written}
+use Rattle.tree.specs.Node.{Written}
 use Rattle.tree.specs.declared.in_place.Tail.{Tail}
 use Rattle.tree.specs.Apart.{Tallied}
 use Rattle.tree.specs.Whole.{wholeTree}

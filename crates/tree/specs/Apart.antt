@@ -1,20 +1,19 @@
 -- A tree taken apart: its arrays are lent and its counts are plain numbers. Put together again it is a tree, and what a call in place comes
 -- to is what Property and Node say of that tree, whatever its other parts are. Assumes nothing.
 use Prim.Native.Nat.{ℕ, _≤_}
-use mathlib.Core.Bool.{true, false}
+use mathlib.Core.Bool.{true}
 use mathlib.Core.List.{List}
 use mathlib.Core.Path.{_≡_}
 use lib.ListN.{length, getD}
 use Rattle.rom.specs.Sizes.{propertiesMost, storeSize}
 use Rattle.tree.specs.Held.{liveAmong}
 use Rattle.tree.specs.Whole.{wholeTree}
-use Rattle.tree.specs.Node.{newDeviceOf, finishDeviceOf}
+use Rattle.tree.specs.Node.{Written, newDeviceOf, finishDeviceOf}
 use Rattle.tree.specs.Property.{putOf, storeOf}
 use Rattle.tree.specs.Steps.{foundFrom}
 use Rattle.tree.specs.declared.tree.Tree.{Tree}
 use Rattle.tree.specs.declared.tree.Outcome.{Outcome}
 use Rattle.tree.specs.declared.tree.Outcome.the-variants.{Done, Refused}
-use Rattle.tree.specs.declared.tree.Written.{Written}
 use Rattle.tree.specs.declared.property.Found.{Found}
 use Rattle.tree.specs.declared.in_place.Tail.{Tail}
 use Rattle.tree.specs.declared.in_place.Kept.{Kept}
@@ -58,7 +57,7 @@ abbrev pub refusedWith : ℕ → ℕ → Tail → Kept
 refusedWith why held tail = record { outcome = Refused why; held = held; tail = tail }
 
 abbrev pub doneWith : ℕ → ℕ → Kept
-doneWith held live = record { outcome = Done; held = held; tail = record { live = live; clean = true } }
+doneWith held live = record { outcome = Done; held = held; tail = record { live = live; zeros = live } }
 
 -- ---- the store behind the live bytes
 -- a memory that is zero from a place on
@@ -67,13 +66,17 @@ Clean memory at = (k : ℕ) → at ≤ k → getD memory k 0 ≡ 0
 
 -- the tail of records whose store nothing is known of
 abbrev pub tailOf : List ℕ → List ℕ → ℕ → Tail
-tailOf names values held = record { live = liveAmong names values held 0; clean = false }
+tailOf names values held = record { live = liveAmong names values held 0; zeros = storeSize }
 
--- the tail says how many live bytes the records have, and says clean only where the store is zero behind them
+-- the store is zero from the tail's place on, which lies between the live end and the store's
+abbrev pub EndsAs : List ℕ → Tail → Type 0
+EndsAs store tail = (tail .live ≤ tail .zeros) × (tail .zeros ≤ length store) × Clean store (tail .zeros)
+
+-- the tail says how many live bytes the records have, and is the store's
 abbrev pub Tallied : List ℕ → List ℕ → List ℕ → ℕ → Tail → Type 0
 Tallied store names values held tail =
     (length store ≡ storeSize) × (length names ≡ propertiesMost) × (length values ≡ propertiesMost) × (held ≤ propertiesMost)
-    × (tail .live ≡ liveAmong names values held 0) × (tail .live ≤ storeSize) × (tail .clean ≡ true → Clean store (tail .live))
+    × (tail .live ≡ liveAmong names values held 0) × EndsAs store tail
 
 -- ---- what the calls in place come to
 -- where the record of a node and a name stands among the lent ones; one that is missing stands behind them all

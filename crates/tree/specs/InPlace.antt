@@ -2,10 +2,10 @@
 use Prim.Native.Nat.{ℕ, suc, _+_, _-_, _≤_, _<_}
 use native.Mathlib.Nat.{zero-add}
 use native.Mathlib.Omega.{arith}
-use mathlib.Core.Bool.{true, false, or-true, true≢false}
+use mathlib.Core.Bool.{true, false, or-true}
 use mathlib.Core.List.{List}
 use mathlib.Core.Path.{_≡_, refl, sym, ap, subst, _∙_}
-use lib.ListN.{length, getD, set, replicate, length-set}
+use lib.ListN.{length, getD, set, replicate, length-set, List·getD-eq-default}
 use lib.Seq.{set-getD}
 use lib.Dec.{leb}
 use lib.Arith.{lt-of-le-ne}
@@ -35,7 +35,7 @@ pub tallied-first : (t : Tree) (s : List ℕ) → Sized t → wholeTree t ≡ tr
     → Tallied s (t .names) (t .values) (t .held) (tailOf (t .names) (t .values) (t .held))
 tallied-first t s z w l =
     let n = whole-facts t w .nodes in
-    (l, z .names, z .values, n .held-most, refl, n .live-most, λ e. absurd (true≢false (sym e)))
+    (l, z .names, z .values, n .held-most, refl, (n .live-most, omega arith, λ k h. List·getD-eq-default s 0 {n = k} (omega arith)))
 
 length-appended : (s : List ℕ) (live : ℕ) (name value : List ℕ) → length (appendedOf s live name value) ≡ length s
 length-appended s live name value =
@@ -69,7 +69,7 @@ module _ (active : ℕ) (name value s owners names values : List ℕ) (held : �
 
   -- the live bytes are in the store
   roomy : liveAmong names values held 0 ≤ length s
-  roomy = let a = k .0 in let b = k .4 in let c = k .5 in omega arith
+  roomy = let b = k .4 in let c = k .5 in omega arith
 
   -- a record that is not behind them all is one of them
   pub among-them : (f : Found) → Finds s owners names values held active name f → (f .index ≡ held → ⊥) → f .index < held
@@ -131,21 +131,21 @@ module _ (active : ℕ) (name value s owners names values : List ℕ) (held : �
             )
 
         tally-added : Tallied (appendedOf s (tail .live) name value) (set names held n) (set values held v) (held + 1)
-            (record { live = added-live; clean = true })
+            (record { live = added-live; zeros = added-live })
         tally-added =
             let live = tail .live in
             let kn = k .1 in
             let kv = k .2 in
             let e = k .4 in
             let f = live-behind names values held n v (omega arith) (omega arith) held 0 (omega arith) in
-            let d : held + 1 ≡ suc held = omega arith in (
-              length-appended s live name value ∙ k .0,
+            let d : held + 1 ≡ suc held = omega arith in
+            let size : length (appendedOf s live name value) ≡ 16384 = length-appended s live name value ∙ k .0 in (
+              size,
               length-set names held n ∙ kn,
               length-set values held v ∙ kv,
               omega arith,
               rw d (omega arith),
-              l,
-              λ q. clean-cleared (writtenOf (writtenOf s live name) (live + n) value) added-live,
+              (omega arith, omega arith, clean-cleared (writtenOf (writtenOf s live name) (live + n) value) added-live),
             )
 
         pub added : Given (doneWith (held + 1) added-live) (appendedOf s (tail .live) name value)
@@ -223,7 +223,7 @@ module _ (active : ℕ) (name value s owners names values : List ℕ) (held : �
               rw (← named, k .4, e (atNode t active)) (rw d at (laid-is (lent t) s name value (k .3) roomy (k .0) (fits t))) ∙ p .1,
             )
 
-        tally-changed : Tallied other names (set values i (v)) held (record { live = changed-live; clean = true })
+        tally-changed : Tallied other names (set values i (v)) held (record { live = changed-live; zeros = changed-live })
         tally-changed =
             let live = tail .live in
             let at = f .at + n in
@@ -235,15 +235,19 @@ module _ (active : ℕ) (name value s owners names values : List ℕ) (held : �
             let d = named in
             let r = live-inside names values i (n) v (omega arith) (omega arith) held 0 (omega arith) (omega arith) in
             let g = rw same-name at r in
-            let x : at + v + (live - (at + old)) ≡ changed-live = omega arith in (
-              length-replaced s live at old value ∙ k .0,
+            let x : at + v + (live - (at + old)) ≡ changed-live = omega arith in
+            let size : length other ≡ 16384 = length-replaced s live at old value ∙ k .0 in (
+              size,
               kn,
               length-set values i v ∙ kv,
               kh,
               omega arith,
-              l,
-              λ y. subst (λ (z : ℕ). Clean other z) x
-                  (clean-cleared (writtenOf (movedOf s (at + old) (at + v) (live - (at + old))) at value) (at + v + (live - (at + old)))),
+              (
+                omega arith,
+                omega arith,
+                subst (λ (z : ℕ). Clean other z) x
+                    (clean-cleared (writtenOf (movedOf s (at + old) (at + v) (live - (at + old))) at value) (at + v + (live - (at + old)))),
+              ),
             )
 
         pub changed : Given (doneWith held changed-live) other owners names (set values i (v))

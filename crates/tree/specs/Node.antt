@@ -8,7 +8,7 @@ use Rattle.cells.specs.Choice.{pick}
 use Rattle.rom.specs.Sizes.{nodesMost, propertiesMost}
 use Rattle.tree.specs.Whole.{parentOf}
 use Rattle.tree.specs.declared.tree.Tree.{Tree}
-use Rattle.tree.specs.declared.tree.Written.{Written}
+use Rattle.tree.specs.declared.tree.Outcome.{Outcome}
 use Rattle.tree.specs.declared.tree.Outcome.the-variants.{Done, Refused}
 
 abbrev pub noRoom : Tree → Bool
@@ -66,6 +66,11 @@ freshTree =
       values = replicate propertiesMost 0;
       held = 0;
     }
+
+-- what a write gives, with the tree then
+pub record Written : Type 0 where
+  pub outcome : Outcome
+  pub tree : Tree
 
 -- refused: the tree as it was
 abbrev pub refusedOf : ℕ → Tree → Written

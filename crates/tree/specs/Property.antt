@@ -13,9 +13,8 @@ use Rattle.rom.specs.Sizes.{propertiesMost, storeSize}
 use Rattle.rom.specs.Words.{lettersOf}
 use Rattle.tree.specs.Held.{Property, heldOf, laidOut, matches, indexOf}
 use Rattle.tree.specs.Whole.{nameMost, wholeTree}
-use Rattle.tree.specs.Node.{doneOf, refusedOf}
+use Rattle.tree.specs.Node.{Written, doneOf, refusedOf}
 use Rattle.tree.specs.declared.tree.Tree.{Tree}
-use Rattle.tree.specs.declared.tree.Written.{Written}
 
 -- a value, with the null that device-name and its like add
 abbrev pub valueOf : List ℕ → Bool → List ℕ

@@ -1,4 +1,4 @@
--- What a call of put_property comes to, by the tests that the code makes. Assumes nothing.
+-- What writing a property comes to, refusal by refusal, and by the numbers of Steps where it has room. Assumes nothing.
 use Prim.Native.Nat.{ℕ, suc, _+_, _-_, _≤_, _<_}
 use native.Mathlib.Nat.{zero-add}
 use native.Mathlib.Omega.{arith}
@@ -17,7 +17,7 @@ use Rattle.tree.specs.Held.{heldOf, liveOf, laidOut, indexOf, nameSize, 
 use Rattle.tree.specs.Whole.{nameMost, wholeTree}
 use Rattle.tree.specs.Node.{doneOf, refusedOf}
 use Rattle.tree.specs.Property.{allNameBytes, badName, overfull, wouldHold, putRefusal, storeWith, treePut, storePut, putOf, storeOf}
-use Rattle.tree.specs.Steps.{foundOf, fullWith, laidWith, Placed}
+use Rattle.tree.specs.Steps.{foundOf, fullWith, laidWith}
 use Rattle.tree.specs.Layout.{walked, appended-is, replaced-is}
 use Rattle.tree.specs.declared.tree.Tree.{Tree}
 
@@ -97,9 +97,6 @@ module _ (t : Tree) (s name value : List ℕ) where
   present n =
       let w = walked t s (t .active) name value (t .held) 0 0 in
       rw (zero-add (liveOf t)) at (w .4 (omega arith))
-
-  pub placed : Placed t (liveOf t) index at
-  placed n = present n .0
 
   module _ (h : t .held ≤ 128) (l : liveOf t ≤ length s) where
     pub length-new : index ≡ t .held → length (laidOut (wouldHold t s name value)) ≡ liveOf t + length name + length value

@@ -1,10 +1,9 @@
 -- The same by numbers, as the code goes: a walk over the records with a running place, the test for room, and the stores. Laws shows that they come to
 -- what Property says. Assumes nothing.
-use Prim.Native.Nat.{ℕ, zero, suc, _+_, _-_, _≤_}
+use Prim.Native.Nat.{ℕ, zero, suc, _+_, _-_}
 use mathlib.Core.Bool.{Bool, _||_}
 use mathlib.Core.List.{List}
-use mathlib.Core.Logic.{_≢_}
-use lib.ListN.{length}
+use lib.ListN.{length, replicate}
 use lib.Dec.{ltb, leb, eqb}
 use Rattle.cells.specs.Choice.{pick}
 use Rattle.rom.specs.Sizes.{propertiesMost, storeSize}
@@ -31,6 +30,10 @@ abbrev pub fullWith : Tree → ℕ → ℕ → ℕ → ℕ → Bool
 fullWith t live i name value =
     pick (eqb i (t .held)) (leb propertiesMost i || ltb storeSize (live + name + value)) (ltb (storeSize + valueSize t i) (live + value))
 
+-- zeros from a place on, up to another where that lies further
+abbrev pub zeroedOf : List ℕ → ℕ → ℕ → List ℕ
+zeroedOf memory at end = writtenOf memory at (replicate (end - at) 0)
+
 abbrev pub appendedOf : List ℕ → ℕ → List ℕ → List ℕ → List ℕ
 appendedOf store live name value =
     clearedOf (writtenOf (writtenOf store live name) (live + length name) value) (live + length name + length value)
@@ -38,10 +41,6 @@ appendedOf store live name value =
 abbrev pub replacedOf : List ℕ → ℕ → ℕ → ℕ → List ℕ → List ℕ
 replacedOf store live at old value =
     clearedOf (writtenOf (movedOf store (at + old) (at + length value) (live - (at + old))) at value) (at + length value + (live - (at + old)))
-
--- a record that is there has its bytes among the live ones
-abbrev pub Placed : Tree → ℕ → ℕ → ℕ → Type 0
-Placed t live i at = i ≢ t .held → at + nameSize t i + valueSize t i ≤ live
 
 -- the store with a value whose record stands at an index, its name's bytes at a place
 abbrev pub laidWith : Tree → List ℕ → ℕ → ℕ → ℕ → List ℕ → List ℕ → List ℕ

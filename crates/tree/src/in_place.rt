@@ -1,20 +1,18 @@
 // The tree taken apart: its arrays are lent and changed where they lie, its counts are plain numbers, and so are the live bytes. A write
 // costs what it changes: no array is copied, no tree is tested anew, and of the store only what is written, moved or freed is touched.
 ghost use mathlib.Core.Path.{_≡_};
-ghost use mathlib.Core.Bool.{true, false};
+ghost use mathlib.Core.Bool.{false};
 ghost use Prim.Native.Nat.{_+_, _≤_};
 ghost use lib.ListN.{length, getD};
-ghost use Rattle.memory.specs.Writing.{clearedOf};
+ghost use Rattle.memory.specs.Writing.{movedOf};
 ghost use Rattle.tree.specs.Held.{liveAmong};
 ghost use Rattle.tree.specs.Property.{badName, valueOf};
-ghost use Rattle.tree.specs.Steps.{appendedOf, replacedOf};
-ghost use Rattle.tree.specs.Apart.{refusedWith, doneWith, tailOf, Clean, Tallied, Finds, Missing, Puts, Opens, Closes};
+ghost use Rattle.tree.specs.Steps.{zeroedOf, appendedOf, replacedOf};
+ghost use Rattle.tree.specs.Apart.{refusedWith, doneWith, tailOf, EndsAs, Tallied, Finds, Missing, Puts, Opens, Closes};
 use crate::property::Found;
-use crate::property::append;
 use crate::property::bad_name;
 use crate::property::is_named;
 use crate::property::lay_value;
-use crate::property::replace;
 use crate::property::size_of;
 use crate::tree::Outcome;
 use crate::tree::live_bytes;
@@ -25,10 +23,11 @@ use rom::sizes::NODES_MOST;
 use rom::sizes::PROPERTIES_MOST;
 use rom::sizes::STORE_SIZE;
 
-// The live bytes of the store, and whether all that lies behind them is known to be zero: a store that is offered may hold anything there.
+// The live bytes of the store, and a place, at or behind their end, from which on all of it is zero. A store that is offered may hold
+// anything behind its live bytes, so there the place is the store's end; after a write it is the live end.
 pub struct Tail {
     pub live: usize,
-    pub clean: bool,
+    pub zeros: usize,
 }
 
 // What writing a property gives, with the count of records and the tail then.
@@ -54,16 +53,17 @@ pub fn tail_of(names: &[u32; PROPERTIES_MOST], values: &[u32; PROPERTIES_MOST], 
     requires { ⌜ held ≤ 128 ⌝ }
     ensures { λ r. ⌜ r ≡ tailOf (now (names .entry)) (now (values .entry)) held ⌝ }
 {
+    let live = live_bytes(names, values, held);
     Tail {
-        live: live_bytes(names, values, held),
-        clean: false,
+        live: live,
+        zeros: STORE_SIZE,
     }
 }
 
-// Zeros from a place on to the end of a memory that is zero from another place on: only the bytes between are written.
-fn clear_freed(memory: &mut [u8], at: usize, end: usize)
-    requires { ⌜ (end ≤ length (now memory)) × Clean (now memory) end ⌝ }
-    ensures { λ r. ⌜ now (memory .exit) ≡ clearedOf (now (memory .entry)) at ⌝ }
+// Zeros from a place on, up to another where that lies further.
+fn clear_up_to(memory: &mut [u8], at: usize, end: usize)
+    requires { ⌜ end ≤ length (now memory) ⌝ }
+    ensures { λ r. ⌜ now (memory .exit) ≡ zeroedOf (now (memory .entry)) at end ⌝ }
 {
     let mut k = at;
     while k < end {
@@ -72,62 +72,40 @@ fn clear_freed(memory: &mut [u8], at: usize, end: usize)
     }
 }
 
-// A property more, where all behind the live end is zero already.
-fn append_clean(store: &mut [u8], live: usize, name: &[u8], value: &[u8], null: bool)
-    requires { ⌜ (live ≤ 16384) × (length (now name) ≤ 31) × (length (now value) ≤ 16384) × Clean (now store) live ⌝ }
-    ensures { λ r. ⌜ now (store .exit) ≡ appendedOf (now (store .entry)) live (now (name .entry)) (valueOf (now (value .entry)) null) ⌝ }
-{
-    copy_in(store, live as u32, name);
-    lay_value(store, live + name.len(), value, null);
-}
-
-// Another value in the place of the old one, where all behind the live end is zero already. One of the same size moves nothing; only what a
-// shorter one frees is cleared.
-fn replace_clean(store: &mut [u8], live: usize, at: usize, old: usize, value: &[u8], null: bool)
-    requires { ⌜ (live ≤ 16384) × (at + old ≤ live) × (length (now value) ≤ 16384) × (live ≤ length (now store))
-        × Clean (now store) live ⌝ }
-    ensures { λ r. ⌜ now (store .exit) ≡ replacedOf (now (store .entry)) live at old (valueOf (now (value .entry)) null) ⌝ }
-{
-    let size = size_of(value.len(), null);
-    if size == old {
-        lay_value(store, at, value, null);
-        return;
-    }
-    let behind = live - (at + old);
-    let end = at + size;
-    copy_within(store, (at + old) as u32, end as u32, behind as u32);
-    lay_value(store, at, value, null);
-    let stop = end + behind;
-    if stop < live {
-        clear_freed(store, stop, live);
-    }
-}
-
-// A property more: the first one behind bytes that may be anything clears to the store's end.
-fn lay_new(store: &mut [u8], tail: Tail, name: &[u8], value: &[u8], null: bool)
-    requires { ⌜ (tail .live ≤ 16384) × (length (now name) ≤ 31) × (length (now value) ≤ 16384)
-        × (tail .clean ≡ true → Clean (now store) (tail .live)) ⌝ }
+// A property more, at the live end. What is zero already is not cleared again.
+fn append(store: &mut [u8], tail: Tail, name: &[u8], value: &[u8], null: bool)
+    requires { ⌜ (length (now store) ≡ 16384) × EndsAs (now store) tail × (length (now name) ≤ 31) × (length (now value) ≤ 16384) ⌝ }
     ensures { λ r. ⌜ now (store .exit)
         ≡ appendedOf (now (store .entry)) (tail .live) (now (name .entry)) (valueOf (now (value .entry)) null) ⌝ }
 {
-    if tail.clean {
-        append_clean(store, tail.live, name, value, null);
-        return;
-    }
-    append(store, tail.live, name, value, null);
+    copy_in(store, tail.live as u32, name);
+    let at = tail.live + name.len();
+    lay_value(store, at, value, null);
+    let end = at + size_of(value.len(), null);
+    clear_up_to(store, end, tail.zeros);
 }
 
-// Another value, its bytes from a place on: alike.
-fn lay_other(store: &mut [u8], tail: Tail, at: usize, old: usize, value: &[u8], null: bool)
-    requires { ⌜ (tail .live ≤ 16384) × (at + old ≤ tail .live) × (length (now value) ≤ 16384) × (tail .live ≤ length (now store))
-        × (tail .clean ≡ true → Clean (now store) (tail .live)) ⌝ }
-    ensures { λ r. ⌜ now (store .exit) ≡ replacedOf (now (store .entry)) (tail .live) at old (valueOf (now (value .entry)) null) ⌝ }
+// Bytes moved to another place. Those that stay where they stand, as behind a value of the old one's size, cost nothing.
+fn move_part(store: &mut [u8], from: usize, to: usize, count: usize)
+    requires { ⌜ (from + count ≤ length (now store)) × (length (now store) ≤ 16384) × (to ≤ 32769) ⌝ }
+    ensures { λ r. ⌜ now (store .exit) ≡ movedOf (now (store .entry)) from to count ⌝ }
 {
-    if tail.clean {
-        replace_clean(store, tail.live, at, old, value, null);
+    if from == to {
         return;
     }
-    replace(store, tail.live, at, old, value, null);
+    copy_within(store, from as u32, to as u32, count as u32);
+}
+
+// Another value in the place of the old one, and what stands behind it moved with it. It is cleared as far as for a property more.
+fn replace(store: &mut [u8], tail: Tail, at: usize, old: usize, value: &[u8], null: bool)
+    requires { ⌜ (length (now store) ≡ 16384) × EndsAs (now store) tail × (at + old ≤ tail .live) × (length (now value) ≤ 16384) ⌝ }
+    ensures { λ r. ⌜ now (store .exit) ≡ replacedOf (now (store .entry)) (tail .live) at old (valueOf (now (value .entry)) null) ⌝ }
+{
+    let behind = tail.live - (at + old);
+    let end = at + size_of(value.len(), null);
+    move_part(store, at + old, end, behind);
+    lay_value(store, at, value, null);
+    clear_up_to(store, end + behind, tail.zeros);
 }
 
 // The record of a node with this name, the oldest first.
@@ -173,7 +151,7 @@ fn done_with(held: usize, live: usize) -> Kept
 {
     let tail = Tail {
         live: live,
-        clean: true,
+        zeros: live,
     };
     Kept {
         outcome: Outcome::Done,
@@ -209,14 +187,15 @@ fn add_property(
     if STORE_SIZE < live {
         return refused_with(27, held, tail);
     }
-    lay_new(store, tail, name, value, null);
+    append(store, tail, name, value, null);
     owners[held] = active;
     names[held] = name.len() as u32;
     values[held] = size as u32;
     done_with(held + 1, live)
 }
 
-// Writes a property of the active node: what `put_property` does, on the tree put together. A record that is there keeps its node and name.
+// Writes a property of the active node. The value is the bytes given, and a null behind them where it is asked for. A record that is there
+// keeps its node and name.
 pub fn put_in(
     store: &mut [u8],
     owners: &mut [u32; PROPERTIES_MOST],
@@ -262,7 +241,7 @@ pub fn put_in(
     if STORE_SIZE < live {
         return refused_with(27, held, tail);
     }
-    lay_other(store, tail, found.at + name.len(), old, value, null);
+    replace(store, tail, found.at + name.len(), old, value, null);
     values[index] = size as u32;
     done_with(held, live)
 }

@@ -1,5 +1,5 @@
-// The nodes and their properties. The tree is a value, on which every call is total, or is taken apart and lent; the bytes of names and
-// values lie in a store that is lent.
+// The nodes and their properties. For who looks something up the tree is a value, and the call total; for who writes it is taken apart and
+// lent. The bytes of names and values lie in a store that is lent.
 mod in_place;
 mod lookup;
 mod node;
@@ -21,16 +21,12 @@ pub use lookup::find_node;
 pub use lookup::find_property;
 pub use lookup::own_value;
 pub use lookup::property_value;
-pub use node::finish_device;
 pub use node::fresh_tree;
-pub use node::new_device;
 pub use node::no_tree;
-pub use property::put_property;
 pub use property::same_bytes;
 pub use rows::Row;
 pub use rows::node_rows;
 pub use rows::node_table;
 pub use tree::Outcome;
 pub use tree::Tree;
-pub use tree::Written;
 pub use tree::is_whole;

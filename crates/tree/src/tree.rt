@@ -27,12 +27,6 @@ pub enum Outcome {
     Refused(u32),
 }
 
-// What a call gives, with the tree then; a refused call gives the tree as it was.
-pub struct Written {
-    pub outcome: Outcome,
-    pub tree: Tree,
-}
-
 pub fn wide(x: u32) -> usize
     ensures { λ r. ⌜ (r ≡ x) × (r < 4294967296) ⌝ }
 {
