@@ -3,5 +3,4 @@ pub mod Lookup
 pub mod Names
 pub mod Codes
 pub mod Wholes
-pub mod Glances
 pub mod Bodies
