@@ -63,7 +63,7 @@ module _ (s : Scene) (n : ℕ) (o : Operand) (next : ℕ) where
       ∙ ap (λ (k : ℕ). doneBy k (actOf s (tokenOf n 0x0E16_0000 o next))) refused-too
 
 -- ---- the families: each has one code but a definition, which has two; every code of the list is hot, of one of these, or out of place everywhere
-abbrev cold : ℕ → Bool
+abbrev pub cold : ℕ → Bool
 cold f = not (eqb (codeFor f) 0)
 
 abbrev oneCode : ℕ → Bool

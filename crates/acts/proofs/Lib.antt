@@ -7,3 +7,4 @@ pub mod Defining
 pub mod Slotting
 pub mod Keeping
 pub mod Acting
+pub mod Coming

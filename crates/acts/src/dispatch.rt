@@ -1,5 +1,5 @@
-// Every token that crate reckon leaves, by its family. These two functions are lent every array of a state but the return stack's, since a token may change
-// any of them: so they have one parameter for each, in the order of the state's own.
+// Every token that crate reckon leaves, by its family. These functions are lent every array of a state but the return stack's, since a
+// token may change any of them: so they have one parameter for each, in the order of the state's own.
 ghost use mathlib.Core.Path.{_≡_};
 ghost use Prim.Native.Nat.{_≤_};
 ghost use lib.ListN.{length};
@@ -24,6 +24,7 @@ use crate::numbers::assign_value;
 use crate::numbers::enter;
 use crate::properties::put_named;
 use crate::properties::put_titled;
+use rom::byte;
 use state::Core;
 use tokens::Glance;
 use tokens::Read;
@@ -174,8 +175,8 @@ fn why_at(rom: &[u8], core: Core) -> u32
     }
 }
 
-// The token at the place, where it is not one of crate reckon's.
-pub fn cold_token(
+// The token at the place by a glance at it.
+fn by_glance(
     rom: &[u8],
     work: &mut [u8],
     store: &mut [u8],
@@ -236,4 +237,105 @@ pub fn cold_token(
         tail,
         seen,
     )
+}
+
+// The token at the place, where it is not one of crate reckon's. What calls and loops over memory are made of is known by its first byte
+// and does not pay for a glance: program numbers, b(;), @, c@, !, c!.
+pub fn cold_token(
+    rom: &[u8],
+    work: &mut [u8],
+    store: &mut [u8],
+    cells: &mut [u32; 64],
+    places: &mut [u32; 16],
+    wides: &mut [bool; 16],
+    bases: &mut [usize; 16],
+    names: &mut [u32; 256],
+    kinds: &mut [u8; 256],
+    values: &mut [u32; 256],
+    ways: &mut [bool; 256],
+    parents: &mut [u32; 32],
+    owners: &mut [u32; 128],
+    titles: &mut [u32; 128],
+    sizes: &mut [u32; 128],
+    slots: &mut [u16; 2048],
+    known: &mut [u8; 2048],
+    core: Core,
+    tail: Tail,
+) -> Acted
+    requires { ⌜ Fit (now rom) core × Cold (now rom) (core .place) × (length (now names) ≡ 256) × (length (now kinds) ≡ 256)
+        × Kept (now slots) (now known) (now names) (now kinds) (now store) (now titles) (now sizes) core tail ⌝ }
+    ensures { λ r. ⌜ Comes (now (rom .entry))
+        (everyOn (now (cells .entry)) (now (places .entry)) (now (wides .entry)) (now (bases .entry)) (now (names .entry)) (now (kinds .entry)) (now (values .entry)) (now (ways .entry))
+        (now (parents .entry)) (now (owners .entry)) (now (titles .entry)) (now (sizes .entry)))
+        (now (work .entry)) (now (store .entry)) core r
+        (everyOn (now (cells .exit)) (now (places .exit)) (now (wides .exit)) (now (bases .exit)) (now (names .exit)) (now (kinds .exit)) (now (values .exit)) (now (ways .exit))
+        (now (parents .exit)) (now (owners .exit)) (now (titles .exit)) (now (sizes .exit)))
+        (now (work .exit)) (now (store .exit))
+        × Kept (now (slots .exit)) (now (known .exit)) (now (names .exit)) (now (kinds .exit)) (now (store .exit)) (now (titles .exit)) (now (sizes .exit)) (r .core) (r .tail) ⌝ }
+{
+    let place = core.place;
+    if core.length <= place {
+        return refuse(core, tail, why_at(rom, core));
+    }
+    let at = place as usize;
+    let first = byte(rom, at);
+    match first {
+        0x08..=0x0F => {
+            if core.length < place + 2 {
+                return refuse(core, tail, why_at(rom, core));
+            }
+            let number = (first as u32) * 256 + (byte(rom, at + 1) as u32);
+            with_tail(
+                enter(
+                    cells,
+                    places,
+                    wides,
+                    bases,
+                    &*names,
+                    &*kinds,
+                    &*values,
+                    &*ways,
+                    &*slots,
+                    core,
+                    number,
+                    place + 2,
+                ),
+                tail,
+            )
+        }
+        0x6D => with_tail(fetch_from(rom, &*work, cells, core, 0x6D, place + 1), tail),
+        0x71 => with_tail(fetch_from(rom, &*work, cells, core, 0x71, place + 1), tail),
+        0x72 => with_tail(store_to(work, &*cells, core, 0x72, place + 1), tail),
+        0x75 => with_tail(store_to(work, &*cells, core, 0x75, place + 1), tail),
+        0xC2 => {
+            if core.frames == 0 {
+                return refuse(core, tail, 18);
+            }
+            with_tail(
+                leave_body(&*places, &*wides, &*bases, core, place + 1),
+                tail,
+            )
+        }
+        _ => by_glance(
+            rom,
+            work,
+            store,
+            cells,
+            places,
+            wides,
+            bases,
+            names,
+            kinds,
+            values,
+            ways,
+            parents,
+            owners,
+            titles,
+            sizes,
+            slots,
+            known,
+            core,
+            tail,
+        ),
+    }
 }

@@ -12,6 +12,7 @@ use Rattle.tree.specs.Whole.{wholeTree}
 use Rattle.tree.specs.declared.tree.Tree.{Tree}
 use Rattle.state.specs.Scene.{Scene, Turn, scene, turn, told, refuse}
 use Rattle.state.specs.Step.{readyOf, tokenOf}
+use Rattle.state.specs.State.{baseOf}
 use Rattle.state.specs.Run.{Outcome, ended, then, after, unless, runFrom, toldRan}
 use Rattle.state.specs.Sized.{Sized}
 use Rattle.state.specs.Laws.{watchedOf, keeps-watched}
@@ -24,29 +25,14 @@ use Rattle.state.specs.declared.answer.Answer.{Answer}
 use Rattle.state.specs.declared.answer.Answer.the-variants.{Going, Finished, Refused, Spent}
 use Rattle.state.specs.declared.answer.Ran.{Ran}
 use Rattle.acts.specs.Acts.{Fit, everyOn}
+use Rattle.state.specs.Hot.{Cold as IsCold}
+use Rattle.reckon.specs.Fast.{packed, Goes, Holds, Fares, Fast}
 use Rattle.reckon.specs.declared.turned.Fared.{Fared}
-use Rattle.machine.specs.Carried.{Carried, Stopped, Coastable, oneAnswer, oneOf}
+use Rattle.reckon.specs.declared.turned.Fared.the-variants.{On, Cold, Not}
+use Rattle.reckon.specs.declared.turned.Turned.{Turned}
+use Rattle.machine.specs.Cruised.{oneAnswer, oneOf}
 
--- ---- a ready state may coast
-pub coastable : (s : Scene) → readyOf s ≡ Going → Coastable (s .rom) (s .state .calls .bases) (coreOf (s .state))
-coastable s e =
-    let f = ready-facts s e in
-    let p = whole-facts (s .state) (f .1) .0 in
-    (p .height, base-below (s .state .length) (s .state .calls) (s .state .back .height) (p .calls), p .returns, p .place .from, p .place .to, under (f .0), f .0 .most)
-  where
-    under : Lent s → s .state .length ≤ 16384
-    under l = let a = l .most in let b = l .romTo in omega arith
-
--- ---- a run goes on behind tokens that were carried out
--- after a token that leaves the tree alone the state is ready again
-still-ready : (s : Scene) → Sized (s .state) → readyOf s ≡ Going → tokenOf s .answer ≡ Going → tokenOf s .state .tree ≡ s .state .tree
-    → (readyOf (then s (tokenOf s)) ≡ Going) × Sized (tokenOf s .state)
-still-ready s z e g t =
-    let k = keeps-watched s z e g in
-    let a = whole-facts (s .state) (ready-facts s e .1) .1 in
-    let n : tokenOf s .state .tree .active ≡ s .state .tree .active = ap (λ (x : Tree). x .active) t in
-    (k .0 ∙ rw (n, ne-eqb (s .state .tree .active) 0 (λ q. omega arith)), k .1)
-
+-- ---- tokens, one after the other
 -- the first token of a run from a ready state
 run-first : (b n : ℕ) (s : Scene) → readyOf s ≡ Going → n < b
     → runFrom (b - n) n s ≡ after (tokenOf s .answer) n (then s (tokenOf s)) (λ to. runFrom (b - (n + 1)) (n + 1) to)
@@ -55,39 +41,13 @@ run-first b n s e l =
     let k : b - n ≡ suc (b - (n + 1)) = omega arith in
     rw (k, e, runFrom)
 
-abbrev pub Behind : ℕ → ℕ → ℕ → Scene → Scene → Type 0
-Behind b n k s t = (runFrom (b - n) n s ≡ runFrom (b - (n + k)) (n + k) t) × (readyOf t ≡ Going) × Sized (t .state)
-
-carried-run : (k b n : ℕ) (s t : Scene) → Carried k s t → Sized (s .state) → readyOf s ≡ Going → n + k ≤ b → Behind b n k s t
-carried-run zero b n s t c z e l =
-    let q : n + 0 ≡ n = omega arith in
-    (rw q (ap (λ (x : Scene). runFrom (b - n) n x) c), subst (λ (x : Scene). readyOf x ≡ Going) c e, subst (λ (x : Scene). Sized (x .state)) c z)
-carried-run (suc k) b n s t c z e l =
-    let r = still-ready s z e (c .0) (c .1) in
-    let i = carried-run k b (n + 1) (then s (tokenOf s)) t (c .2) (r .1) (r .0) (omega arith) in
-    let q : n + suc k ≡ n + 1 + k = omega arith in
-    (run-first b n s e (omega arith) ∙ rw (c .0, q) (i .0), i .1, i .2)
-
--- the same by counts
-pub driven-run : (b n m : ℕ) (s t : Scene) → n ≤ m → m ≤ b → Carried (m - n) s t → Sized (s .state) → readyOf s ≡ Going
-    → (runFrom (b - n) n s ≡ runFrom (b - m) m t) × (readyOf t ≡ Going) × Sized (t .state)
-driven-run b n m s t l h c z e =
-    let q : n + (m - n) ≡ m = omega arith in
-    let r = carried-run (m - n) b n s t c z e (omega arith) in
-    (rw q at (r .0), r .1, r .2)
-
 -- ---- how a run ends
 -- the budget is spent
 pub run-spent : (b n : ℕ) (s : Scene) → readyOf s ≡ Going → b ≤ n → runFrom (b - n) n s ≡ ended (Spent n) n s
 unfolding runFrom
 run-spent b n s e l = let k : b - n ≡ 0 = omega arith in rw (k, e)
 
--- a token is refused
-pub run-refused : (b n why : ℕ) (s : Scene) → readyOf s ≡ Going → n < b → tokenOf s ≡ refuse why s → runFrom (b - n) n s ≡ ended (Refused why) n s
-run-refused b n why s e l t =
-    run-first b n s e l ∙ ap (λ (r : Turn). after (r .answer) n (then s r) (λ to. runFrom (b - (n + 1)) (n + 1) to)) t
-
--- a token was done by value: what follows by its answer
+-- what follows a token, by its answer
 pub run-turn : (b n : ℕ) (s : Scene) (r : Turn) (a : Answer) → readyOf s ≡ Going → n < b → r ≡ tokenOf s → r .answer ≡ a
     → runFrom (b - n) n s ≡ after a n (then s r) (λ to. runFrom (b - (n + 1)) (n + 1) to)
 run-turn b n s r a e l t g =
@@ -122,18 +82,10 @@ run-known (suc k) n s Finished e h = rw (e, runFrom)
 run-known (suc k) n s (Refused why) e h = rw (e, runFrom)
 run-known (suc k) n s (Spent m) e h = rw (e, runFrom)
 
--- why they ended, once it is told which it is
-pub stopped : (x y : Fared) (s : Scene) (n b : ℕ) → x ≡ y → Stopped x s n b → Stopped y s n b
-stopped x y s n b e p = subst (λ (z : Fared). Stopped z s n b) e p
-
 -- ---- the loop of a run
 -- a ready scene, whose run ends as the whole run does
 abbrev pub Going-on : ℕ → Outcome → ℕ → Scene → Type 0
 Going-on b w n s = (readyOf s ≡ Going) × Sized (s .state) × (runFrom (b - n) n s ≡ w)
-
--- behind the tokens that were carried out on the stacks
-pub carried-on : (b n m : ℕ) (w : Outcome) (s t : Scene) → n ≤ m → m ≤ b → Carried (m - n) s t → Going-on b w n s → Going-on b w m t
-carried-on b n m w s t l h c i = let r = driven-run b n m s t l h c (i .1) (i .0) in (r .1, r .2, sym (r .0) ∙ i .2)
 
 pub begun : (b : ℕ) (s : Scene) → readyOf s ≡ Going → Sized (s .state) → Going-on b (runFrom b 0 s) 0 s
 begun b s e z = (e, z, ap (λ (k : ℕ). runFrom k 0 s) (sub-zero b))
@@ -155,10 +107,7 @@ pub ends-spent : (b n : ℕ) (w : Outcome) (s : Scene) → Going-on b w n s → 
 ends-spent b n w s i l = sym (run-spent b n s (i .0) l) ∙ i .2
 
 module _ (b n : ℕ) (w : Outcome) (s : Scene) (i : Going-on b w n s) (l : n < b) where
-  pub ends-refused : (why : ℕ) → tokenOf s ≡ refuse why s → ended (Refused why) n s ≡ w
-  ends-refused why p = sym (run-refused b n why s (i .0) l p) ∙ i .2
-
-  -- and behind a token that is not hot, by its answer
+  -- behind a token, by its answer
   module _ (r : Turn) (t : r ≡ tokenOf s) where
     pub turn-ends : (a : Answer) → r .answer ≡ a → after a n (then s r) (λ to. runFrom (b - (n + 1)) (n + 1) to) ≡ w
     turn-ends a g = sym (run-turn b n s r a (i .0) l t g) ∙ i .2
@@ -172,6 +121,81 @@ module _ (b n : ℕ) (w : Outcome) (s : Scene) (i : Going-on b w n s) (l : n < b
     turn-goes g a =
         let k = turn-ready s r (i .1) (i .0) t g in
         (ready-again (then s r) (k .0) a, k .1, turn-ends Going g)
+
+-- ---- a hot token, on the arrays of the scene's state
+-- what it asks of a ready state
+pub hot-fit : (s : Scene) → readyOf s ≡ Going
+    → (s .state .stack .height ≤ 64) × (baseOf (s .state .calls) ≤ s .state .back .height) × (s .state .back .height ≤ 32)
+    × (8 ≤ s .state .place) × (s .state .place ≤ s .state .length) × (s .state .length ≤ 16384) × Holds (s .rom) (s .state .length)
+hot-fit s e =
+    let f = ready-facts s e in
+    let p = whole-facts (s .state) (f .1) .0 in
+    let h = base-below (s .state .length) (s .state .calls) (s .state .back .height) (p .calls) in
+    (p .height, h, p .returns, p .place .from, p .place .to, under (f .0), f .0 .most)
+  where
+    under : Lent s → s .state .length ≤ 16384
+    under l = let a = l .most in let b = l .romTo in omega arith
+
+-- the numbers, and the state, with the cells, the heights and the place that it leaves
+abbrev pub turnedTo : Core → Turned → Core
+turnedTo k r =
+    record {
+      length = k .length;
+      place = r .place;
+      wide = k .wide;
+      finished = k .finished;
+      height = r .height;
+      returns = r .returns;
+      frames = k .frames;
+      held = k .held;
+      «work_place» = k .«work_place»;
+      nodes = k .nodes;
+      active = k .active;
+      records = k .records;
+    }
+
+-- how it fared with the cells then
+abbrev Fared-so : Fared → Scene → Turned → List ℕ → List ℕ → Type 0
+Fared-so x s r d q =
+    Fares x (s .rom) (s .state .length) (s .state .wide) (baseOf (s .state .calls)) (s .state .stack .cells) (s .state .stack .height)
+    (s .state .back .cells) (s .state .back .height) (s .state .place) r d q
+
+abbrev pub Hot : Scene → Turned → List ℕ → List ℕ → Type 0
+Hot s r d q =
+    Fast (s .rom) (s .state .length) (s .state .wide) (baseOf (s .state .calls)) (s .state .stack .cells) (s .state .stack .height)
+    (s .state .back .cells) (s .state .back .height) (s .state .place) r d q
+
+module _ (b n : ℕ) (w : Outcome) (s : Scene) (i : Going-on b w n s) (l : n < b) (r : Turned) (d q : List ℕ) (f : Hot s r d q) where
+  abbrev there : Scene
+  there = scene (s .rom) (s .work) (s .store) (packed (s .state) d (r .height) q (r .returns) (r .place))
+
+  goes : Goes (s .state) (s .state .length) (s .state .wide) (baseOf (s .state .calls))
+  goes = record { ofSize = refl; ofWidth = refl; ofBase = refl }
+
+  faring : (x : Fared) → r .fared ≡ x → Fared-so x s r d q
+  faring x z = subst (λ (y : Fared). Fared-so y s r d q) z (f .1)
+
+  abbrev left-with : Answer → Turn
+  left-with x = turn x (there .state) (s .work) (s .store)
+
+  -- it was carried out, and left the tree alone
+  pub hot-goes : r .fared ≡ On → Going-on b w (n + 1) there
+  hot-goes z =
+      let a = whole-facts (s .state) (ready-facts s (i .0) .1) .1 in
+      turn-goes b n w s i l (left-with Going) (sym (faring On z (s .state) (s .work) (s .store) goes)) refl (λ x. omega arith)
+
+  -- it was refused
+  pub hot-refused : (why : ℕ) → r .fared ≡ Not why → ended (Refused why) n there ≡ w
+  hot-refused why z =
+      let e = sym (faring (Not why) z (s .state) (s .work) (s .store) goes) in
+      turn-ends b n w s i l (left-with (Refused why)) e (Refused why) refl
+
+  -- it is not hot: nothing is changed
+  pub hot-left : r .fared ≡ Cold → Going-on b w n there × IsCold (s .rom) (r .place)
+  hot-left z =
+      let u = faring Cold z in
+      let q : s ≡ there = rw (u .1, u .2, u .3, u .4, u .5) in
+      (subst (λ (x : Scene). Going-on b w n x) q i, subst (λ (p : ℕ). IsCold (s .rom) p) (sym (u .5)) (u .0))
 
 -- ---- a token that is not hot, on the arrays of the scene's state: what it leaves is the scene's own turn
 pub came : (t : Scene) (k : Core) (c p : List ℕ) (w : List Bool) (b n ki v : List ℕ) (wy : List Bool) (pa ow ti si : List ℕ) (then : Arrays → State) (x : Answer) (work store : List ℕ)
@@ -199,9 +223,6 @@ came t k c p w b n ki v wy pa ow ti si then x work store e h q q1 q2 q3 q4 q5 q6
 
 pub not-spent : (n : ℕ) → Spent n ≡ Going → ⊥
 not-spent n e = let z : _≡_ {A = ℕ} 0 1 = cc in omega arith
-
-pub all-spent : (n b : ℕ) → n ≡ b → b ≤ n
-all-spent n b e = omega arith
 
 -- ---- a step from a run of one token
 module _ (s : Scene) (z : Sized (s .state)) (e : readyOf s ≡ Going) where

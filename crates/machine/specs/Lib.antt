@@ -1,1 +1,1 @@
-pub mod Carried
+pub mod Cruised

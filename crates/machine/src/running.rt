@@ -6,9 +6,8 @@ ghost use Rattle.state.specs.Step.{readyOf, tokenOf, stepOf};
 ghost use Rattle.state.specs.Run.{runOf, toldRan, ranOf};
 ghost use Rattle.state.specs.Apart.{joined, arrays};
 ghost use Rattle.state.specs.Sized.{Sized};
-ghost use Rattle.reckon.specs.Fast.{Holds};
 ghost use Rattle.acts.specs.Acts.{Ready};
-ghost use Rattle.machine.specs.Carried.{Glides, Coastable, Coasts, wentOf, cruisedBy, cruisedTo, oneOf};
+ghost use Rattle.machine.specs.Cruised.{cruisedBy, cruisedTo, oneOf};
 use acts::cold_token;
 use acts::fill_tables;
 use reckon::Fared;
@@ -27,30 +26,12 @@ use state::Stack;
 use state::State;
 use state::Stepped;
 use state::Told;
-use state::base;
 use state::core_of;
 use state::going;
 use state::is_whole;
 use state::refused;
 use tree::Tree;
 use tree::tail_of;
-
-// How far tokens went in place: the count, how the next token fared that was not carried out, `On` where the budget is spent, the heights
-// of the two stacks, and the place.
-pub struct Went {
-    pub count: u32,
-    pub fared: Fared,
-    pub height: usize,
-    pub returns: usize,
-    pub place: u32,
-}
-
-// The same with the numbers of a state.
-pub struct Coasted {
-    pub count: u32,
-    pub fared: Fared,
-    pub core: Core,
-}
 
 // How a run ended, of a state that is taken apart.
 pub struct Cruised {
@@ -88,102 +69,6 @@ fn ready(rom: &[u8], work: &[u8], store: &[u8], st: State) -> Answer
         Answer::Finished
     } else {
         Answer::Going
-    }
-}
-
-// Tokens in place, until one is not hot or is refused, or the budget is spent.
-fn glide(
-    rom: &[u8],
-    length: u32,
-    wide: bool,
-    stack: &mut [u32; 64],
-    back: &mut [u32; 32],
-    height: usize,
-    returns: usize,
-    base: usize,
-    start: u32,
-    count: u32,
-    budget: u32,
-) -> Went
-    requires { ⌜ (height ≤ 64) × (base ≤ returns) × (returns ≤ 32) × (8 ≤ start) × (start ≤ length) × (length ≤ 16384) × Holds (now rom) length × (count ≤ budget) ⌝ }
-    ensures { λ r. ⌜ Glides (now (rom .entry)) length wide base count budget (now (stack .entry)) height (now (back .entry)) returns start r (now (stack .exit)) (now (back .exit)) ⌝ }
-{
-    let mut n = count;
-    let mut h = height;
-    let mut b = returns;
-    let mut place = start;
-    while n < budget {
-        let t = fast(
-            rom,
-            length,
-            wide,
-            &mut *stack,
-            &mut *back,
-            h,
-            b,
-            base,
-            place,
-        );
-        h = t.height;
-        b = t.returns;
-        place = t.place;
-        let fared = t.fared;
-        match fared {
-            Fared::On => n += 1,
-            Fared::Cold => return gone(n, Fared::Cold, h, b, place),
-            Fared::Not(why) => return gone(n, Fared::Not(why), h, b, place),
-        }
-    }
-    gone(n, Fared::On, h, b, place)
-}
-
-fn gone(count: u32, fared: Fared, height: usize, returns: usize, place: u32) -> Went
-    ensures { λ r. ⌜ r ≡ wentOf count fared height returns place ⌝ }
-{
-    Went {
-        count: count,
-        fared: fared,
-        height: height,
-        returns: returns,
-        place: place,
-    }
-}
-
-// The same on the numbers of a state.
-fn coast(
-    rom: &[u8],
-    cells: &mut [u32; 64],
-    back: &mut [u32; 32],
-    bases: &[usize; 16],
-    core: Core,
-    count: u32,
-    budget: u32,
-) -> Coasted
-    requires { ⌜ Coastable (now rom) (now bases) core × (count ≤ budget) ⌝ }
-    ensures { λ r. ⌜ Coasts (now (rom .entry)) (now (bases .entry)) count budget (now (cells .entry)) (now (back .entry)) core r (now (cells .exit)) (now (back .exit)) ⌝ }
-{
-    let w = glide(
-        rom,
-        core.length,
-        core.wide,
-        cells,
-        back,
-        core.height,
-        core.returns,
-        base(bases, core.frames),
-        core.place,
-        count,
-        budget,
-    );
-    let fared = w.fared;
-    let mut k = core;
-    k.height = w.height;
-    k.returns = w.returns;
-    k.place = w.place;
-    Coasted {
-        count: w.count,
-        fared: fared,
-        core: k,
     }
 }
 
@@ -232,48 +117,61 @@ fn cruise(
     let mut core = start;
     let mut n = 0;
     while n < budget {
-        let w = coast(rom, &mut *cells, &mut *back, &*bases, core, n, budget);
-        n = w.count;
-        core = w.core;
-        let fared = w.fared;
-        match fared {
-            Fared::On => return halted(Answer::Spent(n), n, core),
-            Fared::Not(why) => return halted(Answer::Refused(why), n, core),
-            Fared::Cold => {}
-        }
-        let r = cold_token(
+        let t = fast(
             rom,
-            &mut *work,
-            &mut *store,
+            core.length,
+            core.wide,
             &mut *cells,
-            &mut *places,
-            &mut *wides,
-            &mut *bases,
-            &mut *names,
-            &mut *kinds,
-            &mut *values,
-            &mut *ways,
-            &mut *parents,
-            &mut *owners,
-            &mut *titles,
-            &mut *sizes,
-            &mut slots,
-            &mut known,
-            core,
-            tail,
+            &mut *back,
+            core.height,
+            core.returns,
+            &*bases,
+            core.frames,
+            core.place,
         );
-        core = r.core;
-        tail = r.tail;
-        let told = r.told;
-        match told {
-            Told::On => {
-                n += 1;
-                if core.active == 0 {
-                    return halted(Answer::Refused(7), n, core);
+        core.height = t.height;
+        core.returns = t.returns;
+        core.place = t.place;
+        let fared = t.fared;
+        match fared {
+            Fared::On => n += 1,
+            Fared::Not(why) => return halted(Answer::Refused(why), n, core),
+            Fared::Cold => {
+                let r = cold_token(
+                    rom,
+                    &mut *work,
+                    &mut *store,
+                    &mut *cells,
+                    &mut *places,
+                    &mut *wides,
+                    &mut *bases,
+                    &mut *names,
+                    &mut *kinds,
+                    &mut *values,
+                    &mut *ways,
+                    &mut *parents,
+                    &mut *owners,
+                    &mut *titles,
+                    &mut *sizes,
+                    &mut slots,
+                    &mut known,
+                    core,
+                    tail,
+                );
+                core = r.core;
+                tail = r.tail;
+                let told = r.told;
+                match told {
+                    Told::On => {
+                        n += 1;
+                        if core.active == 0 {
+                            return halted(Answer::Refused(7), n, core);
+                        }
+                    }
+                    Told::Over => return halted(Answer::Finished, n + 1, core),
+                    Told::Not(why) => return halted(Answer::Refused(why), n, core),
                 }
             }
-            Told::Over => return halted(Answer::Finished, n + 1, core),
-            Told::Not(why) => return halted(Answer::Refused(why), n, core),
         }
     }
     halted(Answer::Spent(n), n, core)

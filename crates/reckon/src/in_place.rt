@@ -7,6 +7,7 @@ ghost use Prim.Native.Nat.{ℕ, _≤_, _<_, _+_};
 ghost use lib.ListN.{length};
 ghost use Rattle.rom.specs.Bytes.{byteOf, word32Of};
 ghost use Rattle.rom.specs.Branch.{aimOf, placeIn};
+ghost use Rattle.state.specs.Apart.{baseIn};
 ghost use Rattle.reckon.specs.Fast.{behindBranch, Holds, Reads, Fast};
 use crate::reckon::by_one;
 use crate::reckon::by_three;
@@ -37,6 +38,7 @@ use crate::turned::cold;
 use crate::turned::on;
 use crate::turned::refuse;
 use rom::destination;
+use state::base;
 
 fn behind_branch(wide: bool, place: u32) -> u32
     requires { ⌜ place ≤ 16384 ⌝ }
@@ -135,6 +137,7 @@ fn choose(
 
 // One token in place, of a state that is ready. The `match` is the one jump that a token costs: each arm gives its number as a literal,
 // so that the compiler makes code of its own of what is called there. A token that starts behind the program is cut off, whatever it is.
+// It has a parameter for each part of a state that one of them may ask for, since no struct is built for a token.
 pub fn fast(
     rom: &[u8],
     length: u32,
@@ -143,11 +146,12 @@ pub fn fast(
     back: &mut [u32; 32],
     h: usize,
     b: usize,
-    base: usize,
+    bases: &[usize; 16],
+    frames: usize,
     place: u32,
 ) -> Turned
-    requires { ⌜ (h ≤ 64) × (base ≤ b) × (b ≤ 32) × (8 ≤ place) × (place ≤ length) × (length ≤ 16384) × Holds (now rom) length ⌝ }
-    ensures { λ r. ⌜ Fast (now (rom .entry)) length wide base (now (stack .entry)) h (now (back .entry)) b place r (now (stack .exit)) (now (back .exit)) ⌝ }
+    requires { ⌜ (h ≤ 64) × (baseIn (now bases) frames ≤ b) × (b ≤ 32) × (8 ≤ place) × (place ≤ length) × (length ≤ 16384) × Holds (now rom) length ⌝ }
+    ensures { λ r. ⌜ Fast (now (rom .entry)) length wide (baseIn (now (bases .entry)) frames) (now (stack .entry)) h (now (back .entry)) b place r (now (stack .exit)) (now (back .exit)) ⌝ }
 {
     if length <= place {
         return refuse(10, h, b, place);
@@ -174,8 +178,8 @@ pub fn fast(
         0x2E => by_two(0x2E, stack, h, b, place), // min
         0x2F => by_two(0x2F, stack, h, b, place), // max
         0x30 => to_return(&*stack, back, h, b, place),
-        0x31 => from_return(stack, &*back, h, b, base, place),
-        0x32 => copy_return(stack, &*back, h, b, base, place),
+        0x31 => from_return(stack, &*back, h, b, base(bases, frames), place),
+        0x32 => copy_return(stack, &*back, h, b, base(bases, frames), place),
         0x34 => by_one(0x34, stack, h, b, place), // 0=
         0x35 => by_one(0x35, stack, h, b, place), // 0<>
         0x36 => by_one(0x36, stack, h, b, place), // 0<

@@ -3,6 +3,5 @@ pub mod Lookup
 pub mod Names
 pub mod Codes
 pub mod Wholes
-pub mod Glances
 pub mod Bodies
 pub mod Passes

@@ -13,6 +13,7 @@ pub mod Reader
 pub mod ReaderLaws
 pub mod Rows
 pub mod GlanceLaws
+pub mod GlanceForms
 pub mod Rules
 pub mod NameLaws
 pub mod Examples

@@ -1,24 +1,76 @@
+use Prim.Native.Nat.{ℕ, _+_, _*_, _<_}
 use Rattle.acts.proofs.Acting.{unread-turn, misplaced-turn}
-use Rattle.acts.specs.Acts.{everyOn}
-use Rattle.state.specs.Apart.{joined}
+use Rattle.acts.proofs.Coming.{plain-comes, glance-early, seen-early, seen-call, cut-early}
+use Rattle.acts.specs.Acts.{codeFor, everyOn}
+use Rattle.rom.specs.Bytes.{byteOf}
+use Rattle.state.specs.Apart.{Arrays, joined}
+use Rattle.tokens.specs.Code.{codeOf}
+use Rattle.tokens.specs.Family.{fetch, store, leave, call}
+use Rattle.tokens.specs.Glance.{seenAs, nothingSeen}
+use Rattle.tokens.specs.GlanceForms.{past-end}
+use Rattle.tokens.specs.Place.{misplacedOf}
+use Rattle.tokens.specs.Table.{ends, lows, highs, doubles, table, rowOf}
+use Rattle.tokens.specs.declared.decoding.Operand.the-variants.{Nothing}
+use borrow.Author.Tests.{lt-ltb}
 use denote.Ref.{now}
-use mathlib.Core.Path.{refl, sym, ap, _∙_}
+use mathlib.Core.List.{[]}
+use mathlib.Core.Path.{_≡_, refl, sym, ap, _∙_}
+use native.Mathlib.Omega.{arith}
 use borrow.Author.Needs.{needs}
 use Rattle.acts.proofs.dispatch.cold_token.Statement.{statement}
 use Rattle.acts.proofs.dispatch.cold_token.Tie as tie
 
 pub cold-token-spec : {M : Type 1} → statement M
+unfolding codeOf misplacedOf rowOf table ends lows highs doubles
 cold-token-spec =
     tie.close
     (tie.spec
     (λ c κs. search needs)
     (λ c κs. search needs)
+    (λ c. let x = c .before .before .before .before .before .before .before .args in rw (c .refuse .ensures, c .before .why-at .ensures) (λ a w. unread-turn (now (x .rom)) (now (x .work)) (now (x .store)) (joined (everyOn (now (x .cells)) (now (x .places)) (now (x .wides)) (now (x .bases)) (now (x .names)) (now (x .kinds)) (now (x .values)) (now (x .ways)) (now (x .parents)) (now (x .owners)) (now (x .titles)) (now (x .sizes)) a) (x .core)) nothingSeen (sym (past-end (now (x .rom)) (x .core .length) (x .core .wide) (x .core .place) (c .before .before .if1 .taken))) refl, c .before .before .before .before .before .before .before .pre .4))
+    (λ c. search needs)
     (λ c κs. search needs)
-    (λ c. rw (c .refuse .ensures, c .before .why-at .ensures) (λ a w. unread-turn (now (c .before .before .before .before .before .before .before .before .args .rom)) (now (c .before .before .before .before .before .before .before .before .args .work)) (now (c .before .before .before .before .before .before .before .before .args .store)) (joined (everyOn (now (c .before .before .before .before .before .before .before .before .args .cells)) (now (c .before .before .before .before .before .before .before .before .args .places)) (now (c .before .before .before .before .before .before .before .before .args .wides)) (now (c .before .before .before .before .before .before .before .before .args .bases)) (now (c .before .before .before .before .before .before .before .before .args .names)) (now (c .before .before .before .before .before .before .before .before .args .kinds)) (now (c .before .before .before .before .before .before .before .before .args .values)) (now (c .before .before .before .before .before .before .before .before .args .ways)) (now (c .before .before .before .before .before .before .before .before .args .parents)) (now (c .before .before .before .before .before .before .before .before .args .owners)) (now (c .before .before .before .before .before .before .before .before .args .titles)) (now (c .before .before .before .before .before .before .before .before .args .sizes)) a) (c .before .before .before .before .before .before .before .before .args .core)) (c .before .before .before .before .glance-at .result) (sym (c .before .before .before .before .glance-at .ensures)) (c .before .before .if1 .taken), c .before .before .before .before .before .before .before .before .pre .4))
+    (λ c. search needs)
     (λ c κs. search needs)
     (λ c κs. search needs)
-    (λ c. rw (c .refuse2 .ensures) (λ a w. misplaced-turn (now (c .before .before .before .before .before .before .before .before .before .before .args .rom)) (now (c .before .before .before .before .before .before .before .before .before .before .args .work)) (now (c .before .before .before .before .before .before .before .before .before .before .args .store)) (joined (everyOn (now (c .before .before .before .before .before .before .before .before .before .before .args .cells)) (now (c .before .before .before .before .before .before .before .before .before .before .args .places)) (now (c .before .before .before .before .before .before .before .before .before .before .args .wides)) (now (c .before .before .before .before .before .before .before .before .before .before .args .bases)) (now (c .before .before .before .before .before .before .before .before .before .before .args .names)) (now (c .before .before .before .before .before .before .before .before .before .before .args .kinds)) (now (c .before .before .before .before .before .before .before .before .before .before .args .values)) (now (c .before .before .before .before .before .before .before .before .before .before .args .ways)) (now (c .before .before .before .before .before .before .before .before .before .before .args .parents)) (now (c .before .before .before .before .before .before .before .before .before .before .args .owners)) (now (c .before .before .before .before .before .before .before .before .before .before .args .titles)) (now (c .before .before .before .before .before .before .before .before .before .before .args .sizes)) a) (c .before .before .before .before .before .before .before .before .before .before .args .core)) (c .before .before .before .before .before .before .glance-at .result) (sym (c .before .before .before .before .before .before .glance-at .ensures)) (sym (c .before .before .out-of-place .ensures) ∙ c .before .if2 .taken), c .before .before .before .before .before .before .before .before .before .before .pre .4))
-    (λ c κs. (c .before .before .before .before .before .before .before .before .before .before .before .before .before .before .before .before .before .before .before .before .before .before .before .before .before .pre .0, (sym (c .before .before .before .before .before .before .before .before .before .before .before .before .before .before .before .before .before .before .before .before .before .glance-at .ensures), c .before .before .before .before .before .before .before .before .before .before .before .before .before .before .before .before .before .before .before .if1 .left, sym (c .before .before .before .before .before .before .before .before .before .before .before .before .before .before .before .before .before .out-of-place .ensures) ∙ c .before .before .before .before .before .before .before .before .before .before .before .before .before .before .before .before .if2 .left), c .before .before .before .before .before .before .before .before .before .before .before .before .before .before .before .before .before .before .before .before .before .before .before .before .before .pre .1, c .before .before .before .before .before .before .before .before .before .before .before .before .before .before .before .before .before .before .before .before .before .before .before .before .before .pre .2, c .before .before .before .before .before .before .before .before .before .before .before .before .before .before .before .before .before .before .before .before .before .before .before .before .before .pre .3, c .before .before .before .before .before .before .before .before .before .before .before .before .before .before .before .before .before .before .before .before .before .before .before .before .before .pre .4))
+    (λ c. search needs)
+    (λ c κs. search needs)
+    (λ c κs. search needs)
+    (λ c. search needs)
+    (λ c κs. search needs)
+    (λ c κs. search needs)
+    (λ c. search needs)
+    (λ c κs. search needs)
+    (λ c κs. search needs)
+    (λ c κs. search needs)
+    (λ c. let x = c .before .before .before .before .before .before .before .before .before .before .args in let e = sym (sym (c .before .before .before .before .byte .ensures) ∙ c .before .before .before .match .keys5) in rw (c .refuse2 .ensures) (λ a w. misplaced-turn (now (x .rom)) (now (x .work)) (now (x .store)) (joined (everyOn (now (x .cells)) (now (x .places)) (now (x .wides)) (now (x .bases)) (now (x .names)) (now (x .kinds)) (now (x .values)) (now (x .ways)) (now (x .parents)) (now (x .owners)) (now (x .titles)) (now (x .sizes)) a) (x .core)) (seenAs (codeFor leave) 0xC2 (x .core .place + 1) 0 0) (glance-early (now (x .rom)) (x .core) 0xC2 e leave (c .before .before .before .before .before .if1 .left) refl refl (λ z. omega arith) refl) (rw (c .before .if2 .taken)), c .before .before .before .before .before .before .before .before .before .before .pre .4))
+    (λ c. search needs)
+    (λ c κs. search needs)
+    (λ c κs. search needs)
+    (λ c. search needs)
+    (λ c κs. search needs)
+    (λ c κs. search needs)
+    (λ c. let x = c .before .before .before .before .before .before .before .before .before .before .before .before .before .args in let h = c .before .before .before .before .before .if3 .left in let i = c .before .before .before .before .if4 .taken in rw (c .refuse3 .ensures, c .before .why-at2 .ensures) (λ a w. unread-turn (now (x .rom)) (now (x .work)) (now (x .store)) (joined (everyOn (now (x .cells)) (now (x .places)) (now (x .wides)) (now (x .bases)) (now (x .names)) (now (x .kinds)) (now (x .values)) (now (x .ways)) (now (x .parents)) (now (x .owners)) (now (x .titles)) (now (x .sizes)) a) (x .core)) nothingSeen (cut-early (now (x .rom)) (x .core) (c .before .before .before .before .before .before .before .byte .result) (c .before .before .before .before .before .before .before .byte .ensures) h (omega arith) (c .before .before .if5 .taken)) refl, c .before .before .before .before .before .before .before .before .before .before .before .before .before .pre .4))
     (λ c. search needs)
     (λ c. search needs)
-    (λ c. c .before .before .before .before .act .ensures))
+    (λ c. search needs)
+    (λ c κs. search needs)
+    (λ c. search needs)
+    (λ c. search needs)
+    (λ c. search needs)
+    (λ c κs. (c .before .before .before .before .before .before .before .before .before .before .before .before .before .before .before .before .before .before .before .before .before .pre .0 .0, c .before .before .before .before .before .before .before .before .before .before .before .before .before .before .before .before .before .before .before .before .before .pre .0 .1, c .before .before .before .before .before .before .before .before .before .before .before .before .before .before .before .before .before .before .before .before .before .pre .4 .0 [] [] .0))
+    (λ c κs. search needs)
+    (λ c κs. search needs)
+    (λ c. search needs)
+    (λ c. let x = c .before .before .before .before .before .before .before .before .before .before .before .args in let e = sym (sym (c .before .before .before .before .before .byte .ensures) ∙ c .before .before .before .before .match .keys1) in rw (c .with-tail .ensures) (plain-comes (now (x .rom)) (x .core) (seenAs (codeFor fetch) 0x6D (x .core .place + 1) 0 0) (seen-early (now (x .rom)) (x .core) 0x6D e fetch (c .before .before .before .before .before .before .if1 .left) refl refl (λ z. omega arith) refl refl) fetch refl (tt, tt, tt, tt, refl) (λ a. everyOn (now (x .cells)) (now (x .places)) (now (x .wides)) (now (x .bases)) (now (x .names)) (now (x .kinds)) (now (x .values)) (now (x .ways)) (now (x .parents)) (now (x .owners)) (now (x .titles)) (now (x .sizes)) a) _ (now (x .work)) (now (x .work)) (c .before .fetch-from .result) (λ a m. c .before .fetch-from .ensures (everyOn (now (x .cells)) (now (x .places)) (now (x .wides)) (now (x .bases)) (now (x .names)) (now (x .kinds)) (now (x .values)) (now (x .ways)) (now (x .parents)) (now (x .owners)) (now (x .titles)) (now (x .sizes)) a) Nothing m) (now (x .slots)) (now (x .known)) (now (x .names)) (now (x .kinds)) (now (x .store)) (now (x .titles)) (now (x .sizes)) (x .tail) (c .before .before .before .before .before .before .before .before .before .before .before .pre .4)))
+    (λ c. search needs)
+    (λ c. let x = c .before .before .before .before .before .before .before .before .before .before .before .args in let e = sym (sym (c .before .before .before .before .before .byte .ensures) ∙ c .before .before .before .before .match .keys2) in rw (c .with-tail2 .ensures) (plain-comes (now (x .rom)) (x .core) (seenAs (codeFor fetch) 0x71 (x .core .place + 1) 0 0) (seen-early (now (x .rom)) (x .core) 0x71 e fetch (c .before .before .before .before .before .before .if1 .left) refl refl (λ z. omega arith) refl refl) fetch refl (tt, tt, tt, tt, refl) (λ a. everyOn (now (x .cells)) (now (x .places)) (now (x .wides)) (now (x .bases)) (now (x .names)) (now (x .kinds)) (now (x .values)) (now (x .ways)) (now (x .parents)) (now (x .owners)) (now (x .titles)) (now (x .sizes)) a) _ (now (x .work)) (now (x .work)) (c .before .fetch-from2 .result) (λ a m. c .before .fetch-from2 .ensures (everyOn (now (x .cells)) (now (x .places)) (now (x .wides)) (now (x .bases)) (now (x .names)) (now (x .kinds)) (now (x .values)) (now (x .ways)) (now (x .parents)) (now (x .owners)) (now (x .titles)) (now (x .sizes)) a) Nothing m) (now (x .slots)) (now (x .known)) (now (x .names)) (now (x .kinds)) (now (x .store)) (now (x .titles)) (now (x .sizes)) (x .tail) (c .before .before .before .before .before .before .before .before .before .before .before .pre .4)))
+    (λ c. search needs)
+    (λ c. let x = c .before .before .before .before .before .before .before .before .before .before .before .before .before .args in let e = sym (sym (c .before .before .before .before .before .before .before .byte .ensures) ∙ c .before .before .before .before .before .before .match .keys3) in rw (c .with-tail3 .ensures) (plain-comes (now (x .rom)) (x .core) (seenAs (codeFor store) 0x72 (x .core .place + 1) 0 0) (seen-early (now (x .rom)) (x .core) 0x72 e store (c .before .before .before .before .before .before .before .before .if1 .left) refl refl (λ z. omega arith) refl refl) store refl (tt, tt, tt, tt, refl) (λ a. everyOn (now (x .cells)) (now (x .places)) (now (x .wides)) (now (x .bases)) (now (x .names)) (now (x .kinds)) (now (x .values)) (now (x .ways)) (now (x .parents)) (now (x .owners)) (now (x .titles)) (now (x .sizes)) a) (λ a. everyOn (now (x .cells)) (now (x .places)) (now (x .wides)) (now (x .bases)) (now (x .names)) (now (x .kinds)) (now (x .values)) (now (x .ways)) (now (x .parents)) (now (x .owners)) (now (x .titles)) (now (x .sizes)) a) (now (x .work)) _ (c .before .before .before .store-to .result) (λ a m. c .before .before .before .store-to .ensures (everyOn (now (x .cells)) (now (x .places)) (now (x .wides)) (now (x .bases)) (now (x .names)) (now (x .kinds)) (now (x .values)) (now (x .ways)) (now (x .parents)) (now (x .owners)) (now (x .titles)) (now (x .sizes)) a) Nothing (now (x .rom)) m) (now (x .slots)) (now (x .known)) (now (x .names)) (now (x .kinds)) (now (x .store)) (now (x .titles)) (now (x .sizes)) (x .tail) (c .before .before .before .before .before .before .before .before .before .before .before .before .before .pre .4)))
+    (λ c. search needs)
+    (λ c. let x = c .before .before .before .before .before .before .before .before .before .before .before .before .before .args in let e = sym (sym (c .before .before .before .before .before .before .before .byte .ensures) ∙ c .before .before .before .before .before .before .match .keys4) in rw (c .with-tail4 .ensures) (plain-comes (now (x .rom)) (x .core) (seenAs (codeFor store) 0x75 (x .core .place + 1) 0 0) (seen-early (now (x .rom)) (x .core) 0x75 e store (c .before .before .before .before .before .before .before .before .if1 .left) refl refl (λ z. omega arith) refl refl) store refl (tt, tt, tt, tt, refl) (λ a. everyOn (now (x .cells)) (now (x .places)) (now (x .wides)) (now (x .bases)) (now (x .names)) (now (x .kinds)) (now (x .values)) (now (x .ways)) (now (x .parents)) (now (x .owners)) (now (x .titles)) (now (x .sizes)) a) (λ a. everyOn (now (x .cells)) (now (x .places)) (now (x .wides)) (now (x .bases)) (now (x .names)) (now (x .kinds)) (now (x .values)) (now (x .ways)) (now (x .parents)) (now (x .owners)) (now (x .titles)) (now (x .sizes)) a) (now (x .work)) _ (c .before .before .before .store-to2 .result) (λ a m. c .before .before .before .store-to2 .ensures (everyOn (now (x .cells)) (now (x .places)) (now (x .wides)) (now (x .bases)) (now (x .names)) (now (x .kinds)) (now (x .values)) (now (x .ways)) (now (x .parents)) (now (x .owners)) (now (x .titles)) (now (x .sizes)) a) Nothing (now (x .rom)) m) (now (x .slots)) (now (x .known)) (now (x .names)) (now (x .kinds)) (now (x .store)) (now (x .titles)) (now (x .sizes)) (x .tail) (c .before .before .before .before .before .before .before .before .before .before .before .before .before .pre .4)))
+    (λ c. let x = c .before .before .before .before .before .before .before .before .before .before .before .before .before .before .args in let e = sym (sym (c .before .before .before .before .before .before .before .before .byte .ensures) ∙ c .before .before .before .before .before .before .before .match .keys5) in let n = c .before .before .before .before .before .if2 .left in rw (c .with-tail5 .ensures) (plain-comes (now (x .rom)) (x .core) (seenAs (codeFor leave) 0xC2 (x .core .place + 1) 0 0) (seen-early (now (x .rom)) (x .core) 0xC2 e leave (c .before .before .before .before .before .before .before .before .before .if1 .left) refl refl (λ z. omega arith) refl (rw (lt-ltb 0 (x .core .frames) (omega arith)))) leave refl (tt, tt, tt, tt, refl) (λ a. everyOn (now (x .cells)) (now (x .places)) (now (x .wides)) (now (x .bases)) (now (x .names)) (now (x .kinds)) (now (x .values)) (now (x .ways)) (now (x .parents)) (now (x .owners)) (now (x .titles)) (now (x .sizes)) a) (λ a. everyOn (now (x .cells)) (now (x .places)) (now (x .wides)) (now (x .bases)) (now (x .names)) (now (x .kinds)) (now (x .values)) (now (x .ways)) (now (x .parents)) (now (x .owners)) (now (x .titles)) (now (x .sizes)) a) (now (x .work)) (now (x .work)) (c .before .leave-body .result) (λ a m. c .before .leave-body .ensures (everyOn (now (x .cells)) (now (x .places)) (now (x .wides)) (now (x .bases)) (now (x .names)) (now (x .kinds)) (now (x .values)) (now (x .ways)) (now (x .parents)) (now (x .owners)) (now (x .titles)) (now (x .sizes)) a) Nothing 0xC2 (now (x .rom)) (now (x .work)) m) (now (x .slots)) (now (x .known)) (now (x .names)) (now (x .kinds)) (now (x .store)) (now (x .titles)) (now (x .sizes)) (x .tail) (c .before .before .before .before .before .before .before .before .before .before .before .before .before .before .pre .4)))
+    (λ c. let x = c .before .before .before .before .before .before .before .before .before .before .before .before .before .before .before .before .before .before .before .before .before .before .before .args in let h = c .before .before .before .before .before .before .before .before .before .before .before .before .before .before .before .if3 .left in let i = c .before .before .before .before .before .before .before .before .before .before .before .before .before .before .if4 .taken in let l = c .before .before .before .before .before .before .before .before .before .before .before .before .if5 .left in let s : byteOf (now (x .rom)) (x .core .place + 1) < 256 = rw (← (c .before .before .before .before .before .before .before .before .before .before .before .byte2 .ensures)) (c .before .before .before .before .before .before .before .before .before .before .before .byte2 .ok) in rw (c .with-tail6 .ensures) (plain-comes (now (x .rom)) (x .core) (seenAs (codeFor call) (c .before .before .before .before .before .before .before .before .before .before .before .before .before .before .before .before .before .byte .result * 256 + c .before .before .before .before .before .before .before .before .before .before .before .byte2 .result) (x .core .place + 2) 0 0) (seen-call (now (x .rom)) (x .core) (c .before .before .before .before .before .before .before .before .before .before .before .before .before .before .before .before .before .byte .result) (c .before .before .before .before .before .before .before .before .before .before .before .before .before .before .before .before .before .byte .ensures) (c .before .before .before .before .before .before .before .before .before .before .before .before .before .before .before .before .before .byte .result * 256 + c .before .before .before .before .before .before .before .before .before .before .before .byte2 .result) h (omega arith) s (ap (λ (n : ℕ). c .before .before .before .before .before .before .before .before .before .before .before .before .before .before .before .before .before .byte .result * 256 + n) (c .before .before .before .before .before .before .before .before .before .before .before .byte2 .ensures)) l) call refl (tt, tt, tt, tt, refl) (λ a. everyOn (now (x .cells)) (now (x .places)) (now (x .wides)) (now (x .bases)) (now (x .names)) (now (x .kinds)) (now (x .values)) (now (x .ways)) (now (x .parents)) (now (x .owners)) (now (x .titles)) (now (x .sizes)) a) _ (now (x .work)) (now (x .work)) (c .before .enter .result) (λ a m. c .before .enter .ensures (everyOn (now (x .cells)) (now (x .places)) (now (x .wides)) (now (x .bases)) (now (x .names)) (now (x .kinds)) (now (x .values)) (now (x .ways)) (now (x .parents)) (now (x .owners)) (now (x .titles)) (now (x .sizes)) a) Nothing (now (x .rom)) (now (x .work)) m) (now (x .slots)) (now (x .known)) (now (x .names)) (now (x .kinds)) (now (x .store)) (now (x .titles)) (now (x .sizes)) (x .tail) (c .before .before .before .before .before .before .before .before .before .before .before .before .before .before .before .before .before .before .before .before .before .before .before .pre .4)))
+    (λ c. search needs)
+    (λ c. search needs)
+    (λ c. search needs))

@@ -1,4 +1,4 @@
-use Rattle.tokens.proofs.Glances.{of-two, not-listed, of-none}
+use Rattle.tokens.specs.GlanceForms.{of-two, not-listed, of-none}
 use Rattle.tokens.proofs.Ranges.{bounds}
 use Rattle.tokens.specs.GlanceLaws.{double-plain}
 use denote.Ref.{now}

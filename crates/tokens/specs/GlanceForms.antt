@@ -1,19 +1,21 @@
--- A token at a glance, by what the code has found of it. Assumes nothing.
+-- A token at a glance, by what the code has found of it: its form, its first byte. Assumes nothing.
 use Prim.Native.Nat.{ℕ, _+_, _*_, _≤_, _<_}
 use mathlib.Core.Path.{_≡_, refl, sym, _∙_}
 use mathlib.Core.Bool.{Bool, true, false, not}
 use mathlib.Core.List.{List}
 use native.Mathlib.Omega.{arith}
-use borrow.Author.Tests.{eq-eqb, ne-eqb, le-ltb, lt-ltb}
-use lib.Dec.{T, eqb, ltb}
+use borrow.Author.Tests.{eq-eqb, ne-eqb, eqb-true, eqb-false, le-ltb, lt-ltb, leb-true}
+use lib.Dec.{T, eqb, ltb, leb}
 use Rattle.cells.specs.Choice.{pick}
+use Rattle.cells.specs.Facts.{and-first}
 use Rattle.rom.specs.Bytes.{byteOf}
-use Rattle.tokens.specs.Table.{ends, lows, highs, doubles, table}
-use Rattle.tokens.specs.Code.{codeOf, formIn}
+use Rattle.tokens.specs.Table.{ends, lows, highs, doubles, table, program, isProgram, rowOf}
+use Rattle.tokens.specs.Code.{packed, codeOf, formIn}
 use Rattle.tokens.specs.Decode.{isDouble, numberOf, behindNumber, behindString, behindOf}
 use Rattle.tokens.specs.Decode.{operandOf, listed, tokenOf, wholeOf, decodeOf}
 use Rattle.tokens.specs.Laws.{number-ahead, behind-ahead}
 use Rattle.tokens.specs.Rows.{code-fact}
+use Rattle.tokens.specs.GlanceLaws.{double-plain}
 use Rattle.tokens.specs.Glance.{seenAs, seenIn, nothingSeen, glanced, glanceOf}
 use Rattle.tokens.specs.Glance.{twoBytes, firstOf, seenFrom, endedOf, branchedOf, definedOf}
 use Rattle.tokens.specs.declared.decoding.Token.{Token}
@@ -127,3 +129,30 @@ module _ (rom : List ℕ) (length : ℕ) (wide : Bool) (p : ℕ) where
       → seenFrom rom length wide code n (p + 2) ≡ glanceOf rom length wide p
   unfolding glanceOf decodeOf seenFrom
   of-two b n code e d f c = rw (c, f, e, rw e at d)
+
+  -- what is seen at once: a token of one byte without operand, and a program number
+  pub seen-one : (b : ℕ) → b ≡ byteOf rom p → p < length → isDouble b ≡ false → (codeOf b ≡ 0 → ⊥) → formIn (codeOf b) ≡ 0
+      → glanceOf rom length wide p ≡ seenAs (codeOf b) b (p + 1) 0 0
+  seen-one b e l d z f =
+      sym (of-one b (codeOf b) e d refl) ∙ sym (of-none rom length wide (codeOf b) b (p + 1) z f)
+      ∙ sym (in-time length (codeOf b) b (p + 1) (omega arith))
+
+  -- a number of two bytes that is cut off, whatever it is
+  pub seen-cut : (b : ℕ) → b ≡ byteOf rom p → isDouble b ≡ true → length < p + 2 → nothingSeen ≡ glanceOf rom length wide p
+  seen-cut b e d l = by (b * 256 + byteOf rom (p + 1)) refl (eqb (codeOf (b * 256 + byteOf rom (p + 1))) 0) refl
+    where
+      by : (n : ℕ) → n ≡ b * 256 + byteOf rom (p + 1) → (z : Bool) → eqb (codeOf n) 0 ≡ z → nothingSeen ≡ glanceOf rom length wide p
+      by n q true z = not-listed rom length wide (codeOf n) n (p + 2) (eqb-true _ _ z) ∙ of-two b n (codeOf n) e d q refl
+      by n q false z =
+          let g = leb-true 1 b (and-first (leb 1 b) (leb b 0xF) d) in
+          let f : formIn (codeOf n) ≡ 0 = double-plain n (omega arith) in
+          let u : nothingSeen ≡ endedOf length (codeOf n) n (p + 2) = rw (lt-ltb _ _ l) in
+          u ∙ of-none rom length wide (codeOf n) n (p + 2) (eqb-false _ _ z) f ∙ of-two b n (codeOf n) e d q refl
+
+  pub seen-program : (b n : ℕ) → b ≡ byteOf rom p → isDouble b ≡ true → n ≡ b * 256 + byteOf rom (p + 1) → isProgram n ≡ true
+      → p + 2 ≤ length → glanceOf rom length wide p ≡ seenAs (packed program) n (p + 2) 0 0
+  unfolding codeOf rowOf
+  seen-program b n e d f q l =
+      let c : packed program ≡ codeOf n = rw q in
+      sym (of-two b n (packed program) e d f c) ∙ sym (of-none rom length wide (packed program) n (p + 2) (λ z. omega arith) refl)
+      ∙ sym (in-time length (packed program) n (p + 2) l)
