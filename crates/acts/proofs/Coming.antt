@@ -34,28 +34,37 @@ use Rattle.acts.proofs.Backs.{noArrays}
 abbrev pub Lean : ℕ → Type 0
 Lean f = T (cold f) × T (not (eqb f define)) × T (not (eqb f property)) × T (not (eqb f titled)) × (formIn (codeFor f) ≡ none)
 
-module _ (rom : List ℕ) (k : Core) (g : Glance) (s : Seen rom k g) (f : ℕ) (i : familyIn (g .code) ≡ f) (l : Lean f)
-    (on then : Arrays → Arrays) (work work′ : List ℕ) (r : Handed)
-    (h : (a : Arrays) (store : List ℕ) → turn (answerOf (r .told)) (joined (then a) (r .core)) work′ store
-    ≡ doneOf (scene rom work store (joined (on a) k)) (tokenOf (g .number) (codeFor f) Nothing (g .next))) where
-  came : (a : Arrays) (store : List ℕ)
-      → turn (answerOf (r .told)) (joined (then a) (r .core)) work′ store ≡ turnOf (scene rom work store (joined (on a) k))
-  came a store = plain-turn rom work store (joined (on a) k) g (s .0) (s .1) (s .2) f i (l .0) (l .1) (l .4) _ (h a store)
-
-  pub plain-comes : (slots known names kinds store titles sizes : List ℕ) (tail : Tail)
+module _ (rom : List ℕ) (k : Core) (g : Glance) (s : Seen rom k g) (f : ℕ) (i : familyIn (g .code) ≡ f) (on then : Arrays → Arrays)
+    (work work′ : List ℕ) (r : Handed) where
+  -- by the turn that it is, whatever its operand
+  pub quiet-comes : T (not (eqb f define)) → T (not (eqb f property)) → T (not (eqb f titled))
+      → ((a : Arrays) (store : List ℕ)
+      → turn (answerOf (r .told)) (joined (then a) (r .core)) work′ store ≡ turnOf (scene rom work store (joined (on a) k)))
+      → (slots known names kinds store titles sizes : List ℕ) (tail : Tail)
       → Kept slots known names kinds store titles sizes k tail
       → Comes rom on work store k (actedOf r tail) then work′ store × Kept slots known names kinds store titles sizes (r .core) tail
-  plain-comes slots known names kinds store titles sizes tail q =
-      let x = came noArrays store in
+  quiet-comes d p t h slots known names kinds store titles sizes tail q =
+      let x = h noArrays store in
       let y = joined (on noArrays) k in
-      let c = count-still rom work store y g (s .0) (s .1) (s .2) f i (l .1) _ x in
-      let h = records-still rom work store y g (s .0) (s .1) (s .2) f i (l .2) (l .3) _ x in (
-        λ a w. came a store,
+      let c = count-still rom work store y g (s .0) (s .1) (s .2) f i d _ x in
+      let l = records-still rom work store y g (s .0) (s .1) (s .2) f i p t _ x in (
+        λ a w. h a store,
         (
           subst (λ (n : ℕ). Tables slots known names kinds n) (sym c) (q .0),
-          subst (λ (n : ℕ). Tallied store titles sizes n tail) (sym h) (q .1),
+          subst (λ (n : ℕ). Tallied store titles sizes n tail) (sym l) (q .1),
         ),
       )
+
+  -- by what is done, without operand
+  pub plain-comes : Lean f
+      → ((a : Arrays) (store : List ℕ) → turn (answerOf (r .told)) (joined (then a) (r .core)) work′ store
+      ≡ doneOf (scene rom work store (joined (on a) k)) (tokenOf (g .number) (codeFor f) Nothing (g .next)))
+      → (slots known names kinds store titles sizes : List ℕ) (tail : Tail)
+      → Kept slots known names kinds store titles sizes k tail
+      → Comes rom on work store k (actedOf r tail) then work′ store × Kept slots known names kinds store titles sizes (r .core) tail
+  plain-comes l h =
+      quiet-comes (l .1) (l .2) (l .3)
+      (λ a store. plain-turn rom work store (joined (on a) k) g (s .0) (s .1) (s .2) f i (l .0) (l .1) (l .4) _ (h a store))
 
 -- ---- a token that is known by its first byte
 module _ (rom : List ℕ) (k : Core) (b : ℕ) (e : b ≡ byteOf rom (k .place)) where

@@ -90,7 +90,7 @@ pub fn put_named<'a>(
     file_kept(core, 4, next, kept)
 }
 
-// The property that a title token writes, with a null.
+// The property that a title token writes, with a null. It is lent the store and the arrays of the records.
 fn put_title(
     store: &mut [u8],
     owners: &mut [u32; 128],

@@ -27,19 +27,19 @@ abbrev μ-loop : tie.MeasureT-loop
 
 fill-tables-requires : tie.Need-fill-tables-requires Inv-loop μ-loop
 fill-tables-requires c κs =
-    (fit (scene (now (c .before .before .before .before .before .before .before .args .rom)) (now (c .before .before .before .before .before .before .before .args .work)) (now (c .before .before .before .before .before .before .before .args .store)) (joined (arrays (now (c .before .before .before .before .before .before .before .args .cells)) (now (c .before .before .before .before .before .before .before .args .back)) (now (c .before .before .before .before .before .before .before .args .places)) (now (c .before .before .before .before .before .before .before .args .wides)) (now (c .before .before .before .before .before .before .before .args .bases)) (now (c .before .before .before .before .before .before .before .args .names)) (now (c .before .before .before .before .before .before .before .args .kinds)) (now (c .before .before .before .before .before .before .before .args .values)) (now (c .before .before .before .before .before .before .before .args .ways)) (now (c .before .before .before .before .before .before .before .args .parents)) (now (c .before .before .before .before .before .before .before .args .owners)) (now (c .before .before .before .before .before .before .before .args .titles)) (now (c .before .before .before .before .before .before .before .args .sizes))) (c .before .before .before .before .before .before .before .args .start))) (c .before .before .before .before .before .before .before .pre .0) .1, refl, refl)
+    let x = c .before .before .before .before .before .before .before .args in (fit (scene (now (x .rom)) (now (x .work)) (now (x .store)) (joined (arrays (now (x .cells)) (now (x .back)) (now (x .places)) (now (x .wides)) (now (x .bases)) (now (x .names)) (now (x .kinds)) (now (x .values)) (now (x .ways)) (now (x .parents)) (now (x .owners)) (now (x .titles)) (now (x .sizes))) (x .start))) (c .before .before .before .before .before .before .before .pre .0) .1, refl, refl)
 
 tail-of-requires : tie.Need-tail-of-requires Inv-loop μ-loop
 tail-of-requires c κs =
-    (tallied-first ((scene (now (c .before .before .before .before .before .before .before .before .before .before .args .rom)) (now (c .before .before .before .before .before .before .before .before .before .before .args .work)) (now (c .before .before .before .before .before .before .before .before .before .before .args .store)) (joined (arrays (now (c .before .before .before .before .before .before .before .before .before .before .args .cells)) (now (c .before .before .before .before .before .before .before .before .before .before .args .back)) (now (c .before .before .before .before .before .before .before .before .before .before .args .places)) (now (c .before .before .before .before .before .before .before .before .before .before .args .wides)) (now (c .before .before .before .before .before .before .before .before .before .before .args .bases)) (now (c .before .before .before .before .before .before .before .before .before .before .args .names)) (now (c .before .before .before .before .before .before .before .before .before .before .args .kinds)) (now (c .before .before .before .before .before .before .before .before .before .before .args .values)) (now (c .before .before .before .before .before .before .before .before .before .before .args .ways)) (now (c .before .before .before .before .before .before .before .before .before .before .args .parents)) (now (c .before .before .before .before .before .before .before .before .before .before .args .owners)) (now (c .before .before .before .before .before .before .before .before .before .before .args .titles)) (now (c .before .before .before .before .before .before .before .before .before .before .args .sizes))) (c .before .before .before .before .before .before .before .before .before .before .args .start))) .state .tree) (now (c .before .before .before .before .before .before .before .before .before .before .args .store)) (c .before .before .before .before .before .before .before .before .before .before .pre .1 .tree) (tree-whole (scene (now (c .before .before .before .before .before .before .before .before .before .before .args .rom)) (now (c .before .before .before .before .before .before .before .before .before .before .args .work)) (now (c .before .before .before .before .before .before .before .before .before .before .args .store)) (joined (arrays (now (c .before .before .before .before .before .before .before .before .before .before .args .cells)) (now (c .before .before .before .before .before .before .before .before .before .before .args .back)) (now (c .before .before .before .before .before .before .before .before .before .before .args .places)) (now (c .before .before .before .before .before .before .before .before .before .before .args .wides)) (now (c .before .before .before .before .before .before .before .before .before .before .args .bases)) (now (c .before .before .before .before .before .before .before .before .before .before .args .names)) (now (c .before .before .before .before .before .before .before .before .before .before .args .kinds)) (now (c .before .before .before .before .before .before .before .before .before .before .args .values)) (now (c .before .before .before .before .before .before .before .before .before .before .args .ways)) (now (c .before .before .before .before .before .before .before .before .before .before .args .parents)) (now (c .before .before .before .before .before .before .before .before .before .before .args .owners)) (now (c .before .before .before .before .before .before .before .before .before .before .args .titles)) (now (c .before .before .before .before .before .before .before .before .before .before .args .sizes))) (c .before .before .before .before .before .before .before .before .before .before .args .start))) (c .before .before .before .before .before .before .before .before .before .before .pre .0)) (ready-facts (scene (now (c .before .before .before .before .before .before .before .before .before .before .args .rom)) (now (c .before .before .before .before .before .before .before .before .before .before .args .work)) (now (c .before .before .before .before .before .before .before .before .before .before .args .store)) (joined (arrays (now (c .before .before .before .before .before .before .before .before .before .before .args .cells)) (now (c .before .before .before .before .before .before .before .before .before .before .args .back)) (now (c .before .before .before .before .before .before .before .before .before .before .args .places)) (now (c .before .before .before .before .before .before .before .before .before .before .args .wides)) (now (c .before .before .before .before .before .before .before .before .before .before .args .bases)) (now (c .before .before .before .before .before .before .before .before .before .before .args .names)) (now (c .before .before .before .before .before .before .before .before .before .before .args .kinds)) (now (c .before .before .before .before .before .before .before .before .before .before .args .values)) (now (c .before .before .before .before .before .before .before .before .before .before .args .ways)) (now (c .before .before .before .before .before .before .before .before .before .before .args .parents)) (now (c .before .before .before .before .before .before .before .before .before .before .args .owners)) (now (c .before .before .before .before .before .before .before .before .before .before .args .titles)) (now (c .before .before .before .before .before .before .before .before .before .before .args .sizes))) (c .before .before .before .before .before .before .before .before .before .before .args .start))) (c .before .before .before .before .before .before .before .before .before .before .pre .0) .0 .store)) .3
+    let x = c .before .before .before .before .before .before .before .before .before .before .args in (tallied-first ((scene (now (x .rom)) (now (x .work)) (now (x .store)) (joined (arrays (now (x .cells)) (now (x .back)) (now (x .places)) (now (x .wides)) (now (x .bases)) (now (x .names)) (now (x .kinds)) (now (x .values)) (now (x .ways)) (now (x .parents)) (now (x .owners)) (now (x .titles)) (now (x .sizes))) (x .start))) .state .tree) (now (x .store)) (c .before .before .before .before .before .before .before .before .before .before .pre .1 .tree) (tree-whole (scene (now (x .rom)) (now (x .work)) (now (x .store)) (joined (arrays (now (x .cells)) (now (x .back)) (now (x .places)) (now (x .wides)) (now (x .bases)) (now (x .names)) (now (x .kinds)) (now (x .values)) (now (x .ways)) (now (x .parents)) (now (x .owners)) (now (x .titles)) (now (x .sizes))) (x .start))) (c .before .before .before .before .before .before .before .before .before .before .pre .0)) (ready-facts (scene (now (x .rom)) (now (x .work)) (now (x .store)) (joined (arrays (now (x .cells)) (now (x .back)) (now (x .places)) (now (x .wides)) (now (x .bases)) (now (x .names)) (now (x .kinds)) (now (x .values)) (now (x .ways)) (now (x .parents)) (now (x .owners)) (now (x .titles)) (now (x .sizes))) (x .start))) (c .before .before .before .before .before .before .before .before .before .before .pre .0) .0 .store)) .3
 
 loop-holds : tie.Need-loop-holds Inv-loop μ-loop
 loop-holds c =
-    ((search needs, refl, refl), begun (c .before .before .before .before .before .before .before .before .before .before .before .args .budget) (scene (now (c .before .before .before .before .before .before .before .before .before .before .before .args .rom)) (now (c .before .before .before .before .before .before .before .before .before .before .before .args .work)) (now (c .before .before .before .before .before .before .before .before .before .before .before .args .store)) (joined (arrays (now (c .before .before .before .before .before .before .before .before .before .before .before .args .cells)) (now (c .before .before .before .before .before .before .before .before .before .before .before .args .back)) (now (c .before .before .before .before .before .before .before .before .before .before .before .args .places)) (now (c .before .before .before .before .before .before .before .before .before .before .before .args .wides)) (now (c .before .before .before .before .before .before .before .before .before .before .before .args .bases)) (now (c .before .before .before .before .before .before .before .before .before .before .before .args .names)) (now (c .before .before .before .before .before .before .before .before .before .before .before .args .kinds)) (now (c .before .before .before .before .before .before .before .before .before .before .before .args .values)) (now (c .before .before .before .before .before .before .before .before .before .before .before .args .ways)) (now (c .before .before .before .before .before .before .before .before .before .before .before .args .parents)) (now (c .before .before .before .before .before .before .before .before .before .before .before .args .owners)) (now (c .before .before .before .before .before .before .before .before .before .before .before .args .titles)) (now (c .before .before .before .before .before .before .before .before .before .before .before .args .sizes))) (c .before .before .before .before .before .before .before .before .before .before .before .args .start))) (c .before .before .before .before .before .before .before .before .before .before .before .pre .0) (c .before .before .before .before .before .before .before .before .before .before .before .pre .1), (c .before .before .before .fill-tables .ensures, rw (c .tail-of .ensures) (tallied-first ((scene (now (c .before .before .before .before .before .before .before .before .before .before .before .args .rom)) (now (c .before .before .before .before .before .before .before .before .before .before .before .args .work)) (now (c .before .before .before .before .before .before .before .before .before .before .before .args .store)) (joined (arrays (now (c .before .before .before .before .before .before .before .before .before .before .before .args .cells)) (now (c .before .before .before .before .before .before .before .before .before .before .before .args .back)) (now (c .before .before .before .before .before .before .before .before .before .before .before .args .places)) (now (c .before .before .before .before .before .before .before .before .before .before .before .args .wides)) (now (c .before .before .before .before .before .before .before .before .before .before .before .args .bases)) (now (c .before .before .before .before .before .before .before .before .before .before .before .args .names)) (now (c .before .before .before .before .before .before .before .before .before .before .before .args .kinds)) (now (c .before .before .before .before .before .before .before .before .before .before .before .args .values)) (now (c .before .before .before .before .before .before .before .before .before .before .before .args .ways)) (now (c .before .before .before .before .before .before .before .before .before .before .before .args .parents)) (now (c .before .before .before .before .before .before .before .before .before .before .before .args .owners)) (now (c .before .before .before .before .before .before .before .before .before .before .before .args .titles)) (now (c .before .before .before .before .before .before .before .before .before .before .before .args .sizes))) (c .before .before .before .before .before .before .before .before .before .before .before .args .start))) .state .tree) (now (c .before .before .before .before .before .before .before .before .before .before .before .args .store)) (c .before .before .before .before .before .before .before .before .before .before .before .pre .1 .tree) (tree-whole (scene (now (c .before .before .before .before .before .before .before .before .before .before .before .args .rom)) (now (c .before .before .before .before .before .before .before .before .before .before .before .args .work)) (now (c .before .before .before .before .before .before .before .before .before .before .before .args .store)) (joined (arrays (now (c .before .before .before .before .before .before .before .before .before .before .before .args .cells)) (now (c .before .before .before .before .before .before .before .before .before .before .before .args .back)) (now (c .before .before .before .before .before .before .before .before .before .before .before .args .places)) (now (c .before .before .before .before .before .before .before .before .before .before .before .args .wides)) (now (c .before .before .before .before .before .before .before .before .before .before .before .args .bases)) (now (c .before .before .before .before .before .before .before .before .before .before .before .args .names)) (now (c .before .before .before .before .before .before .before .before .before .before .before .args .kinds)) (now (c .before .before .before .before .before .before .before .before .before .before .before .args .values)) (now (c .before .before .before .before .before .before .before .before .before .before .before .args .ways)) (now (c .before .before .before .before .before .before .before .before .before .before .before .args .parents)) (now (c .before .before .before .before .before .before .before .before .before .before .before .args .owners)) (now (c .before .before .before .before .before .before .before .before .before .before .before .args .titles)) (now (c .before .before .before .before .before .before .before .before .before .before .before .args .sizes))) (c .before .before .before .before .before .before .before .before .before .before .before .args .start))) (c .before .before .before .before .before .before .before .before .before .before .before .pre .0)) (ready-facts (scene (now (c .before .before .before .before .before .before .before .before .before .before .before .args .rom)) (now (c .before .before .before .before .before .before .before .before .before .before .before .args .work)) (now (c .before .before .before .before .before .before .before .before .before .before .before .args .store)) (joined (arrays (now (c .before .before .before .before .before .before .before .before .before .before .before .args .cells)) (now (c .before .before .before .before .before .before .before .before .before .before .before .args .back)) (now (c .before .before .before .before .before .before .before .before .before .before .before .args .places)) (now (c .before .before .before .before .before .before .before .before .before .before .before .args .wides)) (now (c .before .before .before .before .before .before .before .before .before .before .before .args .bases)) (now (c .before .before .before .before .before .before .before .before .before .before .before .args .names)) (now (c .before .before .before .before .before .before .before .before .before .before .before .args .kinds)) (now (c .before .before .before .before .before .before .before .before .before .before .before .args .values)) (now (c .before .before .before .before .before .before .before .before .before .before .before .args .ways)) (now (c .before .before .before .before .before .before .before .before .before .before .before .args .parents)) (now (c .before .before .before .before .before .before .before .before .before .before .before .args .owners)) (now (c .before .before .before .before .before .before .before .before .before .before .before .args .titles)) (now (c .before .before .before .before .before .before .before .before .before .before .before .args .sizes))) (c .before .before .before .before .before .before .before .before .before .before .before .args .start))) (c .before .before .before .before .before .before .before .before .before .before .before .pre .0) .0 .store))))
+    let x = c .before .before .before .before .before .before .before .before .before .before .before .args in ((search needs, refl, refl), begun (x .budget) (scene (now (x .rom)) (now (x .work)) (now (x .store)) (joined (arrays (now (x .cells)) (now (x .back)) (now (x .places)) (now (x .wides)) (now (x .bases)) (now (x .names)) (now (x .kinds)) (now (x .values)) (now (x .ways)) (now (x .parents)) (now (x .owners)) (now (x .titles)) (now (x .sizes))) (x .start))) (c .before .before .before .before .before .before .before .before .before .before .before .pre .0) (c .before .before .before .before .before .before .before .before .before .before .before .pre .1), (c .before .before .before .fill-tables .ensures, rw (c .tail-of .ensures) (tallied-first ((scene (now (x .rom)) (now (x .work)) (now (x .store)) (joined (arrays (now (x .cells)) (now (x .back)) (now (x .places)) (now (x .wides)) (now (x .bases)) (now (x .names)) (now (x .kinds)) (now (x .values)) (now (x .ways)) (now (x .parents)) (now (x .owners)) (now (x .titles)) (now (x .sizes))) (x .start))) .state .tree) (now (x .store)) (c .before .before .before .before .before .before .before .before .before .before .before .pre .1 .tree) (tree-whole (scene (now (x .rom)) (now (x .work)) (now (x .store)) (joined (arrays (now (x .cells)) (now (x .back)) (now (x .places)) (now (x .wides)) (now (x .bases)) (now (x .names)) (now (x .kinds)) (now (x .values)) (now (x .ways)) (now (x .parents)) (now (x .owners)) (now (x .titles)) (now (x .sizes))) (x .start))) (c .before .before .before .before .before .before .before .before .before .before .before .pre .0)) (ready-facts (scene (now (x .rom)) (now (x .work)) (now (x .store)) (joined (arrays (now (x .cells)) (now (x .back)) (now (x .places)) (now (x .wides)) (now (x .bases)) (now (x .names)) (now (x .kinds)) (now (x .values)) (now (x .ways)) (now (x .parents)) (now (x .owners)) (now (x .titles)) (now (x .sizes))) (x .start))) (c .before .before .before .before .before .before .before .before .before .before .before .pre .0) .0 .store))))
 
 fast-requires : tie.Need-fast-requires Inv-loop μ-loop
 fast-requires c κs =
-    hot-fit (scene (now (c .before .before .before .before .before .before .before .before .before .before .before .before .before .before .before .before .args .rom)) (c .before .before .before .before .loop .work) (c .before .before .before .before .loop .store) (joined (arrays (c .before .before .before .before .loop .cells) (c .before .before .before .before .loop .back) (c .before .before .before .before .loop .places) (c .before .before .before .before .loop .wides) (c .before .before .before .before .loop .bases) (c .before .before .before .before .loop .names) (c .before .before .before .before .loop .kinds) (c .before .before .before .before .loop .values) (c .before .before .before .before .loop .ways) (c .before .before .before .before .loop .parents) (c .before .before .before .before .loop .owners) (c .before .before .before .before .loop .titles) (c .before .before .before .before .loop .sizes)) (c .before .before .before .before .loop .core))) (c .before .before .before .before .loop .inv .1 .0)
+    let x = c .before .before .before .before .before .before .before .before .before .before .before .before .before .before .before .before .args in let l = c .before .before .before .before .loop in hot-fit (scene (now (x .rom)) (l .work) (l .store) (joined (arrays (l .cells) (l .back) (l .places) (l .wides) (l .bases) (l .names) (l .kinds) (l .values) (l .ways) (l .parents) (l .owners) (l .titles) (l .sizes)) (l .core))) (l .inv .1 .0)
 
 enum-told : tie.Need-enum-told Inv-loop μ-loop
 enum-told c =
@@ -47,15 +47,15 @@ enum-told c =
 
 add-n : tie.Need-add-n Inv-loop μ-loop
 add-n c =
-    let l = c .before .before .before .before .before .before .loop-test .taken in let f = c .before .before .before .before .before .before .before .before .before .before .before .before .before .before .before .before .before .before .before .fits .budget in omega arith
+    let lt = c .before .before .before .before .before .before .loop-test .taken in let most = c .before .before .before .before .before .before .before .before .before .before .before .before .before .before .before .before .before .before .before .fits .budget in omega arith
 
 loop-less : tie.Need-loop-less Inv-loop μ-loop
 loop-less c =
-    let l = c .before .before .before .before .before .before .loop-test .taken in omega arith
+    let lt = c .before .before .before .before .before .before .loop-test .taken in omega arith
 
 loop-again : tie.Need-loop-again Inv-loop μ-loop
 loop-again c =
-    let l = c .before .before .before .before .before .before .loop-test .taken in ((omega arith, c .before .before .before .before .before .before .before .loop .inv .0 .1, c .before .before .before .before .before .before .before .loop .inv .0 .2), hot-goes (c .before .before .before .before .before .before .before .before .before .before .before .before .before .before .before .before .before .before .before .args .budget) (c .before .before .before .before .before .before .before .loop .n) _ (scene (now (c .before .before .before .before .before .before .before .before .before .before .before .before .before .before .before .before .before .before .before .args .rom)) (c .before .before .before .before .before .before .before .loop .work) (c .before .before .before .before .before .before .before .loop .store) (joined (arrays (c .before .before .before .before .before .before .before .loop .cells) (c .before .before .before .before .before .before .before .loop .back) (c .before .before .before .before .before .before .before .loop .places) (c .before .before .before .before .before .before .before .loop .wides) (c .before .before .before .before .before .before .before .loop .bases) (c .before .before .before .before .before .before .before .loop .names) (c .before .before .before .before .before .before .before .loop .kinds) (c .before .before .before .before .before .before .before .loop .values) (c .before .before .before .before .before .before .before .loop .ways) (c .before .before .before .before .before .before .before .loop .parents) (c .before .before .before .before .before .before .before .loop .owners) (c .before .before .before .before .before .before .before .loop .titles) (c .before .before .before .before .before .before .before .loop .sizes)) (c .before .before .before .before .before .before .before .loop .core))) (c .before .before .before .before .before .before .before .loop .inv .1) (c .before .before .before .before .before .before .loop-test .taken) (c .before .before .fast .result) _ _ (c .before .before .fast .ensures) (c .enum-told .given .1), c .before .before .before .before .before .before .before .loop .inv .2)
+    let lt = c .before .before .before .before .before .before .loop-test .taken in ((omega arith, c .before .before .before .before .before .before .before .loop .inv .0 .1, c .before .before .before .before .before .before .before .loop .inv .0 .2), (let x = c .before .before .before .before .before .before .before .before .before .before .before .before .before .before .before .before .before .before .before .args in let l = c .before .before .before .before .before .before .before .loop in let f = c .before .before .fast in hot-goes (x .budget) (l .n) _ (scene (now (x .rom)) (l .work) (l .store) (joined (arrays (l .cells) (l .back) (l .places) (l .wides) (l .bases) (l .names) (l .kinds) (l .values) (l .ways) (l .parents) (l .owners) (l .titles) (l .sizes)) (l .core))) (l .inv .1) (c .before .before .before .before .before .before .loop-test .taken) (f .result) _ _ (f .ensures) (c .enum-told .given .1)), c .before .before .before .before .before .before .before .loop .inv .2)
 
 enum-known-fared : tie.Need-enum-known-fared Inv-loop μ-loop
 enum-known-fared c =
@@ -67,15 +67,15 @@ halted-requires c κs =
 
 same-length : tie.Need-same-length Inv-loop μ-loop
 same-length c =
-    c .before .before .before .before .before .before .before .before .before .loop .inv .0 .1
+    let l = c .before .before .before .before .before .before .before .before .before .loop in l .inv .0 .1
 
 same-length-2 : tie.Need-same-length-2 Inv-loop μ-loop
 same-length-2 c =
-    c .before .before .before .before .before .before .before .before .before .loop .inv .0 .2
+    let l = c .before .before .before .before .before .before .before .before .before .loop in l .inv .0 .2
 
 returns : tie.Need-returns Inv-loop μ-loop
 returns c =
-    rw (c .halted .ensures) (hot-refused (c .before .before .before .before .before .before .before .before .before .before .before .before .before .before .before .before .before .before .before .before .before .args .budget) (c .before .before .before .before .before .before .before .before .before .loop .n) _ (scene (now (c .before .before .before .before .before .before .before .before .before .before .before .before .before .before .before .before .before .before .before .before .before .args .rom)) (c .before .before .before .before .before .before .before .before .before .loop .work) (c .before .before .before .before .before .before .before .before .before .loop .store) (joined (arrays (c .before .before .before .before .before .before .before .before .before .loop .cells) (c .before .before .before .before .before .before .before .before .before .loop .back) (c .before .before .before .before .before .before .before .before .before .loop .places) (c .before .before .before .before .before .before .before .before .before .loop .wides) (c .before .before .before .before .before .before .before .before .before .loop .bases) (c .before .before .before .before .before .before .before .before .before .loop .names) (c .before .before .before .before .before .before .before .before .before .loop .kinds) (c .before .before .before .before .before .before .before .before .before .loop .values) (c .before .before .before .before .before .before .before .before .before .loop .ways) (c .before .before .before .before .before .before .before .before .before .loop .parents) (c .before .before .before .before .before .before .before .before .before .loop .owners) (c .before .before .before .before .before .before .before .before .before .loop .titles) (c .before .before .before .before .before .before .before .before .before .loop .sizes)) (c .before .before .before .before .before .before .before .before .before .loop .core))) (c .before .before .before .before .before .before .before .before .before .loop .inv .1) (c .before .before .before .before .before .before .before .before .loop-test .taken) (c .before .before .before .before .fast .result) _ _ (c .before .before .before .before .fast .ensures) _ (c .before .before .fared .given .1))
+    let x = c .before .before .before .before .before .before .before .before .before .before .before .before .before .before .before .before .before .before .before .before .before .args in let l = c .before .before .before .before .before .before .before .before .before .loop in let f = c .before .before .before .before .fast in rw (c .halted .ensures) (hot-refused (x .budget) (l .n) _ (scene (now (x .rom)) (l .work) (l .store) (joined (arrays (l .cells) (l .back) (l .places) (l .wides) (l .bases) (l .names) (l .kinds) (l .values) (l .ways) (l .parents) (l .owners) (l .titles) (l .sizes)) (l .core))) (l .inv .1) (c .before .before .before .before .before .before .before .before .loop-test .taken) (f .result) _ _ (f .ensures) _ (c .before .before .fared .given .1))
 
 enum-told-2 : tie.Need-enum-told-2 Inv-loop μ-loop
 enum-told-2 c =
@@ -83,7 +83,7 @@ enum-told-2 c =
 
 cold-token-requires : tie.Need-cold-token-requires Inv-loop μ-loop
 cold-token-requires c κs =
-    let h = hot-left (c .before .before .before .before .before .before .before .before .before .before .before .before .before .before .before .before .before .before .before .before .before .before .before .before .before .before .before .before .before .before .before .before .before .before .before .args .budget) (c .before .before .before .before .before .before .before .before .before .before .before .before .before .before .before .before .before .before .before .before .before .before .before .loop .n) _ (scene (now (c .before .before .before .before .before .before .before .before .before .before .before .before .before .before .before .before .before .before .before .before .before .before .before .before .before .before .before .before .before .before .before .before .before .before .before .args .rom)) (c .before .before .before .before .before .before .before .before .before .before .before .before .before .before .before .before .before .before .before .before .before .before .before .loop .work) (c .before .before .before .before .before .before .before .before .before .before .before .before .before .before .before .before .before .before .before .before .before .before .before .loop .store) (joined (arrays (c .before .before .before .before .before .before .before .before .before .before .before .before .before .before .before .before .before .before .before .before .before .before .before .loop .cells) (c .before .before .before .before .before .before .before .before .before .before .before .before .before .before .before .before .before .before .before .before .before .before .before .loop .back) (c .before .before .before .before .before .before .before .before .before .before .before .before .before .before .before .before .before .before .before .before .before .before .before .loop .places) (c .before .before .before .before .before .before .before .before .before .before .before .before .before .before .before .before .before .before .before .before .before .before .before .loop .wides) (c .before .before .before .before .before .before .before .before .before .before .before .before .before .before .before .before .before .before .before .before .before .before .before .loop .bases) (c .before .before .before .before .before .before .before .before .before .before .before .before .before .before .before .before .before .before .before .before .before .before .before .loop .names) (c .before .before .before .before .before .before .before .before .before .before .before .before .before .before .before .before .before .before .before .before .before .before .before .loop .kinds) (c .before .before .before .before .before .before .before .before .before .before .before .before .before .before .before .before .before .before .before .before .before .before .before .loop .values) (c .before .before .before .before .before .before .before .before .before .before .before .before .before .before .before .before .before .before .before .before .before .before .before .loop .ways) (c .before .before .before .before .before .before .before .before .before .before .before .before .before .before .before .before .before .before .before .before .before .before .before .loop .parents) (c .before .before .before .before .before .before .before .before .before .before .before .before .before .before .before .before .before .before .before .before .before .before .before .loop .owners) (c .before .before .before .before .before .before .before .before .before .before .before .before .before .before .before .before .before .before .before .before .before .before .before .loop .titles) (c .before .before .before .before .before .before .before .before .before .before .before .before .before .before .before .before .before .before .before .before .before .before .before .loop .sizes)) (c .before .before .before .before .before .before .before .before .before .before .before .before .before .before .before .before .before .before .before .before .before .before .before .loop .core))) (c .before .before .before .before .before .before .before .before .before .before .before .before .before .before .before .before .before .before .before .before .before .before .before .loop .inv .1) (c .before .before .before .before .before .before .before .before .before .before .before .before .before .before .before .before .before .before .before .before .before .before .loop-test .taken) (c .before .before .before .before .before .before .before .before .before .before .before .before .before .before .before .before .before .before .fast .result) _ _ (c .before .before .before .before .before .before .before .before .before .before .before .before .before .before .before .before .before .before .fast .ensures) (c .before .before .before .before .before .before .before .before .before .before .before .before .before .before .before .before .enum-told2 .given .1) in let i = h .0 in (fit _ (i .0), h .1, i .1 .numbers .names, i .1 .numbers .kinds, c .before .before .before .before .before .before .before .before .before .before .before .before .before .before .before .before .before .before .before .before .before .before .before .loop .inv .2)
+    let x = c .before .before .before .before .before .before .before .before .before .before .before .before .before .before .before .before .before .before .before .before .before .before .before .before .before .before .before .before .before .before .before .before .before .before .before .args in let l = c .before .before .before .before .before .before .before .before .before .before .before .before .before .before .before .before .before .before .before .before .before .before .before .loop in let f = c .before .before .before .before .before .before .before .before .before .before .before .before .before .before .before .before .before .before .fast in let h = hot-left (x .budget) (l .n) _ (scene (now (x .rom)) (l .work) (l .store) (joined (arrays (l .cells) (l .back) (l .places) (l .wides) (l .bases) (l .names) (l .kinds) (l .values) (l .ways) (l .parents) (l .owners) (l .titles) (l .sizes)) (l .core))) (l .inv .1) (c .before .before .before .before .before .before .before .before .before .before .before .before .before .before .before .before .before .before .before .before .before .before .loop-test .taken) (f .result) _ _ (f .ensures) (c .before .before .before .before .before .before .before .before .before .before .before .before .before .before .before .before .enum-told2 .given .1) in let i = h .0 in (fit _ (i .0), h .1, i .1 .numbers .names, i .1 .numbers .kinds, l .inv .2)
 
 enum-told-3 : tie.Need-enum-told-3 Inv-loop μ-loop
 enum-told-3 c =
@@ -91,7 +91,7 @@ enum-told-3 c =
 
 add-n-2 : tie.Need-add-n-2 Inv-loop μ-loop
 add-n-2 c =
-    let l = c .before .before .before .before .before .before .before .before .before .before .before .before .before .before .before .before .before .before .before .before .before .before .before .before .before .before .before .before .before .before .before .loop-test .taken in let f = c .before .before .before .before .before .before .before .before .before .before .before .before .before .before .before .before .before .before .before .before .before .before .before .before .before .before .before .before .before .before .before .before .before .before .before .before .before .before .before .before .before .before .before .before .fits .budget in omega arith
+    let lt = c .before .before .before .before .before .before .before .before .before .before .before .before .before .before .before .before .before .before .before .before .before .before .before .before .before .before .before .before .before .before .before .loop-test .taken in let most = c .before .before .before .before .before .before .before .before .before .before .before .before .before .before .before .before .before .before .before .before .before .before .before .before .before .before .before .before .before .before .before .before .before .before .before .before .before .before .before .before .before .before .before .before .fits .budget in omega arith
 
 halted-requires-2 : tie.Need-halted-requires-2 Inv-loop μ-loop
 halted-requires-2 c κs =
@@ -99,23 +99,23 @@ halted-requires-2 c κs =
 
 same-length-3 : tie.Need-same-length-3 Inv-loop μ-loop
 same-length-3 c =
-    c .before .before .before .before .before .before .before .before .before .before .before .cold-token .kept .1 .0 ∙ c .before .before .before .before .before .before .before .before .before .before .before .before .before .before .before .before .before .before .before .before .before .before .before .before .before .before .before .before .before .before .before .before .before .before .before .loop .inv .0 .1
+    let l = c .before .before .before .before .before .before .before .before .before .before .before .before .before .before .before .before .before .before .before .before .before .before .before .before .before .before .before .before .before .before .before .before .before .before .before .loop in let t = c .before .before .before .before .before .before .before .before .before .before .before .cold-token in t .kept .1 .0 ∙ l .inv .0 .1
 
 same-length-4 : tie.Need-same-length-4 Inv-loop μ-loop
 same-length-4 c =
-    c .before .before .before .before .before .before .before .before .before .before .before .cold-token .kept .1 .1 .0 ∙ c .before .before .before .before .before .before .before .before .before .before .before .before .before .before .before .before .before .before .before .before .before .before .before .before .before .before .before .before .before .before .before .before .before .before .before .loop .inv .0 .2
+    let l = c .before .before .before .before .before .before .before .before .before .before .before .before .before .before .before .before .before .before .before .before .before .before .before .before .before .before .before .before .before .before .before .before .before .before .before .loop in let t = c .before .before .before .before .before .before .before .before .before .before .before .cold-token in t .kept .1 .1 .0 ∙ l .inv .0 .2
 
 returns-2 : tie.Need-returns-2 Inv-loop μ-loop
 returns-2 c =
-    let h = hot-left (c .before .before .before .before .before .before .before .before .before .before .before .before .before .before .before .before .before .before .before .before .before .before .before .before .before .before .before .before .before .before .before .before .before .before .before .before .before .before .before .before .before .before .before .before .before .before .before .args .budget) (c .before .before .before .before .before .before .before .before .before .before .before .before .before .before .before .before .before .before .before .before .before .before .before .before .before .before .before .before .before .before .before .before .before .before .before .loop .n) _ (scene (now (c .before .before .before .before .before .before .before .before .before .before .before .before .before .before .before .before .before .before .before .before .before .before .before .before .before .before .before .before .before .before .before .before .before .before .before .before .before .before .before .before .before .before .before .before .before .before .before .args .rom)) (c .before .before .before .before .before .before .before .before .before .before .before .before .before .before .before .before .before .before .before .before .before .before .before .before .before .before .before .before .before .before .before .before .before .before .before .loop .work) (c .before .before .before .before .before .before .before .before .before .before .before .before .before .before .before .before .before .before .before .before .before .before .before .before .before .before .before .before .before .before .before .before .before .before .before .loop .store) (joined (arrays (c .before .before .before .before .before .before .before .before .before .before .before .before .before .before .before .before .before .before .before .before .before .before .before .before .before .before .before .before .before .before .before .before .before .before .before .loop .cells) (c .before .before .before .before .before .before .before .before .before .before .before .before .before .before .before .before .before .before .before .before .before .before .before .before .before .before .before .before .before .before .before .before .before .before .before .loop .back) (c .before .before .before .before .before .before .before .before .before .before .before .before .before .before .before .before .before .before .before .before .before .before .before .before .before .before .before .before .before .before .before .before .before .before .before .loop .places) (c .before .before .before .before .before .before .before .before .before .before .before .before .before .before .before .before .before .before .before .before .before .before .before .before .before .before .before .before .before .before .before .before .before .before .before .loop .wides) (c .before .before .before .before .before .before .before .before .before .before .before .before .before .before .before .before .before .before .before .before .before .before .before .before .before .before .before .before .before .before .before .before .before .before .before .loop .bases) (c .before .before .before .before .before .before .before .before .before .before .before .before .before .before .before .before .before .before .before .before .before .before .before .before .before .before .before .before .before .before .before .before .before .before .before .loop .names) (c .before .before .before .before .before .before .before .before .before .before .before .before .before .before .before .before .before .before .before .before .before .before .before .before .before .before .before .before .before .before .before .before .before .before .before .loop .kinds) (c .before .before .before .before .before .before .before .before .before .before .before .before .before .before .before .before .before .before .before .before .before .before .before .before .before .before .before .before .before .before .before .before .before .before .before .loop .values) (c .before .before .before .before .before .before .before .before .before .before .before .before .before .before .before .before .before .before .before .before .before .before .before .before .before .before .before .before .before .before .before .before .before .before .before .loop .ways) (c .before .before .before .before .before .before .before .before .before .before .before .before .before .before .before .before .before .before .before .before .before .before .before .before .before .before .before .before .before .before .before .before .before .before .before .loop .parents) (c .before .before .before .before .before .before .before .before .before .before .before .before .before .before .before .before .before .before .before .before .before .before .before .before .before .before .before .before .before .before .before .before .before .before .before .loop .owners) (c .before .before .before .before .before .before .before .before .before .before .before .before .before .before .before .before .before .before .before .before .before .before .before .before .before .before .before .before .before .before .before .before .before .before .before .loop .titles) (c .before .before .before .before .before .before .before .before .before .before .before .before .before .before .before .before .before .before .before .before .before .before .before .before .before .before .before .before .before .before .before .before .before .before .before .loop .sizes)) (c .before .before .before .before .before .before .before .before .before .before .before .before .before .before .before .before .before .before .before .before .before .before .before .before .before .before .before .before .before .before .before .before .before .before .before .loop .core))) (c .before .before .before .before .before .before .before .before .before .before .before .before .before .before .before .before .before .before .before .before .before .before .before .before .before .before .before .before .before .before .before .before .before .before .before .loop .inv .1) (c .before .before .before .before .before .before .before .before .before .before .before .before .before .before .before .before .before .before .before .before .before .before .before .before .before .before .before .before .before .before .before .before .before .before .loop-test .taken) (c .before .before .before .before .before .before .before .before .before .before .before .before .before .before .before .before .before .before .before .before .before .before .before .before .before .before .before .before .before .before .fast .result) _ _ (c .before .before .before .before .before .before .before .before .before .before .before .before .before .before .before .before .before .before .before .before .before .before .before .before .before .before .before .before .before .before .fast .ensures) (c .before .before .before .before .before .before .before .before .before .before .before .before .before .before .before .before .before .before .before .before .before .before .before .before .before .before .before .before .enum-told2 .given .1) in let i = h .0 in rw (c .halted2 .ensures) (turn-rooted _ _ _ _ i (c .before .before .before .before .before .before .before .before .before .before .before .before .before .before .before .before .before .before .before .before .before .before .before .before .before .before .before .before .before .before .before .before .before .before .loop-test .taken) _ (came _ (turnedTo (c .before .before .before .before .before .before .before .before .before .before .before .before .before .before .before .before .before .before .before .before .before .before .before .before .before .before .before .before .before .before .before .before .before .before .before .loop .core) (c .before .before .before .before .before .before .before .before .before .before .before .before .before .before .before .before .before .before .before .before .before .before .before .before .before .before .before .before .before .before .fast .result)) _ _ _ _ _ _ _ _ _ _ _ _ _ _ _ _ (i .0) (c .before .before .before .before .before .before .before .before .before .before .before .cold-token .ensures .0) refl refl refl refl refl refl refl refl refl refl refl refl refl) (ap answerOf (c .before .before .before .enum-told3 .given .1)) (c .before .if1 .taken))
+    let x = c .before .before .before .before .before .before .before .before .before .before .before .before .before .before .before .before .before .before .before .before .before .before .before .before .before .before .before .before .before .before .before .before .before .before .before .before .before .before .before .before .before .before .before .before .before .before .before .args in let l = c .before .before .before .before .before .before .before .before .before .before .before .before .before .before .before .before .before .before .before .before .before .before .before .before .before .before .before .before .before .before .before .before .before .before .before .loop in let f = c .before .before .before .before .before .before .before .before .before .before .before .before .before .before .before .before .before .before .before .before .before .before .before .before .before .before .before .before .before .before .fast in let t = c .before .before .before .before .before .before .before .before .before .before .before .cold-token in let h = hot-left (x .budget) (l .n) _ (scene (now (x .rom)) (l .work) (l .store) (joined (arrays (l .cells) (l .back) (l .places) (l .wides) (l .bases) (l .names) (l .kinds) (l .values) (l .ways) (l .parents) (l .owners) (l .titles) (l .sizes)) (l .core))) (l .inv .1) (c .before .before .before .before .before .before .before .before .before .before .before .before .before .before .before .before .before .before .before .before .before .before .before .before .before .before .before .before .before .before .before .before .before .before .loop-test .taken) (f .result) _ _ (f .ensures) (c .before .before .before .before .before .before .before .before .before .before .before .before .before .before .before .before .before .before .before .before .before .before .before .before .before .before .before .before .enum-told2 .given .1) in let i = h .0 in rw (c .halted2 .ensures) (turn-rooted _ _ _ _ i (c .before .before .before .before .before .before .before .before .before .before .before .before .before .before .before .before .before .before .before .before .before .before .before .before .before .before .before .before .before .before .before .before .before .before .loop-test .taken) _ (came _ (turnedTo (l .core) (f .result)) _ _ _ _ _ _ _ _ _ _ _ _ _ _ _ _ (i .0) (t .ensures .0) refl refl refl refl refl refl refl refl refl refl refl refl refl) (ap answerOf (c .before .before .before .enum-told3 .given .1)) (c .before .if1 .taken))
 
 loop-less-2 : tie.Need-loop-less-2 Inv-loop μ-loop
 loop-less-2 c =
-    let l = c .before .before .before .before .before .before .before .before .before .before .before .before .before .before .before .before .before .before .before .before .before .before .before .before .before .before .before .before .before .before .before .before .before .loop-test .taken in omega arith
+    let lt = c .before .before .before .before .before .before .before .before .before .before .before .before .before .before .before .before .before .before .before .before .before .before .before .before .before .before .before .before .before .before .before .before .before .loop-test .taken in omega arith
 
 loop-again-2 : tie.Need-loop-again-2 Inv-loop μ-loop
 loop-again-2 c =
-    let l = c .before .before .before .before .before .before .before .before .before .before .before .before .before .before .before .before .before .before .before .before .before .before .before .before .before .before .before .before .before .before .before .before .before .loop-test .taken in ((omega arith, c .before .before .before .before .before .before .before .before .before .before .cold-token .kept .1 .0 ∙ c .before .before .before .before .before .before .before .before .before .before .before .before .before .before .before .before .before .before .before .before .before .before .before .before .before .before .before .before .before .before .before .before .before .before .loop .inv .0 .1, c .before .before .before .before .before .before .before .before .before .before .cold-token .kept .1 .1 .0 ∙ c .before .before .before .before .before .before .before .before .before .before .before .before .before .before .before .before .before .before .before .before .before .before .before .before .before .before .before .before .before .before .before .before .before .before .loop .inv .0 .2), (let h = hot-left (c .before .before .before .before .before .before .before .before .before .before .before .before .before .before .before .before .before .before .before .before .before .before .before .before .before .before .before .before .before .before .before .before .before .before .before .before .before .before .before .before .before .before .before .before .before .before .args .budget) (c .before .before .before .before .before .before .before .before .before .before .before .before .before .before .before .before .before .before .before .before .before .before .before .before .before .before .before .before .before .before .before .before .before .before .loop .n) _ (scene (now (c .before .before .before .before .before .before .before .before .before .before .before .before .before .before .before .before .before .before .before .before .before .before .before .before .before .before .before .before .before .before .before .before .before .before .before .before .before .before .before .before .before .before .before .before .before .before .args .rom)) (c .before .before .before .before .before .before .before .before .before .before .before .before .before .before .before .before .before .before .before .before .before .before .before .before .before .before .before .before .before .before .before .before .before .before .loop .work) (c .before .before .before .before .before .before .before .before .before .before .before .before .before .before .before .before .before .before .before .before .before .before .before .before .before .before .before .before .before .before .before .before .before .before .loop .store) (joined (arrays (c .before .before .before .before .before .before .before .before .before .before .before .before .before .before .before .before .before .before .before .before .before .before .before .before .before .before .before .before .before .before .before .before .before .before .loop .cells) (c .before .before .before .before .before .before .before .before .before .before .before .before .before .before .before .before .before .before .before .before .before .before .before .before .before .before .before .before .before .before .before .before .before .before .loop .back) (c .before .before .before .before .before .before .before .before .before .before .before .before .before .before .before .before .before .before .before .before .before .before .before .before .before .before .before .before .before .before .before .before .before .before .loop .places) (c .before .before .before .before .before .before .before .before .before .before .before .before .before .before .before .before .before .before .before .before .before .before .before .before .before .before .before .before .before .before .before .before .before .before .loop .wides) (c .before .before .before .before .before .before .before .before .before .before .before .before .before .before .before .before .before .before .before .before .before .before .before .before .before .before .before .before .before .before .before .before .before .before .loop .bases) (c .before .before .before .before .before .before .before .before .before .before .before .before .before .before .before .before .before .before .before .before .before .before .before .before .before .before .before .before .before .before .before .before .before .before .loop .names) (c .before .before .before .before .before .before .before .before .before .before .before .before .before .before .before .before .before .before .before .before .before .before .before .before .before .before .before .before .before .before .before .before .before .before .loop .kinds) (c .before .before .before .before .before .before .before .before .before .before .before .before .before .before .before .before .before .before .before .before .before .before .before .before .before .before .before .before .before .before .before .before .before .before .loop .values) (c .before .before .before .before .before .before .before .before .before .before .before .before .before .before .before .before .before .before .before .before .before .before .before .before .before .before .before .before .before .before .before .before .before .before .loop .ways) (c .before .before .before .before .before .before .before .before .before .before .before .before .before .before .before .before .before .before .before .before .before .before .before .before .before .before .before .before .before .before .before .before .before .before .loop .parents) (c .before .before .before .before .before .before .before .before .before .before .before .before .before .before .before .before .before .before .before .before .before .before .before .before .before .before .before .before .before .before .before .before .before .before .loop .owners) (c .before .before .before .before .before .before .before .before .before .before .before .before .before .before .before .before .before .before .before .before .before .before .before .before .before .before .before .before .before .before .before .before .before .before .loop .titles) (c .before .before .before .before .before .before .before .before .before .before .before .before .before .before .before .before .before .before .before .before .before .before .before .before .before .before .before .before .before .before .before .before .before .before .loop .sizes)) (c .before .before .before .before .before .before .before .before .before .before .before .before .before .before .before .before .before .before .before .before .before .before .before .before .before .before .before .before .before .before .before .before .before .before .loop .core))) (c .before .before .before .before .before .before .before .before .before .before .before .before .before .before .before .before .before .before .before .before .before .before .before .before .before .before .before .before .before .before .before .before .before .before .loop .inv .1) (c .before .before .before .before .before .before .before .before .before .before .before .before .before .before .before .before .before .before .before .before .before .before .before .before .before .before .before .before .before .before .before .before .before .loop-test .taken) (c .before .before .before .before .before .before .before .before .before .before .before .before .before .before .before .before .before .before .before .before .before .before .before .before .before .before .before .before .before .fast .result) _ _ (c .before .before .before .before .before .before .before .before .before .before .before .before .before .before .before .before .before .before .before .before .before .before .before .before .before .before .before .before .before .fast .ensures) (c .before .before .before .before .before .before .before .before .before .before .before .before .before .before .before .before .before .before .before .before .before .before .before .before .before .before .before .enum-told2 .given .1) in let i = h .0 in turn-goes _ _ _ _ i (c .before .before .before .before .before .before .before .before .before .before .before .before .before .before .before .before .before .before .before .before .before .before .before .before .before .before .before .before .before .before .before .before .before .loop-test .taken) _ (came _ (turnedTo (c .before .before .before .before .before .before .before .before .before .before .before .before .before .before .before .before .before .before .before .before .before .before .before .before .before .before .before .before .before .before .before .before .before .before .loop .core) (c .before .before .before .before .before .before .before .before .before .before .before .before .before .before .before .before .before .before .before .before .before .before .before .before .before .before .before .before .before .fast .result)) _ _ _ _ _ _ _ _ _ _ _ _ _ _ _ _ (i .0) (c .before .before .before .before .before .before .before .before .before .before .cold-token .ensures .0) refl refl refl refl refl refl refl refl refl refl refl refl refl) (ap answerOf (c .before .before .enum-told3 .given .1)) (c .if1 .left)), c .before .before .before .before .before .before .before .before .before .before .cold-token .ensures .1)
+    let lt = c .before .before .before .before .before .before .before .before .before .before .before .before .before .before .before .before .before .before .before .before .before .before .before .before .before .before .before .before .before .before .before .before .before .loop-test .taken in ((omega arith, c .before .before .before .before .before .before .before .before .before .before .cold-token .kept .1 .0 ∙ c .before .before .before .before .before .before .before .before .before .before .before .before .before .before .before .before .before .before .before .before .before .before .before .before .before .before .before .before .before .before .before .before .before .before .loop .inv .0 .1, c .before .before .before .before .before .before .before .before .before .before .cold-token .kept .1 .1 .0 ∙ c .before .before .before .before .before .before .before .before .before .before .before .before .before .before .before .before .before .before .before .before .before .before .before .before .before .before .before .before .before .before .before .before .before .before .loop .inv .0 .2), (let x = c .before .before .before .before .before .before .before .before .before .before .before .before .before .before .before .before .before .before .before .before .before .before .before .before .before .before .before .before .before .before .before .before .before .before .before .before .before .before .before .before .before .before .before .before .before .before .args in let l = c .before .before .before .before .before .before .before .before .before .before .before .before .before .before .before .before .before .before .before .before .before .before .before .before .before .before .before .before .before .before .before .before .before .before .loop in let f = c .before .before .before .before .before .before .before .before .before .before .before .before .before .before .before .before .before .before .before .before .before .before .before .before .before .before .before .before .before .fast in let t = c .before .before .before .before .before .before .before .before .before .before .cold-token in let h = hot-left (x .budget) (l .n) _ (scene (now (x .rom)) (l .work) (l .store) (joined (arrays (l .cells) (l .back) (l .places) (l .wides) (l .bases) (l .names) (l .kinds) (l .values) (l .ways) (l .parents) (l .owners) (l .titles) (l .sizes)) (l .core))) (l .inv .1) (c .before .before .before .before .before .before .before .before .before .before .before .before .before .before .before .before .before .before .before .before .before .before .before .before .before .before .before .before .before .before .before .before .before .loop-test .taken) (f .result) _ _ (f .ensures) (c .before .before .before .before .before .before .before .before .before .before .before .before .before .before .before .before .before .before .before .before .before .before .before .before .before .before .before .enum-told2 .given .1) in let i = h .0 in turn-goes _ _ _ _ i (c .before .before .before .before .before .before .before .before .before .before .before .before .before .before .before .before .before .before .before .before .before .before .before .before .before .before .before .before .before .before .before .before .before .loop-test .taken) _ (came _ (turnedTo (l .core) (f .result)) _ _ _ _ _ _ _ _ _ _ _ _ _ _ _ _ (i .0) (t .ensures .0) refl refl refl refl refl refl refl refl refl refl refl refl refl) (ap answerOf (c .before .before .enum-told3 .given .1)) (c .if1 .left)), c .before .before .before .before .before .before .before .before .before .before .cold-token .ensures .1)
 
 enum-told-4 : tie.Need-enum-told-4 Inv-loop μ-loop
 enum-told-4 c =
@@ -123,7 +123,7 @@ enum-told-4 c =
 
 add-halted : tie.Need-add-halted Inv-loop μ-loop
 add-halted c =
-    let l = c .before .before .before .before .before .before .before .before .before .before .before .before .before .before .before .before .before .before .before .before .before .before .before .before .before .before .before .before .before .before .before .loop-test .taken in let f = c .before .before .before .before .before .before .before .before .before .before .before .before .before .before .before .before .before .before .before .before .before .before .before .before .before .before .before .before .before .before .before .before .before .before .before .before .before .before .before .before .before .before .before .before .fits .budget in omega arith
+    let lt = c .before .before .before .before .before .before .before .before .before .before .before .before .before .before .before .before .before .before .before .before .before .before .before .before .before .before .before .before .before .before .before .loop-test .taken in let most = c .before .before .before .before .before .before .before .before .before .before .before .before .before .before .before .before .before .before .before .before .before .before .before .before .before .before .before .before .before .before .before .before .before .before .before .before .before .before .before .before .before .before .before .before .fits .budget in omega arith
 
 halted-requires-3 : tie.Need-halted-requires-3 Inv-loop μ-loop
 halted-requires-3 c κs =
@@ -131,15 +131,15 @@ halted-requires-3 c κs =
 
 same-length-5 : tie.Need-same-length-5 Inv-loop μ-loop
 same-length-5 c =
-    c .before .before .before .before .before .before .before .before .before .cold-token .kept .1 .0 ∙ c .before .before .before .before .before .before .before .before .before .before .before .before .before .before .before .before .before .before .before .before .before .before .before .before .before .before .before .before .before .before .before .before .before .loop .inv .0 .1
+    let l = c .before .before .before .before .before .before .before .before .before .before .before .before .before .before .before .before .before .before .before .before .before .before .before .before .before .before .before .before .before .before .before .before .before .loop in let t = c .before .before .before .before .before .before .before .before .before .cold-token in t .kept .1 .0 ∙ l .inv .0 .1
 
 same-length-6 : tie.Need-same-length-6 Inv-loop μ-loop
 same-length-6 c =
-    c .before .before .before .before .before .before .before .before .before .cold-token .kept .1 .1 .0 ∙ c .before .before .before .before .before .before .before .before .before .before .before .before .before .before .before .before .before .before .before .before .before .before .before .before .before .before .before .before .before .before .before .before .before .loop .inv .0 .2
+    let l = c .before .before .before .before .before .before .before .before .before .before .before .before .before .before .before .before .before .before .before .before .before .before .before .before .before .before .before .before .before .before .before .before .before .loop in let t = c .before .before .before .before .before .before .before .before .before .cold-token in t .kept .1 .1 .0 ∙ l .inv .0 .2
 
 returns-3 : tie.Need-returns-3 Inv-loop μ-loop
 returns-3 c =
-    let h = hot-left (c .before .before .before .before .before .before .before .before .before .before .before .before .before .before .before .before .before .before .before .before .before .before .before .before .before .before .before .before .before .before .before .before .before .before .before .before .before .before .before .before .before .before .before .before .before .args .budget) (c .before .before .before .before .before .before .before .before .before .before .before .before .before .before .before .before .before .before .before .before .before .before .before .before .before .before .before .before .before .before .before .before .before .loop .n) _ (scene (now (c .before .before .before .before .before .before .before .before .before .before .before .before .before .before .before .before .before .before .before .before .before .before .before .before .before .before .before .before .before .before .before .before .before .before .before .before .before .before .before .before .before .before .before .before .before .args .rom)) (c .before .before .before .before .before .before .before .before .before .before .before .before .before .before .before .before .before .before .before .before .before .before .before .before .before .before .before .before .before .before .before .before .before .loop .work) (c .before .before .before .before .before .before .before .before .before .before .before .before .before .before .before .before .before .before .before .before .before .before .before .before .before .before .before .before .before .before .before .before .before .loop .store) (joined (arrays (c .before .before .before .before .before .before .before .before .before .before .before .before .before .before .before .before .before .before .before .before .before .before .before .before .before .before .before .before .before .before .before .before .before .loop .cells) (c .before .before .before .before .before .before .before .before .before .before .before .before .before .before .before .before .before .before .before .before .before .before .before .before .before .before .before .before .before .before .before .before .before .loop .back) (c .before .before .before .before .before .before .before .before .before .before .before .before .before .before .before .before .before .before .before .before .before .before .before .before .before .before .before .before .before .before .before .before .before .loop .places) (c .before .before .before .before .before .before .before .before .before .before .before .before .before .before .before .before .before .before .before .before .before .before .before .before .before .before .before .before .before .before .before .before .before .loop .wides) (c .before .before .before .before .before .before .before .before .before .before .before .before .before .before .before .before .before .before .before .before .before .before .before .before .before .before .before .before .before .before .before .before .before .loop .bases) (c .before .before .before .before .before .before .before .before .before .before .before .before .before .before .before .before .before .before .before .before .before .before .before .before .before .before .before .before .before .before .before .before .before .loop .names) (c .before .before .before .before .before .before .before .before .before .before .before .before .before .before .before .before .before .before .before .before .before .before .before .before .before .before .before .before .before .before .before .before .before .loop .kinds) (c .before .before .before .before .before .before .before .before .before .before .before .before .before .before .before .before .before .before .before .before .before .before .before .before .before .before .before .before .before .before .before .before .before .loop .values) (c .before .before .before .before .before .before .before .before .before .before .before .before .before .before .before .before .before .before .before .before .before .before .before .before .before .before .before .before .before .before .before .before .before .loop .ways) (c .before .before .before .before .before .before .before .before .before .before .before .before .before .before .before .before .before .before .before .before .before .before .before .before .before .before .before .before .before .before .before .before .before .loop .parents) (c .before .before .before .before .before .before .before .before .before .before .before .before .before .before .before .before .before .before .before .before .before .before .before .before .before .before .before .before .before .before .before .before .before .loop .owners) (c .before .before .before .before .before .before .before .before .before .before .before .before .before .before .before .before .before .before .before .before .before .before .before .before .before .before .before .before .before .before .before .before .before .loop .titles) (c .before .before .before .before .before .before .before .before .before .before .before .before .before .before .before .before .before .before .before .before .before .before .before .before .before .before .before .before .before .before .before .before .before .loop .sizes)) (c .before .before .before .before .before .before .before .before .before .before .before .before .before .before .before .before .before .before .before .before .before .before .before .before .before .before .before .before .before .before .before .before .before .loop .core))) (c .before .before .before .before .before .before .before .before .before .before .before .before .before .before .before .before .before .before .before .before .before .before .before .before .before .before .before .before .before .before .before .before .before .loop .inv .1) (c .before .before .before .before .before .before .before .before .before .before .before .before .before .before .before .before .before .before .before .before .before .before .before .before .before .before .before .before .before .before .before .before .loop-test .taken) (c .before .before .before .before .before .before .before .before .before .before .before .before .before .before .before .before .before .before .before .before .before .before .before .before .before .before .before .before .fast .result) _ _ (c .before .before .before .before .before .before .before .before .before .before .before .before .before .before .before .before .before .before .before .before .before .before .before .before .before .before .before .before .fast .ensures) (c .before .before .before .before .before .before .before .before .before .before .before .before .before .before .before .before .before .before .before .before .before .before .before .before .before .before .enum-told2 .given .1) in let i = h .0 in rw (c .halted3 .ensures) (turn-ends _ _ _ _ i (c .before .before .before .before .before .before .before .before .before .before .before .before .before .before .before .before .before .before .before .before .before .before .before .before .before .before .before .before .before .before .before .before .loop-test .taken) _ (came _ (turnedTo (c .before .before .before .before .before .before .before .before .before .before .before .before .before .before .before .before .before .before .before .before .before .before .before .before .before .before .before .before .before .before .before .before .before .loop .core) (c .before .before .before .before .before .before .before .before .before .before .before .before .before .before .before .before .before .before .before .before .before .before .before .before .before .before .before .before .fast .result)) _ _ _ _ _ _ _ _ _ _ _ _ _ _ _ _ (i .0) (c .before .before .before .before .before .before .before .before .before .cold-token .ensures .0) refl refl refl refl refl refl refl refl refl refl refl refl refl) Finished (ap answerOf (c .before .enum-told4 .given .1)))
+    let x = c .before .before .before .before .before .before .before .before .before .before .before .before .before .before .before .before .before .before .before .before .before .before .before .before .before .before .before .before .before .before .before .before .before .before .before .before .before .before .before .before .before .before .before .before .before .args in let l = c .before .before .before .before .before .before .before .before .before .before .before .before .before .before .before .before .before .before .before .before .before .before .before .before .before .before .before .before .before .before .before .before .before .loop in let f = c .before .before .before .before .before .before .before .before .before .before .before .before .before .before .before .before .before .before .before .before .before .before .before .before .before .before .before .before .fast in let t = c .before .before .before .before .before .before .before .before .before .cold-token in let h = hot-left (x .budget) (l .n) _ (scene (now (x .rom)) (l .work) (l .store) (joined (arrays (l .cells) (l .back) (l .places) (l .wides) (l .bases) (l .names) (l .kinds) (l .values) (l .ways) (l .parents) (l .owners) (l .titles) (l .sizes)) (l .core))) (l .inv .1) (c .before .before .before .before .before .before .before .before .before .before .before .before .before .before .before .before .before .before .before .before .before .before .before .before .before .before .before .before .before .before .before .before .loop-test .taken) (f .result) _ _ (f .ensures) (c .before .before .before .before .before .before .before .before .before .before .before .before .before .before .before .before .before .before .before .before .before .before .before .before .before .before .enum-told2 .given .1) in let i = h .0 in rw (c .halted3 .ensures) (turn-ends _ _ _ _ i (c .before .before .before .before .before .before .before .before .before .before .before .before .before .before .before .before .before .before .before .before .before .before .before .before .before .before .before .before .before .before .before .before .loop-test .taken) _ (came _ (turnedTo (l .core) (f .result)) _ _ _ _ _ _ _ _ _ _ _ _ _ _ _ _ (i .0) (t .ensures .0) refl refl refl refl refl refl refl refl refl refl refl refl refl) Finished (ap answerOf (c .before .enum-told4 .given .1)))
 
 enum-known-told : tie.Need-enum-known-told Inv-loop μ-loop
 enum-known-told c =
@@ -151,15 +151,15 @@ halted-requires-4 c κs =
 
 same-length-7 : tie.Need-same-length-7 Inv-loop μ-loop
 same-length-7 c =
-    c .before .before .before .before .before .before .before .before .before .before .cold-token .kept .1 .0 ∙ c .before .before .before .before .before .before .before .before .before .before .before .before .before .before .before .before .before .before .before .before .before .before .before .before .before .before .before .before .before .before .before .before .before .before .loop .inv .0 .1
+    let l = c .before .before .before .before .before .before .before .before .before .before .before .before .before .before .before .before .before .before .before .before .before .before .before .before .before .before .before .before .before .before .before .before .before .before .loop in let t = c .before .before .before .before .before .before .before .before .before .before .cold-token in t .kept .1 .0 ∙ l .inv .0 .1
 
 same-length-8 : tie.Need-same-length-8 Inv-loop μ-loop
 same-length-8 c =
-    c .before .before .before .before .before .before .before .before .before .before .cold-token .kept .1 .1 .0 ∙ c .before .before .before .before .before .before .before .before .before .before .before .before .before .before .before .before .before .before .before .before .before .before .before .before .before .before .before .before .before .before .before .before .before .before .loop .inv .0 .2
+    let l = c .before .before .before .before .before .before .before .before .before .before .before .before .before .before .before .before .before .before .before .before .before .before .before .before .before .before .before .before .before .before .before .before .before .before .loop in let t = c .before .before .before .before .before .before .before .before .before .before .cold-token in t .kept .1 .1 .0 ∙ l .inv .0 .2
 
 returns-4 : tie.Need-returns-4 Inv-loop μ-loop
 returns-4 c =
-    let h = hot-left (c .before .before .before .before .before .before .before .before .before .before .before .before .before .before .before .before .before .before .before .before .before .before .before .before .before .before .before .before .before .before .before .before .before .before .before .before .before .before .before .before .before .before .before .before .before .before .args .budget) (c .before .before .before .before .before .before .before .before .before .before .before .before .before .before .before .before .before .before .before .before .before .before .before .before .before .before .before .before .before .before .before .before .before .before .loop .n) _ (scene (now (c .before .before .before .before .before .before .before .before .before .before .before .before .before .before .before .before .before .before .before .before .before .before .before .before .before .before .before .before .before .before .before .before .before .before .before .before .before .before .before .before .before .before .before .before .before .before .args .rom)) (c .before .before .before .before .before .before .before .before .before .before .before .before .before .before .before .before .before .before .before .before .before .before .before .before .before .before .before .before .before .before .before .before .before .before .loop .work) (c .before .before .before .before .before .before .before .before .before .before .before .before .before .before .before .before .before .before .before .before .before .before .before .before .before .before .before .before .before .before .before .before .before .before .loop .store) (joined (arrays (c .before .before .before .before .before .before .before .before .before .before .before .before .before .before .before .before .before .before .before .before .before .before .before .before .before .before .before .before .before .before .before .before .before .before .loop .cells) (c .before .before .before .before .before .before .before .before .before .before .before .before .before .before .before .before .before .before .before .before .before .before .before .before .before .before .before .before .before .before .before .before .before .before .loop .back) (c .before .before .before .before .before .before .before .before .before .before .before .before .before .before .before .before .before .before .before .before .before .before .before .before .before .before .before .before .before .before .before .before .before .before .loop .places) (c .before .before .before .before .before .before .before .before .before .before .before .before .before .before .before .before .before .before .before .before .before .before .before .before .before .before .before .before .before .before .before .before .before .before .loop .wides) (c .before .before .before .before .before .before .before .before .before .before .before .before .before .before .before .before .before .before .before .before .before .before .before .before .before .before .before .before .before .before .before .before .before .before .loop .bases) (c .before .before .before .before .before .before .before .before .before .before .before .before .before .before .before .before .before .before .before .before .before .before .before .before .before .before .before .before .before .before .before .before .before .before .loop .names) (c .before .before .before .before .before .before .before .before .before .before .before .before .before .before .before .before .before .before .before .before .before .before .before .before .before .before .before .before .before .before .before .before .before .before .loop .kinds) (c .before .before .before .before .before .before .before .before .before .before .before .before .before .before .before .before .before .before .before .before .before .before .before .before .before .before .before .before .before .before .before .before .before .before .loop .values) (c .before .before .before .before .before .before .before .before .before .before .before .before .before .before .before .before .before .before .before .before .before .before .before .before .before .before .before .before .before .before .before .before .before .before .loop .ways) (c .before .before .before .before .before .before .before .before .before .before .before .before .before .before .before .before .before .before .before .before .before .before .before .before .before .before .before .before .before .before .before .before .before .before .loop .parents) (c .before .before .before .before .before .before .before .before .before .before .before .before .before .before .before .before .before .before .before .before .before .before .before .before .before .before .before .before .before .before .before .before .before .before .loop .owners) (c .before .before .before .before .before .before .before .before .before .before .before .before .before .before .before .before .before .before .before .before .before .before .before .before .before .before .before .before .before .before .before .before .before .before .loop .titles) (c .before .before .before .before .before .before .before .before .before .before .before .before .before .before .before .before .before .before .before .before .before .before .before .before .before .before .before .before .before .before .before .before .before .before .loop .sizes)) (c .before .before .before .before .before .before .before .before .before .before .before .before .before .before .before .before .before .before .before .before .before .before .before .before .before .before .before .before .before .before .before .before .before .before .loop .core))) (c .before .before .before .before .before .before .before .before .before .before .before .before .before .before .before .before .before .before .before .before .before .before .before .before .before .before .before .before .before .before .before .before .before .before .loop .inv .1) (c .before .before .before .before .before .before .before .before .before .before .before .before .before .before .before .before .before .before .before .before .before .before .before .before .before .before .before .before .before .before .before .before .before .loop-test .taken) (c .before .before .before .before .before .before .before .before .before .before .before .before .before .before .before .before .before .before .before .before .before .before .before .before .before .before .before .before .before .fast .result) _ _ (c .before .before .before .before .before .before .before .before .before .before .before .before .before .before .before .before .before .before .before .before .before .before .before .before .before .before .before .before .before .fast .ensures) (c .before .before .before .before .before .before .before .before .before .before .before .before .before .before .before .before .before .before .before .before .before .before .before .before .before .before .before .enum-told2 .given .1) in let i = h .0 in rw (c .halted4 .ensures) (turn-ends _ _ _ _ i (c .before .before .before .before .before .before .before .before .before .before .before .before .before .before .before .before .before .before .before .before .before .before .before .before .before .before .before .before .before .before .before .before .before .loop-test .taken) _ (came _ (turnedTo (c .before .before .before .before .before .before .before .before .before .before .before .before .before .before .before .before .before .before .before .before .before .before .before .before .before .before .before .before .before .before .before .before .before .before .loop .core) (c .before .before .before .before .before .before .before .before .before .before .before .before .before .before .before .before .before .before .before .before .before .before .before .before .before .before .before .before .before .fast .result)) _ _ _ _ _ _ _ _ _ _ _ _ _ _ _ _ (i .0) (c .before .before .before .before .before .before .before .before .before .before .cold-token .ensures .0) refl refl refl refl refl refl refl refl refl refl refl refl refl) (Refused _) (ap answerOf (c .before .before .told .given .1)))
+    let x = c .before .before .before .before .before .before .before .before .before .before .before .before .before .before .before .before .before .before .before .before .before .before .before .before .before .before .before .before .before .before .before .before .before .before .before .before .before .before .before .before .before .before .before .before .before .before .args in let l = c .before .before .before .before .before .before .before .before .before .before .before .before .before .before .before .before .before .before .before .before .before .before .before .before .before .before .before .before .before .before .before .before .before .before .loop in let f = c .before .before .before .before .before .before .before .before .before .before .before .before .before .before .before .before .before .before .before .before .before .before .before .before .before .before .before .before .before .fast in let t = c .before .before .before .before .before .before .before .before .before .before .cold-token in let h = hot-left (x .budget) (l .n) _ (scene (now (x .rom)) (l .work) (l .store) (joined (arrays (l .cells) (l .back) (l .places) (l .wides) (l .bases) (l .names) (l .kinds) (l .values) (l .ways) (l .parents) (l .owners) (l .titles) (l .sizes)) (l .core))) (l .inv .1) (c .before .before .before .before .before .before .before .before .before .before .before .before .before .before .before .before .before .before .before .before .before .before .before .before .before .before .before .before .before .before .before .before .before .loop-test .taken) (f .result) _ _ (f .ensures) (c .before .before .before .before .before .before .before .before .before .before .before .before .before .before .before .before .before .before .before .before .before .before .before .before .before .before .before .enum-told2 .given .1) in let i = h .0 in rw (c .halted4 .ensures) (turn-ends _ _ _ _ i (c .before .before .before .before .before .before .before .before .before .before .before .before .before .before .before .before .before .before .before .before .before .before .before .before .before .before .before .before .before .before .before .before .before .loop-test .taken) _ (came _ (turnedTo (l .core) (f .result)) _ _ _ _ _ _ _ _ _ _ _ _ _ _ _ _ (i .0) (t .ensures .0) refl refl refl refl refl refl refl refl refl refl refl refl refl) (Refused _) (ap answerOf (c .before .before .told .given .1)))
 
 halted-requires-5 : tie.Need-halted-requires-5 Inv-loop μ-loop
 halted-requires-5 c κs =
@@ -167,15 +167,15 @@ halted-requires-5 c κs =
 
 same-length-9 : tie.Need-same-length-9 Inv-loop μ-loop
 same-length-9 c =
-    c .before .before .loop .inv .0 .1
+    let l = c .before .before .loop in l .inv .0 .1
 
 same-length-10 : tie.Need-same-length-10 Inv-loop μ-loop
 same-length-10 c =
-    c .before .before .loop .inv .0 .2
+    let l = c .before .before .loop in l .inv .0 .2
 
 returns-5 : tie.Need-returns-5 Inv-loop μ-loop
 returns-5 c =
-    rw (c .halted5 .ensures) (ends-spent _ _ _ _ (c .before .before .loop .inv .1) (c .before .loop-test .left))
+    let l = c .before .before .loop in rw (c .halted5 .ensures) (ends-spent _ _ _ _ (l .inv .1) (c .before .loop-test .left))
 
 pub cruise-spec : {M : Type 1} → statement M
 cruise-spec =
