@@ -160,7 +160,7 @@ fn done_with(held: usize, live: usize) -> Kept
     }
 }
 
-// A property more, its record behind them all; 27 where the one or the other has no room.
+// A property more, its record behind them all; 27 where the one or the other has no room. It is lent what `put_in` is.
 fn add_property(
     store: &mut [u8],
     owners: &mut [u32; PROPERTIES_MOST],
@@ -195,7 +195,7 @@ fn add_property(
 }
 
 // Writes a property of the active node. The value is the bytes given, and a null behind them where it is asked for. A record that is there
-// keeps its node and name.
+// keeps its node and name. It is lent the store and the records' arrays one by one, as they lie in a state that is taken apart.
 pub fn put_in(
     store: &mut [u8],
     owners: &mut [u32; PROPERTIES_MOST],
