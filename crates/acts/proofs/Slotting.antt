@@ -19,7 +19,8 @@ use Rattle.state.specs.declared.state.State.{State}
 use Rattle.state.specs.declared.state.Numbers.{Numbers}
 use Rattle.state.specs.declared.answer.Answer.the-variants.{Refused}
 use Rattle.state.specs.declared.answer.Stepped.{Stepped}
-use Rattle.acts.specs.Acts.{QuietOf, QuietBy, Tabled, Tables, numbersOn, slotIn}
+use Rattle.state.specs.Apart.{numbersOn}
+use Rattle.acts.specs.Acts.{QuietOf, QuietBy, Tabled, Tables, slotIn}
 use Rattle.acts.proofs.Defining.{enter-outside, enter-none, assign-outside, assign-none}
 
 module _ (slots : List ℕ) (ns : Numbers) (n slot : ℕ) (e : slots ≡ slotsOf ns) (f : slot ≡ slotIn slots n) where

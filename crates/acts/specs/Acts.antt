@@ -33,7 +33,7 @@ use Rattle.tokens.specs.Definition.{colon, constant, value, variable}
 use Rattle.state.specs.Scene.{scene, turn, told}
 use Rattle.state.specs.Effects.{gave}
 use Rattle.state.specs.Moves.{stepped}
-use Rattle.state.specs.Apart.{Arrays, joined, backOn, handed, answerOf, onStack, onCalls, onNumbers, onNodes, onRecords, Moves}
+use Rattle.state.specs.Apart.{numbersOn, Arrays, joined, backOn, handed, answerOf, onStack, onCalls, onNumbers, onNodes, onRecords, Moves}
 use Rattle.state.specs.Step.{readyOf, doneOf}
 use Rattle.state.specs.Step.{tokenOf as turnOf}
 use Rattle.state.specs.declared.state.State.{State}
@@ -118,10 +118,6 @@ KeepsBy n rom work store then st next r =
 -- ---- the arrays that a program number's call may change or look at
 abbrev pub onProgram : List ℕ → List ℕ → List Bool → List ℕ → List ℕ → List ℕ → List ℕ → List Bool → Arrays → Arrays
 onProgram cells places wides bases names kinds values ways a = onNumbers names kinds values ways (onCalls places wides bases (onStack cells a))
-
--- the program numbers of these arrays
-abbrev pub numbersOn : List ℕ → List ℕ → List ℕ → List Bool → ℕ → Numbers
-numbersOn names kinds values ways held = record { names = names; kinds = kinds; values = values; wides = ways; count = held }
 
 -- the two tables by program number: where each stands, and the kinds that reading a body goes by
 abbrev pub Tabled : List ℕ → List ℕ → Numbers → Type 0

@@ -7,8 +7,9 @@ ghost use Rattle.tokens.specs.Decode.{isKind};
 ghost use Rattle.tokens.specs.Table.{isProgram};
 ghost use Rattle.tokens.specs.declared.decoding.Operand.the-variants.{Definition};
 ghost use Rattle.state.specs.Refusals.{rounded as Refusals·rounded};
+ghost use Rattle.state.specs.Apart.{numbersOn};
 ghost use Rattle.acts.specs.Acts.{QuietOf, Defines, Colons, Variables, Fresh, TakesValue};
-ghost use Rattle.acts.specs.Acts.{numbersOn, Tables, Definable, Numbered, Adds, AddsFrom};
+ghost use Rattle.acts.specs.Acts.{Tables, Definable, Numbered, Adds, AddsFrom};
 use crate::tables::note;
 use crate::tables::slot_of;
 use memory::WORK_BASE;
@@ -38,7 +39,8 @@ fn defined(
 ) -> Core
     requires { ⌜ Fresh (numbersOn (now names) (now kinds) (now values) (now ways) (core .held)) number
         × Definable (now slots) (now known) (numbersOn (now names) (now kinds) (now values) (now ways) (core .held)) ⌝ }
-    ensures { λ r. ⌜ Numbered (numbersOn (now (names .entry)) (now (kinds .entry)) (now (values .entry)) (now (ways .entry)) (core .held)) core number kind value r
+    ensures { λ r. ⌜ Numbered (numbersOn (now (names .entry)) (now (kinds .entry)) (now (values .entry)) (now (ways .entry)) (core .held))
+        core number kind value r
         (numbersOn (now (names .exit)) (now (kinds .exit)) (now (values .exit)) (now (ways .exit)) (r .held))
         × Tables (now (slots .exit)) (now (known .exit)) (now (names .exit)) (now (kinds .exit)) (r .held) ⌝ }
 {
@@ -67,9 +69,12 @@ fn colon(
     next: u32,
 ) -> Handed
     requires { ⌜ (core .height ≤ 64) × Fresh (numbersOn (now names) (now kinds) (now values) (now ways) (core .held)) number
-        × Definable (now slots) (now known) (numbersOn (now names) (now kinds) (now values) (now ways) (core .held)) × (next ≤ core .length) ⌝ }
-    ensures { λ r. ⌜ Adds (numbersOn (now (names .entry)) (now (kinds .entry)) (now (values .entry)) (now (ways .entry)) (core .held)) core r
-        (numbersOn (now (names .exit)) (now (kinds .exit)) (now (values .exit)) (now (ways .exit)) (r .core .held)) (now (slots .exit)) (now (known .exit))
+        × Definable (now slots) (now known) (numbersOn (now names) (now kinds) (now values) (now ways) (core .held))
+        × (next ≤ core .length) ⌝ }
+    ensures { λ r. ⌜ Adds (numbersOn (now (names .entry)) (now (kinds .entry)) (now (values .entry)) (now (ways .entry))
+        (core .held)) core r
+        (numbersOn (now (names .exit)) (now (kinds .exit)) (now (values .exit)) (now (ways .exit)) (r .core .held)) (now (slots .exit))
+        (now (known .exit))
         (λ s t. Colons number (now (rom .entry)) s next t) ⌝ }
 {
     match read_body(rom, core.length, core.wide, &*known, next) {
@@ -110,8 +115,10 @@ fn constant(
 ) -> Handed
     requires { ⌜ (core .height ≤ 64) × Fresh (numbersOn (now names) (now kinds) (now values) (now ways) (core .held)) number
         × Definable (now slots) (now known) (numbersOn (now names) (now kinds) (now values) (now ways) (core .held)) × TakesValue kind ⌝ }
-    ensures { λ r. ⌜ AddsFrom (now (cells .entry)) (numbersOn (now (names .entry)) (now (kinds .entry)) (now (values .entry)) (now (ways .entry)) (core .held)) core r
-        (numbersOn (now (names .exit)) (now (kinds .exit)) (now (values .exit)) (now (ways .exit)) (r .core .held)) (now (slots .exit)) (now (known .exit))
+    ensures { λ r. ⌜ AddsFrom (now (cells .entry)) (numbersOn (now (names .entry)) (now (kinds .entry)) (now (values .entry))
+        (now (ways .entry)) (core .held)) core r
+        (numbersOn (now (names .exit)) (now (kinds .exit)) (now (values .exit)) (now (ways .exit)) (r .core .held)) (now (slots .exit))
+        (now (known .exit))
         (λ s t. QuietOf define (Definition number kind) s next t) ⌝ }
 {
     if core.height < 1 {
@@ -156,9 +163,12 @@ fn variable(
     next: u32,
 ) -> Handed
     requires { ⌜ (core .height ≤ 64) × Fresh (numbersOn (now names) (now kinds) (now values) (now ways) (core .held)) number
-        × Definable (now slots) (now known) (numbersOn (now names) (now kinds) (now values) (now ways) (core .held)) × (core .«work_place» ≤ 16384) ⌝ }
-    ensures { λ r. ⌜ Adds (numbersOn (now (names .entry)) (now (kinds .entry)) (now (values .entry)) (now (ways .entry)) (core .held)) core r
-        (numbersOn (now (names .exit)) (now (kinds .exit)) (now (values .exit)) (now (ways .exit)) (r .core .held)) (now (slots .exit)) (now (known .exit))
+        × Definable (now slots) (now known) (numbersOn (now names) (now kinds) (now values) (now ways) (core .held))
+        × (core .«work_place» ≤ 16384) ⌝ }
+    ensures { λ r. ⌜ Adds (numbersOn (now (names .entry)) (now (kinds .entry)) (now (values .entry)) (now (ways .entry))
+        (core .held)) core r
+        (numbersOn (now (names .exit)) (now (kinds .exit)) (now (values .exit)) (now (ways .exit)) (r .core .held)) (now (slots .exit))
+        (now (known .exit))
         (λ s t. Variables number (now (work .entry)) (now (work .exit)) s next t) ⌝ }
 {
     let at = rounded(core.work_place);
@@ -202,8 +212,10 @@ fn define_new(
     requires { ⌜ (core .height ≤ 64) × Fresh (numbersOn (now names) (now kinds) (now values) (now ways) (core .held)) number
         × Definable (now slots) (now known) (numbersOn (now names) (now kinds) (now values) (now ways) (core .held))
         × (core .«work_place» ≤ 16384) × (next ≤ core .length) × (isKind kind ≡ true) ⌝ }
-    ensures { λ r. ⌜ AddsFrom (now (cells .entry)) (numbersOn (now (names .entry)) (now (kinds .entry)) (now (values .entry)) (now (ways .entry)) (core .held)) core r
-        (numbersOn (now (names .exit)) (now (kinds .exit)) (now (values .exit)) (now (ways .exit)) (r .core .held)) (now (slots .exit)) (now (known .exit))
+    ensures { λ r. ⌜ AddsFrom (now (cells .entry)) (numbersOn (now (names .entry)) (now (kinds .entry)) (now (values .entry))
+        (now (ways .entry)) (core .held)) core r
+        (numbersOn (now (names .exit)) (now (kinds .exit)) (now (values .exit)) (now (ways .exit)) (r .core .held)) (now (slots .exit))
+        (now (known .exit))
         (λ s t. Defines (Definition number kind) (now (rom .entry)) (now (work .entry)) (now (work .exit)) s next t) ⌝ }
 {
     match kind {
@@ -279,8 +291,10 @@ pub fn define_number(
     requires { ⌜ (core .height ≤ 64) × (core .held ≤ 256)
         × Definable (now slots) (now known) (numbersOn (now names) (now kinds) (now values) (now ways) (core .held))
         × (core .«work_place» ≤ 16384) × (next ≤ core .length) × (isKind kind ≡ true) × (isProgram number ≡ true) ⌝ }
-    ensures { λ r. ⌜ AddsFrom (now (cells .entry)) (numbersOn (now (names .entry)) (now (kinds .entry)) (now (values .entry)) (now (ways .entry)) (core .held)) core r
-        (numbersOn (now (names .exit)) (now (kinds .exit)) (now (values .exit)) (now (ways .exit)) (r .core .held)) (now (slots .exit)) (now (known .exit))
+    ensures { λ r. ⌜ AddsFrom (now (cells .entry)) (numbersOn (now (names .entry)) (now (kinds .entry)) (now (values .entry))
+        (now (ways .entry)) (core .held)) core r
+        (numbersOn (now (names .exit)) (now (kinds .exit)) (now (values .exit)) (now (ways .exit)) (r .core .held)) (now (slots .exit))
+        (now (known .exit))
         (λ s t. Defines (Definition number kind) (now (rom .entry)) (now (work .entry)) (now (work .exit)) s next t) ⌝ }
 {
     if slot_of(&*slots, number) != 0 {

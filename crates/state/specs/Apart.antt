@@ -10,6 +10,7 @@ use lib.ListN.{getD}
 use Rattle.cells.specs.Choice.{pick}
 use Rattle.state.specs.Moves.{Popped, popped, stepped, popOf}
 use Rattle.state.specs.State.{baseOf}
+use Rattle.state.specs.declared.state.Numbers.{Numbers}
 use Rattle.state.specs.declared.state.State.{State}
 use Rattle.state.specs.declared.answer.Answer.{Answer}
 use Rattle.state.specs.declared.answer.Answer.the-variants.{Going, Finished, Refused}
@@ -89,6 +90,10 @@ coreOf st =
       records = st .tree .held;
     }
 
+-- the program numbers of these arrays
+abbrev pub numbersOn : List ℕ → List ℕ → List ℕ → List Bool → ℕ → Numbers
+numbersOn names kinds values ways held = record { names = names; kinds = kinds; values = values; wides = ways; count = held }
+
 -- the state that has these arrays and these numbers
 abbrev pub joined : Arrays → Core → State
 joined a k =
@@ -100,7 +105,7 @@ joined a k =
       stack = record { cells = a .cells; height = k .height };
       back = record { cells = a .back; height = k .returns };
       calls = record { places = a .places; wides = a .wides; bases = a .bases; count = k .frames };
-      numbers = record { names = a .names; kinds = a .kinds; values = a .values; wides = a .ways; count = k .held };
+      numbers = numbersOn (a .names) (a .kinds) (a .values) (a .ways) (k .held);
       «work_place» = k .«work_place»;
       tree =
           record {

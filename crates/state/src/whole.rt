@@ -1,12 +1,14 @@
 // Refusal 7: whether a state is whole. The tree's part is the tree's own test.
 ghost use mathlib.Core.Path.{_≡_};
+ghost use mathlib.Core.Bool.{Bool};
+ghost use mathlib.Core.List.{List};
 ghost use Prim.Native.Nat.{_<_};
+ghost use Rattle.state.specs.Apart.{numbersOn};
 ghost use Rattle.state.specs.Whole.{isPlace, nextBase, frameWhole, callsWhole, entryKept, numbersWhole, heightsKept, wholeOf};
 use crate::moves::base_at;
 use crate::moves::entry;
 use crate::numbers::kind_byte;
 use crate::state::Calls;
-use crate::state::Numbers;
 use crate::state::State;
 use rom::sizes::DATA_MOST;
 use rom::sizes::FIRST_PLACE;
@@ -79,17 +81,24 @@ fn is_entry(length: u32, name: u32, kind: u8, value: u32) -> bool
     }
 }
 
-fn are_numbers(length: u32, numbers: Numbers) -> bool
-    ensures { λ r. ⌜ r ≡ numbersWhole length numbers ⌝ }
+// Each array goes by itself: a copy of all numbers in one takes longer than all else of a small ROM's run.
+fn are_numbers(
+    length: u32,
+    names: [u32; 256],
+    kinds: [u8; 256],
+    values: [u32; 256],
+    count: usize,
+) -> bool
+    ensures { λ r. ⌜ ((ways : List Bool) → r ≡ numbersWhole length (numbersOn names kinds values ways count)) ⌝ }
 {
-    if NUMBERS_MOST < numbers.count {
+    if NUMBERS_MOST < count {
         return false;
     }
     let mut i = 0;
-    while i < numbers.count {
-        let name = entry(&numbers.names, i);
-        let kind = kind_byte(&numbers.kinds, i);
-        let value = entry(&numbers.values, i);
+    while i < count {
+        let name = entry(&names, i);
+        let kind = kind_byte(&kinds, i);
+        let value = entry(&values, i);
         if !is_entry(length, name, kind, value) {
             return false;
         }
@@ -131,7 +140,11 @@ pub fn is_whole(st: State) -> bool
     if !are_frames(st.length, st.calls, back.height) {
         return false;
     }
-    if !are_numbers(st.length, st.numbers) {
+    let numbers = st.numbers;
+    let names = numbers.names;
+    let kinds = numbers.kinds;
+    let values = numbers.values;
+    if !are_numbers(st.length, names, kinds, values, numbers.count) {
         return false;
     }
     tree::is_whole(st.tree)

@@ -1,5 +1,6 @@
 use Prim.Native.Nat.{ℕ, _≤_, _-_, _+_}
-use Rattle.acts.specs.Acts.{numbersOn, Tabled}
+use Rattle.state.specs.Apart.{numbersOn}
+use Rattle.acts.specs.Acts.{Tabled}
 use Rattle.state.specs.Numbers.{kindAt}
 use Rattle.state.specs.Seeking.{slotsPast, tablePast, table-none, table-down, kinds-all}
 use Rattle.state.specs.declared.state.Numbers.{Numbers}

@@ -12,8 +12,42 @@ is-whole-spec =
     (λ c κs. search needs)
     (λ c. rw (← c .before .are-heights .ensures, not-off (c .before .are-heights .result) (c .if1 .taken)))
     (λ c κs. search needs)
-    (λ c. rw (← c .before .before .before .are-heights .ensures, not-on (c .before .before .before .are-heights .result) (c .before .before .if1 .left), ← c .before .are-frames .ensures, not-off (c .before .are-frames .result) (c .if2 .taken)))
+    (λ c.
+    let framed = c .before in
+    let low = framed .before in
+    let heights = low .before .are-heights in
+    let frames = framed .are-frames in
+    rw (← heights .ensures, not-on (heights .result) (low .if1 .left), ← frames .ensures, not-off (frames .result) (c .if2 .taken)))
     (λ c κs. search needs)
-    (λ c. rw (← c .before .before .before .before .before .are-heights .ensures, not-on (c .before .before .before .before .before .are-heights .result) (c .before .before .before .before .if1 .left), ← c .before .before .before .are-frames .ensures, not-on (c .before .before .before .are-frames .result) (c .before .before .if2 .left), ← c .before .are-numbers .ensures, not-off (c .before .are-numbers .result) (c .if3 .taken)))
+    (λ c.
+    let framed = c .before .before .before .before .before .before in
+    let low = framed .before .before in
+    let heights = low .before .are-heights in
+    let frames = framed .before .are-frames in
+    let numbers = c .before .are-numbers in
+    let st = low .before .before .before .before .args .st in
+    rw (
+      ← heights .ensures,
+      not-on (heights .result) (low .if1 .left),
+      ← frames .ensures,
+      not-on (frames .result) (framed .if2 .left),
+      ← numbers .ensures (st .numbers .wides),
+      not-off (numbers .result) (c .if3 .taken),
+    ))
     (λ c κs. search needs)
-    (λ c. rw (← c .before .before .before .before .before .before .are-heights .ensures, not-on (c .before .before .before .before .before .before .are-heights .result) (c .before .before .before .before .before .if1 .left), ← c .before .before .before .before .are-frames .ensures, not-on (c .before .before .before .before .are-frames .result) (c .before .before .before .if2 .left), ← c .before .before .are-numbers .ensures, not-on (c .before .before .are-numbers .result) (c .before .if3 .left)) (c .is-whole .ensures)))
+    (λ c.
+    let counted = c .before in
+    let framed = counted .before .before .before .before .before .before in
+    let low = framed .before .before in
+    let heights = low .before .are-heights in
+    let frames = framed .before .are-frames in
+    let numbers = counted .before .are-numbers in
+    let st = low .before .before .before .before .args .st in
+    rw (
+      ← heights .ensures,
+      not-on (heights .result) (low .if1 .left),
+      ← frames .ensures,
+      not-on (frames .result) (framed .if2 .left),
+      ← numbers .ensures (st .numbers .wides),
+      not-on (numbers .result) (counted .if3 .left),
+    ) (c .is-whole .ensures)))
