@@ -58,16 +58,20 @@ fn act(
     tail: Tail,
     seen: Glance,
 ) -> Acted
-    requires { ⌜ Fit (now rom) core × Seen (now rom) core seen × Cold (now rom) (core .place) × (length (now names) ≡ 256) × (length (now kinds) ≡ 256)
+    requires { ⌜ Fit (now rom) core × Seen (now rom) core seen × Cold (now rom) (core .place) × (length (now names) ≡ 256)
+        × (length (now kinds) ≡ 256)
         × Kept (now slots) (now known) (now names) (now kinds) (now store) (now titles) (now sizes) core tail ⌝ }
     ensures { λ r. ⌜ Comes (now (rom .entry))
-        (everyOn (now (cells .entry)) (now (places .entry)) (now (wides .entry)) (now (bases .entry)) (now (names .entry)) (now (kinds .entry)) (now (values .entry)) (now (ways .entry))
+        (everyOn (now (cells .entry)) (now (places .entry)) (now (wides .entry)) (now (bases .entry)) (now (names .entry))
+        (now (kinds .entry)) (now (values .entry)) (now (ways .entry))
         (now (parents .entry)) (now (owners .entry)) (now (titles .entry)) (now (sizes .entry)))
         (now (work .entry)) (now (store .entry)) core r
-        (everyOn (now (cells .exit)) (now (places .exit)) (now (wides .exit)) (now (bases .exit)) (now (names .exit)) (now (kinds .exit)) (now (values .exit)) (now (ways .exit))
+        (everyOn (now (cells .exit)) (now (places .exit)) (now (wides .exit)) (now (bases .exit)) (now (names .exit)) (now (kinds .exit))
+        (now (values .exit)) (now (ways .exit))
         (now (parents .exit)) (now (owners .exit)) (now (titles .exit)) (now (sizes .exit)))
         (now (work .exit)) (now (store .exit))
-        × Kept (now (slots .exit)) (now (known .exit)) (now (names .exit)) (now (kinds .exit)) (now (store .exit)) (now (titles .exit)) (now (sizes .exit)) (r .core) (r .tail) ⌝ }
+        × Kept (now (slots .exit)) (now (known .exit)) (now (names .exit)) (now (kinds .exit)) (now (store .exit)) (now (titles .exit))
+        (now (sizes .exit)) (r .core) (r .tail) ⌝ }
 {
     let number = seen.number;
     let next = seen.next;
@@ -200,13 +204,16 @@ fn by_glance(
     requires { ⌜ Fit (now rom) core × Cold (now rom) (core .place) × (length (now names) ≡ 256) × (length (now kinds) ≡ 256)
         × Kept (now slots) (now known) (now names) (now kinds) (now store) (now titles) (now sizes) core tail ⌝ }
     ensures { λ r. ⌜ Comes (now (rom .entry))
-        (everyOn (now (cells .entry)) (now (places .entry)) (now (wides .entry)) (now (bases .entry)) (now (names .entry)) (now (kinds .entry)) (now (values .entry)) (now (ways .entry))
+        (everyOn (now (cells .entry)) (now (places .entry)) (now (wides .entry)) (now (bases .entry)) (now (names .entry))
+        (now (kinds .entry)) (now (values .entry)) (now (ways .entry))
         (now (parents .entry)) (now (owners .entry)) (now (titles .entry)) (now (sizes .entry)))
         (now (work .entry)) (now (store .entry)) core r
-        (everyOn (now (cells .exit)) (now (places .exit)) (now (wides .exit)) (now (bases .exit)) (now (names .exit)) (now (kinds .exit)) (now (values .exit)) (now (ways .exit))
+        (everyOn (now (cells .exit)) (now (places .exit)) (now (wides .exit)) (now (bases .exit)) (now (names .exit)) (now (kinds .exit))
+        (now (values .exit)) (now (ways .exit))
         (now (parents .exit)) (now (owners .exit)) (now (titles .exit)) (now (sizes .exit)))
         (now (work .exit)) (now (store .exit))
-        × Kept (now (slots .exit)) (now (known .exit)) (now (names .exit)) (now (kinds .exit)) (now (store .exit)) (now (titles .exit)) (now (sizes .exit)) (r .core) (r .tail) ⌝ }
+        × Kept (now (slots .exit)) (now (known .exit)) (now (names .exit)) (now (kinds .exit)) (now (store .exit)) (now (titles .exit))
+        (now (sizes .exit)) (r .core) (r .tail) ⌝ }
 {
     let seen = glance_at(rom, core.length, core.wide, core.place);
     if seen.code == 0 {
@@ -265,13 +272,16 @@ pub fn cold_token(
     requires { ⌜ Fit (now rom) core × Cold (now rom) (core .place) × (length (now names) ≡ 256) × (length (now kinds) ≡ 256)
         × Kept (now slots) (now known) (now names) (now kinds) (now store) (now titles) (now sizes) core tail ⌝ }
     ensures { λ r. ⌜ Comes (now (rom .entry))
-        (everyOn (now (cells .entry)) (now (places .entry)) (now (wides .entry)) (now (bases .entry)) (now (names .entry)) (now (kinds .entry)) (now (values .entry)) (now (ways .entry))
+        (everyOn (now (cells .entry)) (now (places .entry)) (now (wides .entry)) (now (bases .entry)) (now (names .entry))
+        (now (kinds .entry)) (now (values .entry)) (now (ways .entry))
         (now (parents .entry)) (now (owners .entry)) (now (titles .entry)) (now (sizes .entry)))
         (now (work .entry)) (now (store .entry)) core r
-        (everyOn (now (cells .exit)) (now (places .exit)) (now (wides .exit)) (now (bases .exit)) (now (names .exit)) (now (kinds .exit)) (now (values .exit)) (now (ways .exit))
+        (everyOn (now (cells .exit)) (now (places .exit)) (now (wides .exit)) (now (bases .exit)) (now (names .exit)) (now (kinds .exit))
+        (now (values .exit)) (now (ways .exit))
         (now (parents .exit)) (now (owners .exit)) (now (titles .exit)) (now (sizes .exit)))
         (now (work .exit)) (now (store .exit))
-        × Kept (now (slots .exit)) (now (known .exit)) (now (names .exit)) (now (kinds .exit)) (now (store .exit)) (now (titles .exit)) (now (sizes .exit)) (r .core) (r .tail) ⌝ }
+        × Kept (now (slots .exit)) (now (known .exit)) (now (names .exit)) (now (kinds .exit)) (now (store .exit)) (now (titles .exit))
+        (now (sizes .exit)) (r .core) (r .tail) ⌝ }
 {
     let place = core.place;
     if core.length <= place {

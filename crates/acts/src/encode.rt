@@ -27,7 +27,8 @@ use state::stop;
 // Bytes at the work place given by their address and length; the work place moves past them.
 fn encoded(cells: &mut [u32; 64], core: Core, next: u32, count: u32) -> Handed
     requires { ⌜ (core .height + 2 ≤ 64) × (core .«work_place» + count ≤ 16384) ⌝ }
-    ensures { λ r. ⌜ Moves (onStack (now (cells .entry))) core r (onStack (now (cells .exit))) (λ s t. t ≡ stepped Going (encodedOn s next count)) ⌝ }
+    ensures { λ r. ⌜ Moves (onStack (now (cells .entry))) core r (onStack (now (cells .exit)))
+        (λ s t. t ≡ stepped Going (encodedOn s next count)) ⌝ }
 {
     let at = core.work_place;
     let mut k = core;
@@ -95,7 +96,8 @@ pub fn bad_range(rom: &[u8], work: &[u8], size: u32, address: u32, count: u32) -
 // The bytes of a range written to a place of work memory, as they were before.
 fn lay_string(rom: &[u8], work: &mut [u8], size: u32, address: u32, count: u32, at: u32)
     requires { ⌜ size ≤ length (now rom) ⌝ }
-    ensures { λ r. ⌜ now (work .exit) ≡ writtenOf (now (work .entry)) at (resolveOf (now (rom .entry)) (now (work .entry)) size address count) ⌝ }
+    ensures { λ r. ⌜ now (work .exit) ≡ writtenOf (now (work .entry)) at
+        (resolveOf (now (rom .entry)) (now (work .entry)) size address count) ⌝ }
 {
     let n = count as usize;
     match window_of(size as usize, work.len(), address, count) {

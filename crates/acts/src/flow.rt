@@ -51,7 +51,8 @@ pub fn leave_body(
     next: u32,
 ) -> Handed
     requires { ⌜ (core .height ≤ 64) × (1 ≤ core .frames) ⌝ }
-    ensures { λ r. ⌜ Looks (onCalls (now (places .entry)) (now (wides .entry)) (now (bases .entry))) core r (λ s t. Quiet Family·leave s next t) ⌝ }
+    ensures { λ r. ⌜ Looks (onCalls (now (places .entry)) (now (wides .entry)) (now (bases .entry))) core r
+        (λ s t. Quiet Family·leave s next t) ⌝ }
 {
     leave(places, wides, bases, core)
 }
@@ -59,7 +60,8 @@ pub fn leave_body(
 // Two cells more, which have room, and the next token.
 pub fn pair(cells: &mut [u32; 64], core: Core, next: u32, first: u32, second: u32) -> Handed
     requires { ⌜ core .height + 2 ≤ 64 ⌝ }
-    ensures { λ r. ⌜ Moves (onStack (now (cells .entry))) core r (onStack (now (cells .exit))) (λ s t. t ≡ stepped Going (pairOn s next first second)) ⌝ }
+    ensures { λ r. ⌜ Moves (onStack (now (cells .entry))) core r (onStack (now (cells .exit)))
+        (λ s t. t ≡ stepped Going (pairOn s next first second)) ⌝ }
 {
     let mut k = core;
     k.place = next;
@@ -71,7 +73,8 @@ pub fn pair(cells: &mut [u32; 64], core: Core, next: u32, first: u32, second: u3
 // b("): the string, which starts at a place, stays in the ROM.
 pub fn quote(cells: &mut [u32; 64], core: Core, start: u32, count: u32, next: u32) -> Handed
     requires { ⌜ (start ≤ 65536) × (core .height ≤ 64) ⌝ }
-    ensures { λ r. ⌜ Moves (onStack (now (cells .entry))) core r (onStack (now (cells .exit))) (λ s t. QuietOf text (Text start count) s next t) ⌝ }
+    ensures { λ r. ⌜ Moves (onStack (now (cells .entry))) core r (onStack (now (cells .exit)))
+        (λ s t. QuietOf text (Text start count) s next t) ⌝ }
 {
     if DATA_MOST < core.height + 2 {
         return stop(core, 15);

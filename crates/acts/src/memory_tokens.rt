@@ -64,7 +64,8 @@ pub fn fetch_from<'a>(
 
 // A cell or its low 8 bits stored: 0, or why not.
 fn stored(work: &mut [u8], number: u32, address: u32, cell: u32) -> u32
-    ensures { λ r. ⌜ (r ≡ storeWhy number (now (work .entry)) address) × (now (work .exit) ≡ storeThen number (now (work .entry)) address cell) ⌝ }
+    ensures { λ r. ⌜ (r ≡ storeWhy number (now (work .entry)) address)
+        × (now (work .exit) ≡ storeThen number (now (work .entry)) address cell) ⌝ }
 {
     if is_cell(number) {
         return store_cell(work, address, cell);
@@ -75,7 +76,8 @@ fn stored(work: &mut [u8], number: u32, address: u32, cell: u32) -> u32
 // !, c!
 pub fn store_to(work: &mut [u8], cells: &[u32; 64], core: Core, number: u32, next: u32) -> Handed
     requires { ⌜ core .height ≤ 64 ⌝ }
-    ensures { λ r. ⌜ Looks (onStack (now (cells .entry))) core r (λ s t. WritesBy number store (now (work .entry)) (now (work .exit)) s next t) ⌝ }
+    ensures { λ r. ⌜ Looks (onStack (now (cells .entry))) core r (λ s t. WritesBy number store (now (work .entry))
+        (now (work .exit)) s next t) ⌝ }
 {
     if core.height < 2 {
         return stop(core, 14);

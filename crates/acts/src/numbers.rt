@@ -27,7 +27,8 @@ pub fn assign_value(
     next: u32,
 ) -> Handed
     requires { ⌜ (core .height ≤ 64) × (core .held ≤ 256) × Slotted (now slots) (now names) (core .held) ⌝ }
-    ensures { λ r. ⌜ Assigns number (now (cells .entry)) (now (names .entry)) (now (kinds .entry)) (now (values .entry)) core next r (now (values .exit)) ⌝ }
+    ensures { λ r. ⌜ Assigns number (now (cells .entry)) (now (names .entry)) (now (kinds .entry)) (now (values .entry)) core next r
+        (now (values .exit)) ⌝ }
 {
     let slot = slot_of(slots, number);
     if slot == 0 {

@@ -55,7 +55,8 @@ pub fn put_named<'a>(
     tail: Tail,
     next: u32,
 ) -> Acted
-    requires { ⌜ (core .height ≤ 64) × (core .length ≤ length (now rom)) × Tallied (now store) (now titles) (now sizes) (core .records) tail ⌝ }
+    requires { ⌜ (core .height ≤ 64) × (core .length ≤ length (now rom))
+        × Tallied (now store) (now titles) (now sizes) (core .records) tail ⌝ }
     ensures { λ r. ⌜ Files (now (cells .entry)) (now (owners .entry)) (now (titles .entry)) (now (sizes .entry)) core r
         (now (owners .exit)) (now (titles .exit)) (now (sizes .exit)) (now (store .exit))
         (λ s t. KeepsFrom (now (rom .entry)) (now (work .entry)) (now (store .entry)) (now (store .exit)) s next t) ⌝ }
@@ -161,7 +162,8 @@ pub fn put_titled<'a>(
     number: u32,
     next: u32,
 ) -> Acted
-    requires { ⌜ (core .height ≤ 64) × (core .length ≤ length (now rom)) × Tallied (now store) (now titles) (now sizes) (core .records) tail ⌝ }
+    requires { ⌜ (core .height ≤ 64) × (core .length ≤ length (now rom))
+        × Tallied (now store) (now titles) (now sizes) (core .records) tail ⌝ }
     ensures { λ r. ⌜ Files (now (cells .entry)) (now (owners .entry)) (now (titles .entry)) (now (sizes .entry)) core r
         (now (owners .exit)) (now (titles .exit)) (now (sizes .exit)) (now (store .exit))
         (λ s t. KeepsBy number (now (rom .entry)) (now (work .entry)) (now (store .entry)) (now (store .exit)) s next t) ⌝ }

@@ -1,5 +1,5 @@
-// Two tables by program number, from 800 to FFF, which are filled once a run and kept by every definition: where a number stands among those that are
-// held, and its kind as reading a body goes by it. So a call, b(to) and a number of a body are one look each.
+// Two tables by program number, from 800 to FFF, which are filled once a run and kept by every definition: where a number stands among
+// those that are held, and its kind as reading a body goes by it. So a call, b(to) and a number of a body are one look each.
 ghost use mathlib.Core.Path.{_≡_};
 ghost use Prim.Native.Nat.{_≤_, _<_, _+_};
 ghost use lib.ListN.{replicate};
@@ -49,7 +49,8 @@ fn put_slot(slots: &mut [u16; 2048], number: u32, at: usize)
 // A number that stands at a place among those that are held, put down in both tables.
 pub fn note(slots: &mut [u16; 2048], known: &mut [u8; 2048], number: u32, kind: u8, at: usize)
     requires { ⌜ at < 256 ⌝ }
-    ensures { λ r. ⌜ (now (slots .exit) ≡ putKind (now (slots .entry)) number (at + 1)) × (now (known .exit) ≡ putKind (now (known .entry)) number (kindOfByte kind)) ⌝ }
+    ensures { λ r. ⌜ (now (slots .exit) ≡ putKind (now (slots .entry)) number (at + 1))
+        × (now (known .exit) ≡ putKind (now (known .entry)) number (kindOfByte kind)) ⌝ }
 {
     put_slot(slots, number, at);
     put_kind(known, number, known_kind(kind));

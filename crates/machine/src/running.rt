@@ -82,9 +82,9 @@ fn halted(answer: Answer, count: u32, core: Core) -> Cruised
     }
 }
 
-// The tokens of a state that is ready and taken apart, until one finishes or is refused or the budget is spent. It is lent every array of the state, and
-// so has one parameter for each, in the state's order. The state is not tested again, but for one thing: a finish-device can make the root active where a
-// state was offered whose node 2 or above is a child of the root, and that is 7.
+// The tokens of a state that is ready and taken apart, until one finishes or is refused or the budget is spent. It is lent every array of
+// the state, and so has one parameter for each, in the state's order. The state is not tested again, but for one thing: a finish-device can
+// make the root active where a state was offered whose node 2 or above is a child of the root, and that is 7.
 fn cruise(
     rom: &[u8],
     work: &mut [u8],
@@ -105,10 +105,17 @@ fn cruise(
     start: Core,
     budget: u32,
 ) -> Cruised
-    requires { ⌜ Ready (now rom) (now work) (now store) (joined (arrays (now cells) (now back) (now places) (now wides) (now bases) (now names) (now kinds) (now values) (now ways) (now parents) (now owners) (now titles) (now sizes)) start)
-        × Sized (joined (arrays (now cells) (now back) (now places) (now wides) (now bases) (now names) (now kinds) (now values) (now ways) (now parents) (now owners) (now titles) (now sizes)) start) ⌝ }
-    ensures { λ r. ⌜ cruisedTo r (arrays (now (cells .exit)) (now (back .exit)) (now (places .exit)) (now (wides .exit)) (now (bases .exit)) (now (names .exit)) (now (kinds .exit)) (now (values .exit)) (now (ways .exit)) (now (parents .exit)) (now (owners .exit)) (now (titles .exit)) (now (sizes .exit))) (now (work .exit)) (now (store .exit))
-        ≡ runOf budget (scene (now (rom .entry)) (now (work .entry)) (now (store .entry)) (joined (arrays (now (cells .entry)) (now (back .entry)) (now (places .entry)) (now (wides .entry)) (now (bases .entry)) (now (names .entry)) (now (kinds .entry)) (now (values .entry)) (now (ways .entry)) (now (parents .entry)) (now (owners .entry)) (now (titles .entry)) (now (sizes .entry))) start)) ⌝ }
+    requires { ⌜ Ready (now rom) (now work) (now store) (joined (arrays (now cells) (now back) (now places) (now wides) (now bases)
+        (now names) (now kinds) (now values) (now ways) (now parents) (now owners) (now titles) (now sizes)) start)
+        × Sized (joined (arrays (now cells) (now back) (now places) (now wides) (now bases) (now names) (now kinds) (now values) (now ways)
+        (now parents) (now owners) (now titles) (now sizes)) start) ⌝ }
+    ensures { λ r. ⌜ cruisedTo r (arrays (now (cells .exit)) (now (back .exit)) (now (places .exit)) (now (wides .exit)) (now (bases .exit))
+        (now (names .exit)) (now (kinds .exit)) (now (values .exit)) (now (ways .exit)) (now (parents .exit)) (now (owners .exit))
+        (now (titles .exit)) (now (sizes .exit))) (now (work .exit)) (now (store .exit))
+        ≡ runOf budget (scene (now (rom .entry)) (now (work .entry)) (now (store .entry))
+        (joined (arrays (now (cells .entry)) (now (back .entry)) (now (places .entry)) (now (wides .entry)) (now (bases .entry))
+        (now (names .entry)) (now (kinds .entry)) (now (values .entry)) (now (ways .entry)) (now (parents .entry)) (now (owners .entry))
+        (now (titles .entry)) (now (sizes .entry))) start)) ⌝ }
 {
     let mut slots = [0u16; 2048];
     let mut known = [0u8; 2048];
@@ -180,7 +187,8 @@ fn cruise(
 // The same of a state: it is taken apart once and put together once.
 fn tokens(rom: &[u8], work: &mut [u8], store: &mut [u8], st: State, budget: u32) -> Ran
     requires { ⌜ Ready (now rom) (now work) (now store) st × Sized st ⌝ }
-    ensures { λ r. ⌜ toldRan r (now (work .exit)) (now (store .exit)) ≡ runOf budget (scene (now (rom .entry)) (now (work .entry)) (now (store .entry)) st) ⌝ }
+    ensures { λ r. ⌜ toldRan r (now (work .exit)) (now (store .exit)) ≡ runOf budget
+        (scene (now (rom .entry)) (now (work .entry)) (now (store .entry)) st) ⌝ }
 {
     let stack = st.stack;
     let mut cells = stack.cells;
@@ -288,14 +296,16 @@ fn one(ran: Ran) -> Stepped
 // The token of a state that is ready.
 fn token(rom: &[u8], work: &mut [u8], store: &mut [u8], st: State) -> Stepped
     requires { ⌜ Ready (now rom) (now work) (now store) st × Sized st ⌝ }
-    ensures { λ r. ⌜ told r (now (work .exit)) (now (store .exit)) ≡ tokenOf (scene (now (rom .entry)) (now (work .entry)) (now (store .entry)) st) ⌝ }
+    ensures { λ r. ⌜ told r (now (work .exit)) (now (store .exit)) ≡ tokenOf
+        (scene (now (rom .entry)) (now (work .entry)) (now (store .entry)) st) ⌝ }
 {
     one(tokens(rom, work, store, st, 1))
 }
 
 // One token, or why it is refused; a finished state says so again. A refused step leaves the state, work memory and store as they were.
 pub fn step(rom: &[u8], work: &mut [u8], store: &mut [u8], st: State) -> Stepped
-    ensures { λ r. ⌜ told r (now (work .exit)) (now (store .exit)) ≡ stepOf (scene (now (rom .entry)) (now (work .entry)) (now (store .entry)) st) ⌝ }
+    ensures { λ r. ⌜ told r (now (work .exit)) (now (store .exit)) ≡ stepOf
+        (scene (now (rom .entry)) (now (work .entry)) (now (store .entry)) st) ⌝ }
 {
     match ready(rom, &*work, &*store, st) {
         Answer::Going => token(rom, work, store, st),
@@ -321,10 +331,11 @@ fn ended(answer: Answer, count: u32, state: State) -> Ran
     }
 }
 
-// Tokens until one finishes or is refused or the budget is spent: 6, 1, 7 and 4 are tested first, then finish, then budget, then the token. The count is
-// that of the tokens carried out.
+// Tokens until one finishes or is refused or the budget is spent: 6, 1, 7 and 4 are tested first, then finish, then budget, then the token.
+// The count is that of the tokens carried out.
 pub fn run(rom: &[u8], work: &mut [u8], store: &mut [u8], st: State, budget: u32) -> Ran
-    ensures { λ r. ⌜ toldRan r (now (work .exit)) (now (store .exit)) ≡ runOf budget (scene (now (rom .entry)) (now (work .entry)) (now (store .entry)) st) ⌝ }
+    ensures { λ r. ⌜ toldRan r (now (work .exit)) (now (store .exit)) ≡ runOf budget
+        (scene (now (rom .entry)) (now (work .entry)) (now (store .entry)) st) ⌝ }
 {
     match ready(rom, &*work, &*store, st) {
         Answer::Going => tokens(rom, work, store, st, budget),

@@ -150,8 +150,10 @@ pub fn fast(
     frames: usize,
     place: u32,
 ) -> Turned
-    requires { ⌜ (h ≤ 64) × (baseIn (now bases) frames ≤ b) × (b ≤ 32) × (8 ≤ place) × (place ≤ length) × (length ≤ 16384) × Holds (now rom) length ⌝ }
-    ensures { λ r. ⌜ Fast (now (rom .entry)) length wide (baseIn (now (bases .entry)) frames) (now (stack .entry)) h (now (back .entry)) b place r (now (stack .exit)) (now (back .exit)) ⌝ }
+    requires { ⌜ (h ≤ 64) × (baseIn (now bases) frames ≤ b) × (b ≤ 32) × (8 ≤ place) × (place ≤ length) × (length ≤ 16384)
+        × Holds (now rom) length ⌝ }
+    ensures { λ r. ⌜ Fast (now (rom .entry)) length wide (baseIn (now (bases .entry)) frames) (now (stack .entry)) h
+        (now (back .entry)) b place r (now (stack .exit)) (now (back .exit)) ⌝ }
 {
     if length <= place {
         return refuse(10, h, b, place);

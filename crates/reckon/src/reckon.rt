@@ -267,7 +267,8 @@ pub fn rot_two(stack: &mut [u32; 64], h: usize, b: usize, place: u32) -> Turned
 // 30 >r
 pub fn to_return(stack: &[u32; 64], back: &mut [u32; 32], h: usize, b: usize, place: u32) -> Turned
     requires { ⌜ (h ≤ 64) × (b ≤ 32) × (place < 16384) ⌝ }
-    ensures { λ r. ⌜ ((base : ℕ) → OnBoth 0x30 base (now (stack .entry)) h (now (back .entry)) b place r (now (stack .entry)) (now (back .exit))) ⌝ }
+    ensures { λ r. ⌜ ((base : ℕ) → OnBoth 0x30 base (now (stack .entry)) h (now (back .entry)) b place r (now (stack .entry))
+        (now (back .exit))) ⌝ }
 {
     if h < 1 {
         return refuse(14, h, b, place);

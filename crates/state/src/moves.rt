@@ -1,5 +1,5 @@
-// One cell pushed or popped, a body entered or left: each takes the state's numbers by value and hands them back with an answer, and is lent the arrays
-// that it changes or looks at.
+// One cell pushed or popped, a body entered or left: each takes the state's numbers by value and hands them back with an answer, and is
+// lent the arrays that it changes or looks at.
 ghost use mathlib.Core.Path.{_≡_};
 ghost use mathlib.Core.Bool.{false};
 ghost use lib.ListN.{getD};

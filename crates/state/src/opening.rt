@@ -70,8 +70,8 @@ fn zero_state() -> State
     empty_state(0, 0, false, no_tree())
 }
 
-// Tests the buffers and the header in the order 6, 1, 2, 3, 4, 5, and starts the program: work memory and store are zeroed. A refused opening writes
-// nothing and hands back the all-zero state.
+// Tests the buffers and the header in the order 6, 1, 2, 3, 4, 5, and starts the program: work memory and store are zeroed. A refused
+// opening writes nothing and hands back the all-zero state.
 pub fn open(rom: &[u8], work: &mut [u8], store: &mut [u8]) -> Stepped
     ensures { λ r. ⌜ told r (now (work .exit)) (now (store .exit)) ≡ openOf (now (rom .entry)) (now (work .entry)) (now (store .entry)) ⌝ }
 {

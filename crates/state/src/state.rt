@@ -1,5 +1,5 @@
-// The evaluator's state, a value, nested by owner. Work memory and store are lent beside it. An array's entries below its count are live, those above
-// are left as they are.
+// The evaluator's state, a value, nested by owner. Work memory and store are lent beside it. An array's entries below its count are live,
+// those above are left as they are.
 use tree::Tree;
 
 pub struct Stack {
@@ -20,8 +20,8 @@ pub struct Calls {
     pub count: usize,
 }
 
-// The program numbers, the oldest first: the number, its kind byte, its value (of b(:) the body's place, of b(variable) its address), and the
-// offset width in force where it was defined.
+// The program numbers, the oldest first: the number, its kind byte, its value (of b(:) the body's place, of b(variable) its address), and
+// the offset width in force where it was defined.
 pub struct Numbers {
     pub names: [u32; 256],
     pub kinds: [u8; 256],
