@@ -1,7 +1,7 @@
 #!/usr/bin/env python3
 """What crates/runs is run on and must print: the worked cases, property names byte by byte (tests/names.py), the bench ROMs of document
-01 that only run, every condition of refusal 7, the order of the tests, and lookups. The worked cases were worked out apart from the
-Rattle code, the rest by hand here.
+01 that only run, every condition of refusal 7, whole states that no run leaves, the order of the tests, and lookups. The worked cases
+were worked out apart from the Rattle code, the rest by hand here.
 
     python3 tests/runs.py           writes crates/runs/stdin and crates/runs/stdout
     python3 tests/runs.py --check   compares them with what it would write, and exits 1 where they differ
@@ -62,6 +62,10 @@ def with_rows(lines):
         if roms.kind(line) == "store":
             told.append(rows(told))
     return told
+
+
+def without_rows(lines):
+    return [line for line in lines if roms.kind(line) != "rows"]
 
 
 SCALE = bytes.fromhex("FD0805170000001E12057363616C650201A8011112056C616E6573011000")
@@ -159,6 +163,41 @@ def damages():
         yield f"D {k:02} {scale} 100000", refused_state(k)
     yield f"D {WHOLE} {calls} 14", [NOT_FOUND, f"damaged {WHOLE} step going run finished steps 10 changed"]
     yield f"D {WHOLE} {scale} 100000", [NOT_FOUND, f"damaged {WHOLE} step finished run finished steps 0 unchanged"]
+
+
+# Run for 6 tokens, this leaves 800, a colon definition (its body at 12: 1), 801, a value of 2, 802, a constant of 3, and node 2 active. The rest: 24
+# 800, 26 801, 28 1, 29 b(to) 801, 32 number 803 (its body at 36: 800), 39 803, 41 b(") "a", 44 device-name, 46 finish-device, 48 end0.
+ODD = with_header(
+    bytes.fromhex("B50800B7A6C2" "A7B50801B8" "A8B50802BA" "011F" "0800" "0801" "A6C30801" "B50803B70800C2" "0803" "1201610201" "0127" "00")
+)
+ODD_NUMBERS = "{0}0000000C 801:value:00000001 {1}:constant:00000003 803:colon:00000026"
+ODD_LEFT = {"props": ("2 6E616D65 6100",), "store": b"name" + b"a\0"}
+
+
+def odd_states():
+    """Whole states that no run leaves, by the number under which crates/runs knows each, run with the highest budget."""
+    numbers = ODD_NUMBERS.format("800:colon:", "802")
+    twice = ODD_NUMBERS.format("800:colon:", "801")
+    unknown = ODD_NUMBERS.format("800C8", "802")
+    told = (
+        # 802 is called 801 too: the oldest counts, which is the value
+        left("finished", 16, 51, data=(1, 2, 1), numbers=twice, nodes="1 0 0 1", **ODD_LEFT),
+        # 800 is of kind C8: it gives its value, as a constant does, and no body is entered
+        left("finished", 12, 51, data=(12, 2, 12), numbers=unknown, nodes="1 0 0 1", **ODD_LEFT),
+        # node 2 is a child of the root: finish-device is carried out and makes the root active, and that is 7
+        left("refused 7", 15, 50, data=(1, 2, 1), numbers=numbers, nodes="0 0 0 0", **ODD_LEFT),
+        # the store has bytes behind the live ones: device-name leaves zeros there
+        left("finished", 16, 51, data=(1, 2, 1), numbers=numbers, nodes="1 0 0 1", **ODD_LEFT),
+    )
+    for k, lines in enumerate(told):
+        yield f"W {k:02} {ODD.hex().upper()} 6", without_rows(lines)
+
+
+def over_itself():
+    """encode-string of bytes that it overwrites: abcd encoded as a number, then its four bytes and the two behind them as a string."""
+    rom = with_header(bytes.fromhex("1061626364" "0111" "46" "1000000006" "0114" "00"))
+    work = b"abcd" + b"abcd\0\0" + b"\0"
+    yield f"R {rom.hex().upper()} 100", left("finished", 6, len(rom), data=(0x20000004, 7), work_place=len(work), work=work)
 
 
 # States and buffers with more than one thing wrong, in the order in which crates/runs offers them, and what the step and the run say: each of 6, 1,
@@ -282,7 +321,7 @@ def lookups():
 
 
 def cases():
-    for part in (worked_cases, name_cases, bench_roms, calls_open, damages, orders, lookups):
+    for part in (worked_cases, name_cases, bench_roms, calls_open, damages, odd_states, over_itself, orders, lookups):
         yield from part()
 
 

@@ -1,5 +1,5 @@
-// The conditions of refusal 7, in the order of its row in document 01, each under a number of its own. The state to damage has two open calls
-// with bases 0 and 1 and two return cells, a colon definition as its oldest number, three nodes, and a property.
+// The conditions of refusal 7, in the order of its row in document 01, each under a number of its own. The state to damage has two open
+// calls with bases 0 and 1 and two return cells, a colon definition as its oldest number, three nodes, and a property.
 use state::Back;
 use state::Calls;
 use state::Numbers;

@@ -1,4 +1,5 @@
-// The evaluator's calls without what they promise: nothing that is printed rests on a contract, and the checks of the callers need not carry it.
+// The evaluator's calls without what they promise: nothing that is printed rests on a contract, and the checks of the callers need not
+// carry it.
 use state::Ran;
 use state::State;
 use state::Stepped;

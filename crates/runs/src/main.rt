@@ -1,10 +1,12 @@
-// Opens ROMs, runs them, and shows all that is left: a line of standard input each, by its first letter. Behind R stand a ROM in hex, a budget, and words
-// for lookups in what the run left, behind Z how many zero bytes a ROM has, behind D a number of two digits, a ROM and a budget: the state then is
-// damaged in the way that has this number, and offered again. Behind O stand a ROM and a budget, for the order in which the tests of a step and a run come.
+// Opens ROMs, runs them, and shows all that is left: a line of standard input each, by its first letter. Behind R stand a ROM in hex, a
+// budget, and words for lookups in what the run left, behind Z how many zero bytes a ROM has, behind D a number of two digits, a ROM and a
+// budget: the state then is damaged in the way that has this number, and offered again. Behind W stands the same, for a state that is
+// altered and still whole. Behind O stand a ROM and a budget, for the order in which the tests of a step and a run come.
 mod damage;
 mod evaluator;
 mod finds;
 mod line;
+mod odd;
 mod orders;
 mod same;
 mod say;
@@ -17,6 +19,7 @@ ghost use lib.ListN.{length};
 use crate::line::bytes_from;
 use crate::line::digits_at;
 use crate::line::mark_from;
+use crate::odd::show_odd;
 use crate::orders::show_orders;
 use crate::say::say;
 use crate::trial::show_damaged;
@@ -54,6 +57,13 @@ fn one_damage(line: &[u8]) {
     show_damaged(digits_at(line, 2), &space[..n], digits_at(line, n + n + 6));
 }
 
+// W: a whole state that no run leaves.
+fn one_odd(line: &[u8]) {
+    let mut space = [0u8; 2048];
+    let n = bytes_from(line, 5, &mut space);
+    show_odd(digits_at(line, 2), &space[..n], digits_at(line, n + n + 6));
+}
+
 // O: orders.
 fn one_order(line: &[u8]) {
     let mut space = [0u8; 2048];
@@ -66,6 +76,7 @@ fn one_line(line: &[u8]) {
         b'R' => one_run(line),
         b'Z' => one_long(line),
         b'D' => one_damage(line),
+        b'W' => one_odd(line),
         b'O' => one_order(line),
         _ => say(b"no such line\n"),
     }

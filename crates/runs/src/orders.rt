@@ -1,4 +1,5 @@
-// The order of a step's and a run's tests: 6, 1, 7, 4, then finish, then budget, then the token. A state is offered with things wrong that come later.
+// The order of a step's and a run's tests: 6, 1, 7, 4, then finish, then budget, then the token. A state is offered with things wrong that
+// come later.
 use crate::damage::damaged;
 use crate::evaluator::open;
 use crate::evaluator::run;

@@ -14,6 +14,7 @@ use crate::show::show_answer;
 use crate::show::show_state;
 use crate::sum::crc;
 use state::Answer;
+use state::Ran;
 use state::State;
 
 // Whether a spent budget is told with the count of the run.
@@ -39,6 +40,13 @@ fn show_counted(answer: Answer, count: u32) {
     say_one(b'\n');
 }
 
+// What a run leaves.
+pub fn show_left(ran: Ran, work: &[u8], store: &[u8]) {
+    let answer = ran.answer;
+    show_counted(answer, ran.count);
+    show_state(ran.state, work, store);
+}
+
 fn show_opened(
     rom: &[u8],
     work: &mut [u8],
@@ -48,10 +56,8 @@ fn show_opened(
     words: &[u8],
 ) {
     let ran = run(rom, &mut *work, &mut *store, state, budget);
-    let answer = ran.answer;
     let left = ran.state;
-    show_counted(answer, ran.count);
-    show_state(left, &*work, &*store);
+    show_left(ran, &*work, &*store);
     show_rows(left.tree);
     show_finds(&*store, left.tree, words);
 }
