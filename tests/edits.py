@@ -99,9 +99,10 @@ def checked(room, crate, log):
 
 
 def where(log, room, crate):
-    """The first place that the prover refused."""
-    found = re.search(r"^(?:note: )?([^\s:]+:\d+:\d+):(?: error)?", log.read_text(), re.M)
-    return found.group(1).removeprefix(f"{room}/crates/{crate}/") if found else "no place"
+    """The first place that the prover refused: an error's, or where a search of its own found no proof."""
+    words = log.read_text()
+    found = re.search(r"^(\S+:\d+:\d+): error", words, re.M) or re.search(r"^note: (?:.*: )?(\S+:\d+:\d+): ", words, re.M)
+    return found.group(1).removeprefix(f"{room}/crates/{crate}/") if found else "no place that it names"
 
 
 def one(room, crate, edit):
@@ -141,11 +142,9 @@ def all_of(crate):
     return refused
 
 
-def seconds(crate):
-    """How long the crate took to prove, so that the longest are begun first."""
-    log = TARGET / "log" / f"{crate}.out"
-    found = re.search(r"proved \((\d+) s\)", log.read_text()) if log.is_file() else None
-    return int(found.group(1)) if found else 0
+def size(crate):
+    """How much there is to check, so that the largest crates are begun first."""
+    return sum(path.stat().st_size for part in PARTS for path in (ROOT / "crates" / crate / part).rglob("*") if path.is_file())
 
 
 def main():
@@ -154,7 +153,7 @@ def main():
     if proving.returncode != 0:
         print(proving.stdout, end="")
         return 1
-    wanted.sort(key=lambda crate: -seconds(crate) * (len(edits_of(crate)) + 3))
+    wanted.sort(key=size, reverse=True)
     with concurrent.futures.ThreadPoolExecutor(JOBS) as pool:
         results = [refused for of_crate in pool.map(all_of, wanted) for refused in of_crate]
     print(f"{results.count(True)} must-fail edits refused, {results.count(False)} not")
