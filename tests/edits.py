@@ -3,10 +3,10 @@
 
     python3 tests/edits.py [NAME ...]     the edits of all crates, or of those named
 
-What `rt must-fail` does, in a third of the time: a crate with several edits is checked once as it is, and then each edit only as far as
-it reaches, where `rt must-fail` checks the whole crate for each. What is not proved yet is proved first, by `rt check`. The edits are
-made in copies of the sources, in target/edits, where CRATE/EDIT.log has what the prover said. The last line is how many were refused,
-and the status is 1 where one was not.
+What `rt must-fail` does, in less time: a crate with several edits is checked once as it is, and then each edit only as far as it reaches,
+where `rt must-fail` checks the whole crate for each. What is not proved yet is proved first, by `rt check`. The edits are made in copies
+of the sources, in target/edits, where CRATE/EDIT.log has what the prover said. The last line is how many were refused, and the status is
+1 where one was not.
 """
 import concurrent.futures
 import os
