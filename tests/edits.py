@@ -6,7 +6,7 @@
 What `rt must-fail` does, in less time: a crate with several edits is checked once as it is, and then each edit only as far as it reaches,
 where `rt must-fail` checks the whole crate for each. What is not proved yet is proved first, by `rt check`. The edits are made in copies
 of the sources, in target/edits, where CRATE/EDIT.log has what the prover said. The last line is how many were refused, and the status is
-1 where one was not.
+1 where one was not, or where there was none.
 """
 import concurrent.futures
 import os
@@ -55,19 +55,21 @@ def replacements(edit):
 
 
 def edited(folder, edit):
-    """Makes an edit, and gives the files that it changed as they were."""
-    before = {}
+    """Makes an edit, and gives the files that it changed as they were. An edit that cannot be made changes nothing."""
+    before, after = {}, {}
     for file, old, new in replacements(edit):
         path = folder / file
         if pathlib.PurePath(file).parts[0] not in PARTS or ".." in pathlib.PurePath(file).parts or not path.is_file():
             raise Untried(f"{file} is no file of the crate")
-        text = path.read_text()
+        text = after.get(path) or path.read_text()
         if text.count(old) != 1:
             raise Untried(f"the old text is in {file} {text.count(old)} times")
         before.setdefault(path, text)
-        path.write_text(text.replace(old, new))
-    if not before:
-        raise Untried("it changes nothing")
+        after[path] = text.replace(old, new)
+    if not after:
+        raise Untried("it has no old and new text")
+    for path, text in after.items():
+        path.write_text(text)
     return before
 
 
@@ -121,8 +123,10 @@ def one(room, crate, edit):
     return f"refused, first at {where(log, room, crate)} ({took})", True
 
 
-def tried(room, crate, edit):
+def tried(room, crate, edit, proved):
     try:
+        if not proved:
+            raise Untried("the crate is not proved as it is")
         words, refused = one(room, crate, edit)
     except Untried as why:
         words, refused = f"NOT TRIED: {why}", False
@@ -132,12 +136,11 @@ def tried(room, crate, edit):
 
 
 def all_of(crate):
-    """Of each edit of a crate whether it was refused. One edit alone is not worth a check of the crate as it is."""
+    """Of each edit of a crate whether it was refused. One edit alone is not worth a check in steps of the crate as it is."""
     edits = edits_of(crate)
     room = copied(crate)
-    if len(edits) > 1 and not checked(room, crate, room / "unedited.log"):
-        raise Untried(f"crate {crate} is not proved as it is")
-    refused = [tried(room, crate, edit) for edit in edits]
+    proved = len(edits) == 1 or checked(room, crate, room / "unedited.log")
+    refused = [tried(room, crate, edit, proved) for edit in edits]
     shutil.rmtree(room / "target")
     return refused
 
@@ -157,7 +160,7 @@ def main():
     with concurrent.futures.ThreadPoolExecutor(JOBS) as pool:
         results = [refused for of_crate in pool.map(all_of, wanted) for refused in of_crate]
     print(f"{results.count(True)} must-fail edits refused, {results.count(False)} not")
-    return 0 if all(results) else 1
+    return 0 if results and all(results) else 1
 
 
 if __name__ == "__main__":
