@@ -27,13 +27,13 @@ use Rattle.state.specs.Sized.{SizedNumbers}
 use Rattle.state.specs.declared.state.Numbers.{Numbers}
 use Rattle.screen.specs.Effect.{isA, isColon, names}
 use Rattle.screen.specs.Reach.{Named, known, reads, Holds}
-use Rattle.screen.specs.ReachLaws.{ExtendsBy, extends-by}
+use Rattle.screen.specs.ReachLaws.{ExtendsBy, extends-by, end-is}
 use Rattle.screen.specs.Rules.{Assignment}
 use Rattle.screen.specs.TokenFacts.{heads}
-use Rattle.screen.specs.Visits.{call-known, assign-known, unnamed-known}
-use Rattle.screen.specs.Marking.{end-is}
+use Rattle.screen.specs.Ways.{call-known, assign-known, unnamed-known}
 use Rattle.promise.specs.Standing.{Defined, Held, Carried}
-use Rattle.promise.specs.Before.{one-extent, Moves, reach-first, defined-token, defined-end, defined-ahead, wholly-before}
+use Rattle.screen.specs.InForce.{reach-first}
+use Rattle.promise.specs.Before.{one-extent, Moves, defined-token, defined-end, defined-ahead, wholly-before}
 
 -- ---- seeking
 -- a name that is among so many is found among them
@@ -96,7 +96,7 @@ reads-on {rom} {w} {p} kinds (Holds.more {t = t} e n k r) f =
     let y = end-is r in
     body-goes rom (lengthOf rom) w kinds p t e n (f p t (omega (arith, y .low)) k) ∙ reads-on kinds r f
 
-module _ {rom : List ℕ} (fits : lengthOf rom ≤ 16384) (a : Assignment rom) where
+module _ {rom : List ℕ} (a : Assignment rom) where
   -- ---- what is found
   -- the number of a definition that was carried out is found, and it is that definition's
   pub found : {home d e : ℕ} {ns : Numbers} → Carried rom home ns → (f : Defined rom d e) → e ≤ home
@@ -109,7 +109,7 @@ module _ {rom : List ℕ} (fits : lengthOf rom ≤ 16384) (a : Assignment rom) w
       let (d′, e′, en, l′) = c .real (seekOf ns n) s in
       let o : d′ ≡ d = a .once (en .defined .met) (f .met) (en .defined .defines) (f .defines) (sym (en .name) ∙ held-name ns n s) in
       let y = subst (λ x. Held rom ns (seekOf ns n) x e′) o en in
-      (s, subst (λ x. Held rom ns (seekOf ns n) d x) (defined-end fits a (y .defined) f) y)
+      (s, subst (λ x. Held rom ns (seekOf ns n) d x) (defined-end a (y .defined) f) y)
 
   -- reading goes by the kind that the definition says
   found-kind : {home d e : ℕ} {ns : Numbers} → Carried rom home ns → (f : Defined rom d e) → e ≤ home
@@ -117,7 +117,7 @@ module _ {rom : List ℕ} (fits : lengthOf rom ≤ 16384) (a : Assignment rom) w
   found-kind {home} {d} {e} {ns} c f l =
       let (s, y) = found c f l in
       let h = heads rom (lengthOf rom) (f .setting .wide) false d (f .token) (f .met .is) (f .defines) in
-      let same = defined-token fits a (y .defined) (f .met) .0 in
+      let same = defined-token (y .defined) (f .met) in
       let k = y .kind ∙ ap (λ (t : Token). kindIn (t .operand)) same in
       kind-read ns (newNumber (f .token .operand)) (h .0) s ∙ ap kindOfByte k
 
@@ -152,7 +152,7 @@ module _ {rom : List ℕ} (fits : lengthOf rom ≤ 16384) (a : Assignment rom) w
       let s = ltb→lt (seekOf ns n) (ns .count) t in
       let (d′, e′, en, l) = c .real (seekOf ns n) s in
       let o : d′ ≡ d = a .once (en .defined .met) (f .met) (en .defined .defines) (f .defines) (sym (en .name) ∙ held-name ns n s) in
-      let h = defined-ahead fits a (en .defined) in
+      let h = defined-ahead (en .defined) in
       absurd (omega arith))
 
   -- a body at the run's place is read to its C2: 10, 18, 11 and 12 are not given
@@ -160,7 +160,7 @@ module _ {rom : List ℕ} (fits : lengthOf rom ≤ 16384) (a : Assignment rom) w
       → Holds rom (reads (f .setting .wide) (f .token .next) c) → bodyOf rom (lengthOf rom) (f .setting .wide) (kindsOf ns) (f .token .next) ≡ Ends c
   body-read {d} {e} {c} {ns} k f h r =
       let z = one-extent (extends-by (f .ends)) (ExtendsBy.long h r) in
-      reads-on (kindsOf ns) r (λ q t l m. known-at k m (λ x b g u. wholly-before fits a f g u (omega arith)))
+      reads-on (kindsOf ns) r (λ q t l m. known-at k m (λ x b g u. wholly-before a f g u (omega arith)))
 
   -- ---- what stays
   -- a token that defines nothing
@@ -216,7 +216,7 @@ module _ {rom : List ℕ} (fits : lengthOf rom ≤ 16384) (a : Assignment rom) w
           | yes q ↦ (d, e, rw q new-entry, omega arith)
           | no q ↦
               let (x, y, en, l) = c .real i (omega arith) in
-              let g = defined-ahead fits a f in
+              let g = defined-ahead f in
               (x, y, old-entry q en, omega arith)
         ]
 
@@ -225,7 +225,7 @@ module _ {rom : List ℕ} (fits : lengthOf rom ≤ 16384) (a : Assignment rom) w
     full-new m x y g l =
         elim (ℕ-discrete x d) [
           | yes q ↦
-              let same = defined-token fits a (subst (λ p. Defined rom p y) q g) (f .met) .0 in
+              let same = defined-token (subst (λ p. Defined rom p y) q g) (f .met) in
               (ns .count, omega arith, new-name ∙ ap (λ (t : Token). newNumber (t .operand)) (sym same))
           | no q ↦
               let (i, h, r) = c .full x y g (m .adds x y g l q) in
@@ -265,5 +265,5 @@ module _ {rom : List ℕ} (fits : lengthOf rom ≤ 16384) (a : Assignment rom) w
   carried-none ns z =
       record {
         real = λ i h. absurd (omega arith);
-        full = λ d e f l. let h = defined-ahead fits a f in let g = reach-first fits a (f .met .reach) in absurd (omega arith);
+        full = λ d e f l. let h = defined-ahead f in let g = reach-first (f .met .reach) in absurd (omega arith);
       }

@@ -19,10 +19,9 @@ use lib.ListN.{length, replicate, length-replicate}
 use lib.Dec.{eqb}
 use Rattle.cells.specs.Tests.{when-is}
 use Rattle.rom.specs.Sizes.{marksSize, workSize, storeSize}
-use Rattle.rom.specs.Header.{headerOf, lengthOf}
+use Rattle.rom.specs.Header.{headerOf}
 use Rattle.screen.specs.Rules.{Assignment}
 use Rattle.screen.specs.Promise.{Marks, Promised, wrong-size, bad-header, no-heights, passes}
-use Rattle.screen.specs.ScreenLaws.{header-length}
 use Rattle.screen.specs.declared.screening.Verdict.{Verdict}
 use Rattle.screen.specs.declared.screening.Verdict.the-variants.{Passes, Refused as Rejects}
 use Rattle.state.specs.Scene.{Scene, scene, Turn, turn, told}
@@ -151,9 +150,6 @@ module _ (c : Opened) where
   pass : Passed (c .rom) (c .marks)
   pass = passed (c .screened)
 
-  fits : lengthOf (c .rom) ≤ 16384
-  fits = header-length (c .rom) (pass .header)
-
   handed : told (c .fresh) (c .workFresh) (c .storeFresh) ≡ turn Going (freshState (c .rom)) (replicate workSize 0) (replicate storeSize 0)
   handed = c .opens ∙ open-fresh (c .rom) (c .work) (c .store) (sym (ap (λ r. r .answer) (c .opens)) ∙ c .going)
 
@@ -166,7 +162,7 @@ module _ (c : Opened) where
   -- a run from a scene that tokens come to
   from-trail : {n : ℕ} {open-calls : List OpenCall} {s : Scene} → TrailOf c n open-calls s → (budget : ℕ)
       → Ends (c .rom) (c .workLent) (c .storeLent) n budget (runOf budget s)
-  from-trail t budget = trail-ends fits (pass .assignment) (c .workLent) (c .storeLent) work-size store-size (pass .header) t budget
+  from-trail t budget = trail-ends (pass .assignment) (c .workLent) (c .storeLent) work-size store-size (pass .header) t budget
 
   -- the first is that of the fresh state
   first-trail : TrailOf c 0 [] (scene (c .rom) (c .workLent) (c .storeLent) (c .fresh .state))
@@ -177,8 +173,8 @@ module _ (c : Opened) where
   came-trail (again {n} {s} k budget f) =
       let t = came-trail k .1 in
       let o = runOf budget s in
-      let same = trail-arrived fits (pass .assignment) (c .workLent) (c .storeLent) work-size store-size (pass .header) t .same in
-      let e = ends-trail fits (pass .assignment) (c .workLent) (c .storeLent) work-size store-size (pass .header) (from-trail t budget) f in
+      let same = trail-arrived (pass .assignment) (c .workLent) (c .storeLent) work-size store-size (pass .header) t .same in
+      let e = ends-trail (pass .assignment) (c .workLent) (c .storeLent) work-size store-size (pass .header) (from-trail t budget) f in
       (e .0, subst (λ r. TrailOf c (n + o .count) (e .0) (scene r (o .work) (o .store) (o .state))) (sym same) (e .1))
 
 ran-ends : (c : Seen) → Ends (c .opened .rom) (c .opened .workLent) (c .opened .storeLent) 0 (c .budget) (toldRan (c .ran) (c .workRan) (c .storeRan))
@@ -203,7 +199,7 @@ pub counted : Counted
 counted c = (ran-ends c, most (ran-ends c))
 
 pub heights : Heights
-heights c n open-calls s t = stands-high (fits c) (pass c .assignment) (c .workLent) (c .storeLent) (work-size c) (store-size c) (pass c .header) (pass c .marked) t
+heights c n open-calls s t = stands-high (pass c .assignment) (c .workLent) (c .storeLent) (work-size c) (store-size c) (pass c .header) (pass c .marked) t
 
 pub resumed : Resumed
 resumed c n s k budget = let e = from-trail c (came-trail c k .1) budget in (e, allowed e)
@@ -216,5 +212,5 @@ fine-step a open-calls st r (Spent n) f = absurd f
 
 pub stepwise : Stepwise
 stepwise c n open-calls s t =
-    let k = steps-so (fits c) (pass c .assignment) (c .workLent) (c .storeLent) (work-size c) (store-size c) (pass c .header) t in
+    let k = steps-so (pass c .assignment) (c .workLent) (c .storeLent) (work-size c) (store-size c) (pass c .header) t in
     (k .0, subst (λ r. AllowedStep (r .answer)) (sym (k .0)) (fine-step (pass c .assignment) open-calls (s .state) (tokenOf s) (tokenOf s .answer) (k .1)))

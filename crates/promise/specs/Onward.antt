@@ -25,7 +25,7 @@ use Rattle.screen.specs.Effect.{isA, fixes, isColon, isBranch, leadsOf, effectO
 use Rattle.screen.specs.Reach.{In, here, Setting, after, childrenAfter, nodesAfter, numbersAfter, tokenAt, leads, Holds, Reach, Met}
 use Rattle.screen.specs.Rules.{Assignment}
 use Rattle.screen.specs.TokenFacts.{after-same, stops-quiet, fixes-no-name, leave-inside, or-first, or-second}
-use Rattle.screen.specs.Visits.{Ways, ways-of, effect-call, effect-own}
+use Rattle.screen.specs.Ways.{Ways, ways-of, effect-call, effect-own}
 use Rattle.promise.specs.Standing.{OpenCall, openCall, Defined, Carried, AtHome, Calling, CallChain, outside, within, Below, Standing, without}
 use Rattle.promise.specs.Before.{defined-token, leads-moves}
 use Rattle.promise.specs.Carrying.{carried-on}
@@ -37,12 +37,12 @@ pub falls-on : (t : Token) → T (not (isA finish t || isA leave t)) → T (not 
 falls-on t e b c = by (ways-of t)
   where
     by : Ways t → leadsOf t ≡ t .next ∷ []
-    by (Ways.ending h l n r) = absurd (T-not (isA finish t || isA leave t) e h)
-    by (Ways.jumping h l n r) = absurd (T-not (isBranch t) b (or-first (isA always t) (isA choice t) h))
-    by (Ways.choosing h l n r) = absurd (T-not (isBranch t) b (or-second (isA always t) (isA choice t) h))
-    by (Ways.skipping h l n r) = absurd (T-not (isColon t) c h)
-    by (Ways.fixing h k l n r) = l
-    by (Ways.falling h k l n r) = l
+    by (Ways.ending h l) = absurd (T-not (isA finish t || isA leave t) e h)
+    by (Ways.jumping h l) = absurd (T-not (isBranch t) b (or-first (isA always t) (isA choice t) h))
+    by (Ways.choosing h l) = absurd (T-not (isBranch t) b (or-second (isA always t) (isA choice t) h))
+    by (Ways.skipping h l) = absurd (T-not (isColon t) c h)
+    by (Ways.fixing h k l) = l
+    by (Ways.falling h k l) = l
 
 -- a call leads behind itself
 call-leads : (t : Token) → T (isA call t) → leadsOf t ≡ t .next ∷ []
@@ -80,7 +80,7 @@ framed-same calls place wide base =
 unframed-same : (k : ℕ) (calls : Calls) → SameFrames k calls (unframedOf calls)
 unframed-same k calls = record { places = λ i l. refl; wides = λ i l. refl; bases = λ i l. refl }
 
-module _ {rom : List ℕ} (fits : lengthOf rom ≤ 16384) (a : Assignment rom) where
+module _ {rom : List ℕ} (a : Assignment rom) where
   -- ---- home moves with the state outside bodies, and stays where a call is open
   pub record Homed (calls : Calls) (outer : Setting) (es : List OpenCall) (k x floor base q : ℕ) (s : Setting) (ns : Numbers) : Type 0 where
     pub home : ℕ
@@ -96,12 +96,12 @@ module _ {rom : List ℕ} (fits : lengthOf rom ≤ 16384) (a : Assignment rom) w
         home = q;
         chain = outside;
         at = (refl, h .1);
-        numbers = carried-on fits a (leads-moves fits a m l) (λ e d. none d) (subst (λ v. Carried rom v ns) (sym (h .0)) n);
+        numbers = carried-on a (leads-moves a m l) (λ e d. none d) (subst (λ v. Carried rom v ns) (sym (h .0)) n);
       }
     where
       none : {e : ℕ} → Defined rom p e → ⊥
       none d =
-          let i : T (isA define t) = subst (λ v. T (isA define v)) (defined-token fits a d m .0) (d .defines) in
+          let i : T (isA define t) = subst (λ v. T (isA define v)) (defined-token d m) (d .defines) in
           T-not (fixes t) f (rw (is-true (isA define t) i) tt)
   home-on (within c g y z w v) m f l h n = record { home = _; chain = within c g y z w v; at = tt; numbers = n }
 
@@ -127,7 +127,7 @@ module _ {rom : List ℕ} (fits : lengthOf rom ≤ 16384) (a : Assignment rom) w
     pub go-on : {q : ℕ} {then : State} → T (not (fixes t)) → Holds rom (leads (g .setting .wide) (st .place) t q) → Next q then → Standing a open-calls then
     go-on {q} {then} f l n =
         let h = home-on (g .chain) met f l (g .at) (n .numbers) in
-        let b = behind fits a work store open-calls st g t is l in
+        let b = behind a work store open-calls st g t is l in
         let y = a .there met in
         let e = n .place in
         let height = b .height in
@@ -223,16 +223,16 @@ module _ {rom : List ℕ} (fits : lengthOf rom ≤ 16384) (a : Assignment rom) w
     abbrev baseIn : ℕ
     baseIn = g .base + a .back (g .text) (st .place)
 
-    pub go-in : (c : T (isA call t)) → isBodyHere fits a work store open-calls st g t is ≡ true → SizedCalls (st .calls)
+    pub go-in : (c : T (isA call t)) → isBodyHere a work store open-calls st g t is ≡ true → SizedCalls (st .calls)
         → Standing a (openCall (st .stack .height) bodyFirst ∷ open-calls) (enteredOf st bodyFirst bodyWide (t .next))
     go-in c e z =
-        let k = called fits a work store open-calls st g t is c in
+        let k = called a work store open-calls st g t is c in
         let f = k .entered .defined in
-        let colon = holds (isColon (f .token)) (sym (called-colon fits a work store open-calls st g t is k) ∙ e) in
+        let colon = holds (isColon (f .token)) (sym (called-colon a work store open-calls st g t is k) ∙ e) in
         let b = body-of f colon (k .number) in
         let p = k .entered .body colon in
         let n = a .enter (b .1) in
-        let r = frame-room fits a work store open-calls st g t is c e in
+        let r = frame-room a work store open-calls st g t is c e in
         let y : a .sum (t .number) .need ≤ a .height (g .text) (st .place) =
         subst (λ v. v .takes ≤ a .height (g .text) (st .place)) (effect-call (a .sum) t c) (a .there met .0) in
         let calls = st .calls in

@@ -39,7 +39,7 @@ use Rattle.screen.specs.Reach.{In, Setting, tokenAt, known, reads, extends, lea
 use Rattle.screen.specs.Reach.{calls as named-call, assigns as named-assign}
 use Rattle.screen.specs.Rules.{Assignment}
 use Rattle.screen.specs.TokenFacts.{stands}
-use Rattle.screen.specs.Visits.{aimed-some, GivesOn, gives-leads, effect-call, effect-own}
+use Rattle.screen.specs.Ways.{aimed-some, GivesOn, gives-leads, effect-call, effect-own}
 use Rattle.promise.specs.Standing.{OpenCall, Defined, Held, Below, own, child, Standing}
 use Rattle.promise.specs.Trail.{DependsOnData}
 use Rattle.promise.specs.Before.{defined-token}
@@ -108,7 +108,7 @@ defined-here {rom} a {p} {s} {t} m d = by (isColon t) refl
     by false e = (t .next, Holds.to-next (fails (isColon t) e))
 
 -- ---- a token that is met where a state stands
-module _ {rom : List ℕ} (fits : lengthOf rom ≤ 16384) (a : Assignment rom) (work store : List ℕ) (open-calls : List OpenCall) (st : State) (g : Standing a open-calls st) (t : Token)
+module _ {rom : List ℕ} (a : Assignment rom) (work store : List ℕ) (open-calls : List OpenCall) (st : State) (g : Standing a open-calls st) (t : Token)
     (is : tokenAt rom (g .text) (g .setting .wide) (st .place) ≡ Good t) where
   abbrev s : Scene
   s = scene rom work store st
@@ -138,8 +138,8 @@ module _ {rom : List ℕ} (fits : lengthOf rom ≤ 16384) (a : Assignment rom) (
   not-undefined : T (not (Refusals.undefined s t))
   unfolding unknown
   not-undefined =
-      let l = not-past fits a (g .chain) (g .reach) (g .at) in
-      let h = fails unknown (known-numbers fits a (g .numbers) (a .known met) l) in
+      let l = not-past a (g .chain) (g .reach) (g .at) in
+      let h = fails unknown (known-numbers a (g .numbers) (a .known met) l) in
       nor (only family call unknown) (only family assign unknown) (unasked family call unknown (λ e. h)) (unasked family assign unknown (λ e. h))
 
   -- ---- a definition
@@ -153,7 +153,7 @@ module _ {rom : List ℕ} (fits : lengthOf rom ≤ 16384) (a : Assignment rom) (
     -- 13: its number is new, and there is room for it
     new-number : isHeld (st .numbers) (newNumber (t .operand)) ≡ false
     unfolding defined
-    new-number = not-held fits a (g .numbers) defined
+    new-number = not-held a (g .numbers) defined
 
     pub number-room : st .numbers .count < numbersMost
     number-room =
@@ -166,7 +166,7 @@ module _ {rom : List ℕ} (fits : lengthOf rom ≤ 16384) (a : Assignment rom) (
     pub body-ends : {c : ℕ} → T (isColon t) → Holds rom (reads (g .outer .wide) (t .next) c) → bodyHere s t ≡ Ends c
     body-ends {c} k r =
         let f : Defined rom (g .home) (suc c) = record { setting = g .outer; token = t; met = outer .met; defines = d; ends = Holds.through-body k r } in
-        let b = body-read fits a (g .numbers) f k r in
+        let b = body-read a (g .numbers) f k r in
         let w = g .wide ∙ ap (λ v. v .wide) (outer .setting) in
         let kinds = kindsOf (st .numbers) in
         subst (λ n. bodyOf rom n (st .wide) kinds (t .next) ≡ Ends c) (sym (g .size)) (subst (λ v. bodyOf rom (lengthOf rom) v kinds (t .next) ≡ Ends c) (sym w) b)
@@ -204,13 +204,13 @@ module _ {rom : List ℕ} (fits : lengthOf rom ≤ 16384) (a : Assignment rom) (
   called c = by (a .known met)
     where
       l : st .place ≤ g .home
-      l = not-past fits a (g .chain) (g .reach) (g .at)
+      l = not-past a (g .chain) (g .reach) (g .at)
 
       of : {d e : ℕ} → (f : Defined rom d e) → e ≤ st .place → newNumber (f .token .operand) ≡ t .number → Called
       of {d} {e} f b i =
           let m = l in
           let h : e ≤ g .home = omega arith in
-          let r = found fits a (g .numbers) f h in
+          let r = found a (g .numbers) f h in
           let held = subst (λ n. seekOf (st .numbers) n < st .numbers .count) i (r .0) in
           let entered = subst (λ n. Held rom (st .numbers) (seekOf (st .numbers) n) d e) i (r .1) in
           record {
@@ -238,16 +238,16 @@ module _ {rom : List ℕ} (fits : lengthOf rom ≤ 16384) (a : Assignment rom) (
   assigned-value e = by (a .known met)
     where
       l : st .place ≤ g .home
-      l = not-past fits a (g .chain) (g .reach) (g .at)
+      l = not-past a (g .chain) (g .reach) (g .at)
 
       of : {d e : ℕ} → (f : Defined rom d e) → e ≤ st .place → newNumber (f .token .operand) ≡ numberIn (t .operand) → kindIn (f .token .operand) ≡ value
           → getD (st .numbers .kinds) (seekOf (st .numbers) (numberIn (t .operand))) 0 ≡ colon → ⊥
       of {d} {e} f b i v k =
           let m = l in
           let h : e ≤ g .home = omega arith in
-          let r = found fits a (g .numbers) f h in
+          let r = found a (g .numbers) f h in
           let entered = subst (λ n. Held rom (st .numbers) (seekOf (st .numbers) n) d e) i (r .1) in
-          let same = defined-token fits a f (entered .defined .met) .0 in
+          let same = defined-token f (entered .defined .met) in
           let z : colon ≡ value = sym k ∙ entered .kind ∙ ap (λ u. kindIn (u .operand)) (sym same) ∙ v in
           omega arith
 

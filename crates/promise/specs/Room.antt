@@ -19,7 +19,7 @@ use Rattle.screen.specs.TokenFacts.{fixes-outside, leave-inside}
 use Rattle.screen.specs.Reach.{Setting, inBody, reads, Holds, Reach, Met, Body}
 use Rattle.screen.specs.ReachLaws.{ExtendsBy, extends-by}
 use Rattle.screen.specs.Rules.{Assignment}
-use Rattle.screen.specs.Visits.{effect-call}
+use Rattle.screen.specs.Ways.{effect-call}
 use Rattle.promise.specs.Standing.{OpenCall, Defined, AtHome, CallChain, outside, within}
 use Rattle.promise.specs.Before.{body-within}
 
@@ -85,11 +85,11 @@ own-frame {rom} a {d} {e} {n} f k i =
     omega arith
 
 -- ---- where the state stands is not past home
-pub not-past : {rom : List ℕ} (fits : lengthOf rom ≤ 16384) (a : Assignment rom) {calls : Calls} {es : List OpenCall} {home k x floor base p : ℕ} {outer s : Setting}
+pub not-past : {rom : List ℕ} (a : Assignment rom) {calls : Calls} {es : List OpenCall} {home k x floor base p : ℕ} {outer s : Setting}
     → CallChain a calls home outer es k x floor base → Reach rom x s p → AtHome x p s home outer → p ≤ home
-not-past fits a outside r h = let e = h .0 in omega arith
-not-past fits a (within c g y q w v) r h =
-    let b = body-within fits a (g .defined) (g .colon) r in
+not-past a outside r h = let e = h .0 in omega arith
+not-past a (within c g y q w v) r h =
+    let b = body-within a (g .defined) (g .colon) r in
     let e = b .1 in
     let f = g .before in
     omega arith

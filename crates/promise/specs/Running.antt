@@ -8,7 +8,7 @@ use lib.ListN.{length}
 use lib.Dec.{T, eqb}
 use Rattle.cells.specs.Tests.{when-is, neqb→ne}
 use Rattle.rom.specs.Sizes.{workSize, storeSize}
-use Rattle.rom.specs.Header.{headerOf, lengthOf, wideOf}
+use Rattle.rom.specs.Header.{headerOf, wideOf}
 use Rattle.tokens.specs.Place.{readOf}
 use Rattle.tokens.specs.declared.decoding.Token.{Token}
 use Rattle.tokens.specs.declared.read.Read.{Read}
@@ -29,7 +29,7 @@ use Rattle.state.specs.declared.answer.Answer.{Answer}
 use Rattle.state.specs.declared.answer.Answer.the-variants.{Going, Finished, Refused, Spent}
 use Rattle.screen.specs.Reach.{Setting, setting, tokenAt, Holds, Reach}
 use Rattle.screen.specs.Promise.{Marks}
-use Rattle.screen.specs.Visits.{effect-call}
+use Rattle.screen.specs.Ways.{effect-call}
 use Rattle.screen.specs.Rules.{Assignment}
 use Rattle.promise.specs.Standing.{OpenCall, openCall, CallChain, outside, within, own, Standing, openAfter}
 use Rattle.promise.specs.Trail.{DependsOnData, Trail, start, token, Ends, finishes, stops, runs-out, HeightIs}
@@ -49,7 +49,7 @@ pub record Steady {rom : List ℕ} (a : Assignment rom) (open-calls : List OpenC
 same-read : (rom : List ℕ) {m n : ℕ} {v w x y : Bool} (p : ℕ) (r : Read) → m ≡ n → v ≡ w → x ≡ y → readOf rom n w y p ≡ r → readOf rom m v x p ≡ r
 same-read rom p r e f g h = rw (e, f, g) h
 
-module _ {rom : List ℕ} (fits : lengthOf rom ≤ 16384) (a : Assignment rom) where
+module _ {rom : List ℕ} (a : Assignment rom) where
   module _ (open-calls : List OpenCall) (work store : List ℕ) (st : State) (k : Steady a open-calls work store st) where
     abbrev s : Scene
     s = scene rom work store st
@@ -69,8 +69,8 @@ module _ {rom : List ℕ} (fits : lengthOf rom ≤ 16384) (a : Assignment rom) w
     unfolding doneOf
     done-fine t is =
         when-is (FineTurn a open-calls st) (eqb (refusalOf s t) 0) (actOf s t) (refuse (refusalOf s t) s)
-        (λ e. act-good fits a work store open-calls st (k .sized) many g t is)
-        (λ n. by n (by-data fits a work store open-calls st g t is))
+        (λ e. act-good a work store open-calls st (k .sized) many g t is)
+        (λ n. by n (by-data a work store open-calls st g t is))
       where
         by : T (not (eqb (refusalOf s t) 0)) → ByData (refusalOf s t) → DependsOnData (refusalOf s t)
         by n (accepted e) = absurd (neqb→ne (refusalOf s t) 0 n e)
@@ -107,7 +107,7 @@ module _ {rom : List ℕ} (fits : lengthOf rom ≤ 16384) (a : Assignment rom) w
               height = omega (arith, a .start .0);
               back = omega (arith, a .start .1);
               wide = refl;
-              numbers = carried-none fits a (freshState rom .numbers) refl;
+              numbers = carried-none a (freshState rom .numbers) refl;
               count = refl;
               nodes = refl;
               children = own;

@@ -47,7 +47,7 @@ use Rattle.screen.specs.Effect.{isA, fixes, isColon, aims, none, isBranch, both
 use Rattle.screen.specs.Reach.{In, here, there, inBody, tokenAt, extends, leads, Holds}
 use Rattle.screen.specs.Rules.{Assignment}
 use Rattle.screen.specs.TokenFacts.{stands, heads}
-use Rattle.screen.specs.Visits.{effect-own}
+use Rattle.screen.specs.Ways.{effect-own}
 use Rattle.promise.specs.Standing.{OpenCall, Defined, Carried, Below, own, child, Standing, openAfter}
 use Rattle.promise.specs.Trail.{DependsOnData}
 use Rattle.promise.specs.Before.{defined-token, leads-moves}
@@ -178,7 +178,7 @@ same-calls {rom} {a} {open-calls} {then} st e g =
     let down = le-ltb (then .calls .count) (st .calls .count) (omega arith) in
     rw (up, down) g
 
-module _ {rom : List ℕ} (fits : lengthOf rom ≤ 16384) (a : Assignment rom) (work stored : List ℕ) (open-calls : List OpenCall) (st : State) (z : Sized st)
+module _ {rom : List ℕ} (a : Assignment rom) (work stored : List ℕ) (open-calls : List OpenCall) (st : State) (z : Sized st)
     (many : 2 ≤ st .tree .nodes)
     (g : Standing a open-calls st) (t : Token) (is : tokenAt rom (g .text) (g .setting .wide) (st .place) ≡ Good t) where
   abbrev s : Scene
@@ -193,7 +193,7 @@ module _ {rom : List ℕ} (fits : lengthOf rom ≤ 16384) (a : Assignment rom) (
   -- ---- tokens that only go on: what they leave beside the stacks no height hangs on
   -- a token that goes on behind itself
   falls : T (not (isA finish t || isA leave t)) → T (not (isBranch t)) → T (not (isColon t)) → Holds rom (leads (g .setting .wide) (st .place) t (t .next))
-  falls e b c = on fits a work stored open-calls st g t is (subst (λ q. In (t .next) q) (sym (falls-on t e b c)) here)
+  falls e b c = on a work stored open-calls st g t is (subst (λ q. In (t .next) q) (sym (falls-on t e b c)) here)
 
   -- the heights that its effect gives
   abbrev Effected : ℕ → ℕ → Type 0
@@ -226,7 +226,7 @@ module _ {rom : List ℕ} (fits : lengthOf rom ≤ 16384) (a : Assignment rom) (
       → then .place ≡ q → then .length ≡ st .length → then .wide ≡ st .wide → then .calls ≡ st .calls → then .numbers ≡ st .numbers → then .tree ≡ st .tree
       → Standing a open-calls then
   stacked {q} {then} f l h p len w c n tr =
-      go-on fits a work stored open-calls st g t is f l
+      go-on a work stored open-calls st g t is f l
       (record {
         place = p;
         size = len;
@@ -256,17 +256,17 @@ module _ {rom : List ℕ} (fits : lengthOf rom ≤ 16384) (a : Assignment rom) (
   -- branches
   always-good : family ≡ always → Standing a open-calls (Effects.branches s t .state)
   always-good e =
-      let i = to-aim (t .operand) (aimed-in fits a work stored open-calls st g t is (rw e tt)) in
-      stacked (rw e tt) (on fits a work stored open-calls st g t is (subst (λ q. In (aimed (t .operand)) q) (sym (always-leads t e)) i))
+      let i = to-aim (t .operand) (aimed-in a work stored open-calls st g t is (rw e tt)) in
+      stacked (rw e tt) (on a work stored open-calls st g t is (subst (λ q. In (aimed (t .operand)) q) (sym (always-leads t e)) i))
       (given (rw e tt) (rw e tt) always (st .stack .height) (st .back .height) e tt (omega arith) refl) refl refl refl refl refl refl
 
   choice-good : family ≡ choice → Standing a open-calls (Effects.chooses s t .state)
   choice-good e =
-      let i = either-way (t .next) (t .operand) (aimed-in fits a work stored open-calls st g t is (rw e tt)) in
+      let i = either-way (t .next) (t .operand) (aimed-in a work stored open-calls st g t is (rw e tt)) in
       let both = bothWays (t .next) (aims (t .operand)) in
       let j = pick-is (λ q. In q both) (eqb (cellOf s 0) 0) (aimed (t .operand)) (t .next) (λ h. i .1) (λ h. i .0) in
       stacked (rw e tt)
-      (on fits a work stored open-calls st g t is (subst (λ q. In (pick (eqb (cellOf s 0) 0) (aimed (t .operand)) (t .next)) q) (sym (choice-leads t e)) j))
+      (on a work stored open-calls st g t is (subst (λ q. In (pick (eqb (cellOf s 0) 0) (aimed (t .operand)) (t .next)) q) (sym (choice-leads t e)) j))
       (given (rw e tt) (rw e tt) choice _ _ e tt (omega arith) refl) refl refl refl refl refl refl
 
   -- ---- families of which each token takes and gives the same, and goes on behind itself
@@ -293,7 +293,7 @@ module _ {rom : List ℕ} (fits : lengthOf rom ≤ 16384) (a : Assignment rom) (
     keeps-good takes name v p q =
         let h = taken (st .stack .height - takes + 0) (st .back .height) (rw (← p, ← q) refl) refl in
         let same = put-same (st .tree) stored name v in
-        go-on fits a work stored open-calls st g t is no-fixing goes-behind
+        go-on a work stored open-calls st g t is no-fixing goes-behind
         (record {
           place = refl;
           size = refl;
@@ -311,7 +311,7 @@ module _ {rom : List ℕ} (fits : lengthOf rom ≤ 16384) (a : Assignment rom) (
   assign-good : family ≡ assign → Standing a open-calls (Effects.assigns s t .state)
   assign-good e =
       let h = taken assign e tt (st .stack .height - 1 + 0) (st .back .height) refl refl in
-      go-on fits a work stored open-calls st g t is (no-fixing assign e tt) (goes-behind assign e tt)
+      go-on a work stored open-calls st g t is (no-fixing assign e tt) (goes-behind assign e tt)
       (record {
         place = refl;
         size = refl;
@@ -319,7 +319,7 @@ module _ {rom : List ℕ} (fits : lengthOf rom ≤ 16384) (a : Assignment rom) (
         calls = refl;
         height = h .0;
         back = h .1;
-        numbers = carried-assigned fits a (seekOf (st .numbers) (numberIn (t .operand))) (cellOf s 0) (assigned-value fits a work stored open-calls st g t is e) (g .numbers);
+        numbers = carried-assigned a (seekOf (st .numbers) (numberIn (t .operand))) (cellOf s 0) (assigned-value a work stored open-calls st g t is e) (g .numbers);
         count = refl;
         nodes = refl;
         children = g .children;
@@ -327,15 +327,15 @@ module _ {rom : List ℕ} (fits : lengthOf rom ≤ 16384) (a : Assignment rom) (
 
   -- ---- a call: a body is entered, any other number gives its value
   call-good : family ≡ call → FineTurn a open-calls st (Effects.calls s t)
-  call-good e = by (isBodyHere fits a work stored open-calls st g t is) refl
+  call-good e = by (isBodyHere a work stored open-calls st g t is) refl
     where
       c : T (isA call t)
       c = holds (isA call t) (eq-eqb family call e)
 
-      by : (b : Bool) → isBodyHere fits a work stored open-calls st g t is ≡ b → FineTurn a open-calls st (Effects.calls s t)
-      by true k = rw (k, lt-ltb (st .calls .count) (st .calls .count + 1) (omega arith)) (go-in fits a work stored open-calls st g t is c k (z .calls))
+      by : (b : Bool) → isBodyHere a work stored open-calls st g t is ≡ b → FineTurn a open-calls st (Effects.calls s t)
+      by true k = rw (k, lt-ltb (st .calls .count) (st .calls .count + 1) (omega arith)) (go-in a work stored open-calls st g t is c k (z .calls))
       by false k =
-          let o = value-sum fits a work stored open-calls st g t is c k in
+          let o = value-sum a work stored open-calls st g t is c k in
           let h : Effected (st .stack .height - 0 + 1) (st .back .height) =
           subst (λ v. (st .stack .height - 0 + 1 ≡ st .stack .height - v .takes + v .gives) × (st .back .height ≡ st .back .height - v .«return_takes» + v .«return_gives»))
           (sym o) (refl, omega arith) in
@@ -345,15 +345,15 @@ module _ {rom : List ℕ} (fits : lengthOf rom ≤ 16384) (a : Assignment rom) (
   leave-good : family ≡ leave → FineTurn a open-calls st (Effects.leaves s t)
   leave-good e =
       let l = holds (isA leave t) (eq-eqb family leave e) in
-      let o = open-count fits a work stored open-calls st g t is l in
+      let o = open-count a work stored open-calls st g t is l in
       let up = le-ltb (st .calls .count) (st .calls .count - 1) (omega arith) in
       let down = lt-ltb (st .calls .count - 1) (st .calls .count) (omega arith) in
-      rw (up, down) (go-out fits a work stored open-calls st g t is l)
+      rw (up, down) (go-out a work stored open-calls st g t is l)
 
   -- ---- tokens that are met exactly once
   module _ (f : T (fixes t)) where
     abbrev outer : Outer a open-calls (st .calls .count) (g .text) (g .floor) (g .base) (st .place) (g .home) (g .setting) (g .outer) t
-    outer = fixed fits a work stored open-calls st g t is f
+    outer = fixed a work stored open-calls st g t is f
 
     past : T (not (isColon t)) → T (not (isA finish t || isA leave t)) → T (not (isBranch t)) → Holds rom (leads (g .outer .wide) (g .home) t (t .next))
     past c e b = Holds.by-itself (a .known (outer .met)) (subst (λ q. In (t .next) q) (sym (falls-on t e b c)) here)
@@ -363,10 +363,10 @@ module _ {rom : List ℕ} (fits : lengthOf rom ≤ 16384) (a : Assignment rom) (
 
   -- numbers stay those of the definitions carried out
   moves-on : (f : T (fixes t)) → T (not (isA define t)) → {q : ℕ} → Holds rom (leads (g .outer .wide) (g .home) t q) → Carried rom q (st .numbers)
-  moves-on f n {q} l = carried-on fits a (leads-moves fits a (outer f .met) l) (λ e d. none d) (g .numbers)
+  moves-on f n {q} l = carried-on a (leads-moves a (outer f .met) l) (λ e d. none d) (g .numbers)
     where
       none : {e : ℕ} → Defined rom (g .home) e → ⊥
-      none d = T-not (isA define t) n (subst (λ v. T (isA define v)) (defined-token fits a d (outer f .met) .0) (d .defines))
+      none d = T-not (isA define t) n (subst (λ v. T (isA define v)) (defined-token d (outer f .met)) (d .defines))
 
   -- CC, 11F and 127 take nothing
   none-taken : (f : ℕ) → family ≡ f → T (not (isA define t)) → T (not (eqb f plain || eqb f kind)) → takesBy f ≡ 0 → st .stack .height ≡ st .stack .height - takesHere t
@@ -379,7 +379,7 @@ module _ {rom : List ℕ} (fits : lengthOf rom ≤ 16384) (a : Assignment rom) (
   widen-good e =
       let f : T (fixes t) = rw e tt in
       let l = past f (rw e tt) (rw e tt) (rw e tt) in
-      go-fixed fits a work stored open-calls st g t is f l
+      go-fixed a work stored open-calls st g t is f l
       (record {
         place = refl;
         size = refl;
@@ -397,8 +397,8 @@ module _ {rom : List ℕ} (fits : lengthOf rom ≤ 16384) (a : Assignment rom) (
   new-good e =
       let f : T (fixes t) = rw e tt in
       let l = past f (rw e tt) (rw e tt) (rw e tt) in
-      let less : st .tree .nodes < 32 = nleb→lt 32 (st .tree .nodes) (node-room fits a work stored open-calls st g t is e) in
-      go-fixed fits a work stored open-calls st g t is f l
+      let less : st .tree .nodes < 32 = nleb→lt 32 (st .tree .nodes) (node-room a work stored open-calls st g t is e) in
+      go-fixed a work stored open-calls st g t is f l
       (record {
         place = refl;
         size = refl;
@@ -417,7 +417,7 @@ module _ {rom : List ℕ} (fits : lengthOf rom ≤ 16384) (a : Assignment rom) (
       let f : T (fixes t) = rw e tt in
       let l = past f (rw e tt) (rw e tt) (rw e tt) in
       let i = holds (isA finishDevice t) (eq-eqb family finishDevice e) in
-      go-fixed fits a work stored open-calls st g t is f l
+      go-fixed a work stored open-calls st g t is f l
       (record {
         place = refl;
         size = refl;
@@ -451,7 +451,7 @@ module _ {rom : List ℕ} (fits : lengthOf rom ≤ 16384) (a : Assignment rom) (
     new-numbers {q} v x l c =
         let o = outer once in
         let f : Defined rom (g .home) q = record { setting = g .outer; token = t; met = o .met; defines = defines; ends = x } in
-        let n = carried-new fits a v (leads-moves fits a (o .met) l) (g .numbers) (z .numbers) (number-room fits a work stored open-calls st g t is defines) f c in
+        let n = carried-new a v (leads-moves a (o .met) l) (g .numbers) (z .numbers) (number-room a work stored open-calls st g t is defines) f c in
         subst (λ w. Carried rom q (definedOf (st .numbers) (newNumber (t .operand)) (kindIn (t .operand)) v w)) (sym (width once)) n
 
     colon-good : kindIn (t .operand) ≡ colon → Standing a open-calls (Effects.colons s t .state)
@@ -464,9 +464,9 @@ module _ {rom : List ℕ} (fits : lengthOf rom ≤ 16384) (a : Assignment rom) (
         let h = kind-taken in
         let y = kind-takes .0 in
         let w : takesIn (codeOf (kindIn (t .operand))) ≡ 0 = rw k y in
-        go-fixed fits a work stored open-calls st g t is once l
+        go-fixed a work stored open-calls st g t is once l
         (record {
-          place = ap behindBody (body-ends fits a work stored open-calls st g t is defines c (r .1)) ∙ omega arith;
+          place = ap behindBody (body-ends a work stored open-calls st g t is defines c (r .1)) ∙ omega arith;
           size = refl;
           wide = rw e (width once);
           calls = refl;
@@ -490,7 +490,7 @@ module _ {rom : List ℕ} (fits : lengthOf rom ≤ 16384) (a : Assignment rom) (
           → Standing a open-calls (withWork (Effects.withNumber (onward s t takes []) t v) at)
       other-good takes v at y =
           let h = kind-taken in
-          go-fixed fits a work stored open-calls st g t is once behind-it
+          go-fixed a work stored open-calls st g t is once behind-it
           (record {
             place = refl;
             size = refl;
@@ -536,9 +536,9 @@ module _ {rom : List ℕ} (fits : lengthOf rom ≤ 16384) (a : Assignment rom) (
       (λ k. same-calls st refl (gives-good text k tt 0 (_ ∷ _ ∷ []) refl refl)) ▸
       (λ k. same-calls st refl (widen-good k)) ▸
       (λ k. same-calls st refl (divide-good k)) ▸
-      (λ k. absurd (shut pickUp k (no-pick fits a work stored open-calls st g t is .0))) ▸
-      (λ k. absurd (shut rollUp k (no-pick fits a work stored open-calls st g t is .1))) ▸
-      (λ k. absurd (shut maybe k (no-pick fits a work stored open-calls st g t is .2))) ▸
+      (λ k. absurd (shut pickUp k (no-pick a work stored open-calls st g t is .0))) ▸
+      (λ k. absurd (shut rollUp k (no-pick a work stored open-calls st g t is .1))) ▸
+      (λ k. absurd (shut maybe k (no-pick a work stored open-calls st g t is .2))) ▸
       (λ k. leave-good k) ▸
       (λ k. same-calls st refl (gives-good fetch k tt 1 (_ ∷ []) refl refl)) ▸
       (λ k. same-calls st refl (gives-good store k tt 2 [] refl refl)) ▸

@@ -9,7 +9,7 @@ use mathlib.Core.Logic.{_≢_}
 use lib.Dec.{T, T-not, eqb, leb, eqb→eq, leb→le}
 use lib.ListN.{getD}
 use Rattle.cells.specs.Tests.{pick-is}
-use Rattle.cells.specs.Facts.{holds, fails, is-true, both-hold}
+use Rattle.cells.specs.Facts.{holds, fails, both-hold}
 use Rattle.rom.specs.Header.{lengthOf, wideOf}
 use Rattle.rom.specs.Sizes.{dataMost, returnMost, framesMost, numbersMost, nodesMost}
 use Rattle.tokens.specs.Family.{call, define, widen, always, choice, leave, finish, newDevice, finishDevice}
@@ -27,7 +27,8 @@ use Rattle.screen.specs.Reach.{In, there, Setting, setting, after, nodes
 use Rattle.screen.specs.ReachLaws.{ExtendsBy, extends-by}
 use Rattle.screen.specs.Rules.{ownFrame, Assignment}
 use Rattle.screen.specs.TokenFacts.{either, none-in, fixes-no-branch, heads, or-first, or-second, one-family, fixes-is, fixed-wide, stops-quiet}
-use Rattle.screen.specs.Visits.{Meets, Fits, visit-fits, visited, height-in, back-in, effect-own, colon-defines, Ways, ways-of}
+use Rattle.screen.specs.Ways.{effect-own, colon-defines, Ways, ways-of, define-fixes, colon-fixes}
+use Rattle.screen.specs.Visits.{Meets, Fits, visit-fits, visited, height-in, back-in}
 use Rattle.screen.specs.Model.{Board, endIn, unmet, cellOf, heightIn, backIn, heightAfter, backAfter, visitOf, sumAt, sumOf, bodyText, outsideText}
 use Rattle.screen.specs.Walking.{At}
 use Rattle.screen.specs.Tallying.{Among, needAt, peakAt, backAt as returnAt, framesAt}
@@ -36,7 +37,7 @@ use Rattle.screen.specs.Rounds.{ran, farOf, left, OutAt, Ready, Ran, Nex
 use Rattle.screen.specs.Boards.{BodyRan, Advanced, advanced}
 use Rattle.screen.specs.Chains.{Steps, here, via, then, first-ready, chain-kept, climbs, one-token, next-one, steps-kept, Order, order}
 use Rattle.screen.specs.Roots.{known-real, body-reads, start-only}
-use Rattle.screen.specs.Cover.{start, Follows, ready, rooted, round-on, round-end, leads-itself, leads-way, colon-fixes}
+use Rattle.screen.specs.Cover.{start, Follows, ready, rooted, round-on, round-end, leads-itself, leads-way}
 use Rattle.screen.specs.AcceptSpots.{Bound, at-bound, chain-ran, behind, Out, outside, out-cell, effect-kept, Inside, bodyOf, body-fits, body-token, body-free, body-on, inside}
 use Rattle.screen.specs.AcceptCells.{Cells, body-cells, body-start, among, body-limits, effectIn, at-entry, at-met, inside-reach}
 use Rattle.screen.specs.declared.effect.Sum.{Sum}
@@ -560,12 +561,12 @@ module _ (rom : List ℕ) (fits : lengthOf rom ≤ 16384) {last : Board} (passed
           (λ f. rw (one-family leave always t f tt, one-family leave choice t f tt) tt)
 
       by : Ways t → In q (leadsOf t)
-      by (Ways.ending e l n a) = absurd (T-not (isBranch t) (no-branch e) b)
-      by (Ways.jumping e l n a) = subst (λ v. In q v) (sym l) i
-      by (Ways.choosing e l n a) = subst (λ v. In q v) (sym l) (choice-leads (t .operand) (t .next) i)
-      by (Ways.skipping c l n a) = absurd (T-not (isBranch t) (fixes-no-branch t (colon-fixes t c)) b)
-      by (Ways.fixing f c l n a) = absurd (T-not (isBranch t) (fixes-no-branch t f) b)
-      by (Ways.falling e f l n a) = absurd (T-not (isBranch t) f b)
+      by (Ways.ending e l) = absurd (T-not (isBranch t) (no-branch e) b)
+      by (Ways.jumping e l) = subst (λ v. In q v) (sym l) i
+      by (Ways.choosing e l) = subst (λ v. In q v) (sym l) (choice-leads (t .operand) (t .next) i)
+      by (Ways.skipping c l) = absurd (T-not (isBranch t) (fixes-no-branch t (colon-fixes t c)) b)
+      by (Ways.fixing f c l) = absurd (T-not (isBranch t) (fixes-no-branch t f) b)
+      by (Ways.falling e f l) = absurd (T-not (isBranch t) f b)
 
   stays-in : {s r : Setting} {d n c p q : ℕ} {t u : Token} → Body rom s d t n c → Met rom (suc d) r p u → T (isBranch u) → In q (aims (u .operand))
       → Starts rom (s .wide) (t .next) q
@@ -585,9 +586,6 @@ module _ (rom : List ℕ) (fits : lengthOf rom ≤ 16384) {last : Board} (passed
       fails (astray u) (bodyOf rom fits passed k .marked .fine h″ (subst (λ v. tokenAt rom 1 (v .wide) p ≡ Good u) g e) .0)
 
   -- ---- rule 5
-  define-fixes : (t : Token) → T (isA define t) → T (fixes t)
-  define-fixes t d = rw (is-true (isA define t) d) tt
-
   kind-some : {s : Setting} {p : ℕ} {t : Token} → Met rom 0 s p t → T (isA define t) → kindIn (t .operand) ≢ 0
   kind-some {s} {p} {t} m d z =
       let h = heads rom (lengthOf rom) (s .wide) false p t (m .is) d .1 in

@@ -15,14 +15,15 @@ use Rattle.tokens.specs.declared.read.Read.the-variants.{Good}
 use Rattle.screen.specs.Effect.{isA, fixes, isColon, leadsOf, called, effectOf}
 use Rattle.screen.specs.Reach.{In, Setting, after, tokenAt, Claim, Holds, Reach, Met}
 use Rattle.screen.specs.TokenFacts.{after-same, fixes-outside}
-use Rattle.screen.specs.Visits.{Fits, visit-fits, effect-call, effect-own, unknown-call}
+use Rattle.screen.specs.Ways.{effect-call, effect-own, unknown-call, colon-fixes}
+use Rattle.screen.specs.Visits.{Fits, visit-fits}
 use Rattle.screen.specs.Model.{Board, cellOf, capOf, sumAt, visitOf, bodyText}
 use Rattle.screen.specs.Walking.{At}
 use Rattle.screen.specs.Advancing.{settingOf}
 use Rattle.screen.specs.Rounds.{ran, farOf, left, OutAt, Ready, Ran, Next, on, Chain, ends, goes}
 use Rattle.screen.specs.Boards.{BodyRan, Advanced, advanced}
 use Rattle.screen.specs.Chains.{Steps, here, via, then, chain-kept, chain-seen, chain-steps, one-token}
-use Rattle.screen.specs.Cover.{start, Follows, ready, Before, round-on, round-end, leads-way, leads-itself, colon-fixes, cover}
+use Rattle.screen.specs.Cover.{start, Follows, ready, Before, round-on, round-end, leads-way, leads-itself, cover}
 use Rattle.screen.specs.declared.walking.Text.{Text as Scope}
 
 -- a cell's heights, within a cap

@@ -18,13 +18,14 @@ use Rattle.screen.specs.Reach.{Setting, Reach}
 use Rattle.screen.specs.Rules.{Assignment}
 use Rattle.screen.specs.Model.{Board, cellOf, isMet}
 use Rattle.screen.specs.Walking.{walked-below}
+use Rattle.screen.specs.Ways.{colon-fixes}
 use Rattle.screen.specs.Marking.{walked-met, marks-kept}
 use Rattle.screen.specs.Advancing.{settingOf}
 use Rattle.screen.specs.Rounds.{ran-above, ran, farOf, left, OutAt, Ran, Chain, ends, goes}
 use Rattle.screen.specs.Boards.{BodyRan, Advanced, advanced}
 use Rattle.screen.specs.Chains.{chain-kept, chain-seen, then}
 use Rattle.screen.specs.Roots.{at-reach, body-reach}
-use Rattle.screen.specs.Cover.{start, Follows, ready, rooted, colon-fixes}
+use Rattle.screen.specs.Cover.{start, Follows, ready, rooted}
 use Rattle.screen.specs.AcceptSpots.{outside, out-cell, Inside, inside, bodyOf}
 use Rattle.screen.specs.AcceptCells.{Cells, body-cells, at-entry}
 use Rattle.screen.specs.Exact.{at-heights, body-heights, body-sum}

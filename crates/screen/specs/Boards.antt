@@ -25,7 +25,8 @@ use Rattle.screen.specs.Reach.{after}
 use Rattle.screen.specs.TokenFacts.{one-family, fixes-is, heads}
 use Rattle.screen.specs.Model.{Path, Board, Marked, cellOf, heightIn, backIn, slot, packed, unpacked, sumAt, isMet, unmet, passesOf, sumOf, bodyText, outsideText, places}
 use Rattle.screen.specs.Model.{startsOf, bodyWalked, bodyTally, shiftOf, board, entryOf, onStand, withCount, moved}
-use Rattle.screen.specs.Visits.{Meets, Fits, visit-fits, effect-own}
+use Rattle.screen.specs.Ways.{effect-own}
+use Rattle.screen.specs.Visits.{Meets, Fits, visit-fits}
 use Rattle.screen.specs.Walking.{At, Given, Walked, walk-good}
 use Rattle.screen.specs.Marking.{walked-met, Cell, start, other, Marks, marks-good, marks-kept}
 use Rattle.screen.specs.Tallying.{Among, TallyIs, tally-is}

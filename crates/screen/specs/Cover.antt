@@ -7,18 +7,18 @@ use mathlib.Core.Logic.{_⊎_, inl, inr, _≢_}
 use lib.Dec.{T, T-not}
 use Rattle.cells.specs.Tests.{pick-is}
 use Rattle.tokens.specs.Table.{isProgram}
-use Rattle.tokens.specs.Family.{define}
 use lib.ListN.{length, getD}
 use Rattle.cells.specs.Facts.{holds, fails, is-true}
 use Rattle.rom.specs.Header.{lengthOf, wideOf}
 use Rattle.tokens.specs.Body.{kindOf}
 use Rattle.tokens.specs.declared.decoding.Token.{Token}
 use Rattle.tokens.specs.declared.read.Read.the-variants.{Good}
-use Rattle.screen.specs.Effect.{isA, fixes, isColon, leadsOf}
+use Rattle.screen.specs.Effect.{fixes, leadsOf}
 use Rattle.screen.specs.Reach.{In, Setting, after, tokenAt, Claim, Holds, Reach, Met}
 use Rattle.screen.specs.ReachLaws.{LeadsBy, leads-by}
 use Rattle.screen.specs.TokenFacts.{after-same}
-use Rattle.screen.specs.Visits.{WayIn, Fits, visit-fits, in-way, colon-defines}
+use Rattle.screen.specs.Ways.{colon-fixes}
+use Rattle.screen.specs.Visits.{WayIn, Fits, visit-fits, in-way}
 use Rattle.screen.specs.Model.{Board, visitOf, fixedIn, outsideText, slot, firstBoard}
 use Rattle.screen.specs.Walking.{Way, At}
 use Rattle.screen.specs.Advancing.{settingOf}
@@ -27,10 +27,6 @@ use Rattle.screen.specs.Boards.{Advanced, advanced}
 use Rattle.screen.specs.Chains.{Steps, here, via, then, ready-steps, first-ready, clear, zeros}
 use Rattle.screen.specs.Roots.{Rooted, rooted-next, start-only}
 use Rattle.screen.specs.declared.walking.Text.{Text as Scope}
-
--- a b(:) is one of the tokens that end a round
-pub colon-fixes : (t : Token) → T (isColon t) → T (fixes t)
-colon-fixes t c = rw (is-true (isA define t) (colon-defines t c)) tt
 
 -- where a token leads that ends no round, a walk goes on to
 pub leads-way : {rom : List ℕ} {x : Scope} {kinds sums : List ℕ} {p c q : ℕ} (f : Fits rom x kinds sums p c) → T (not (fixes (f .token)))

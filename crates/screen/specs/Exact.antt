@@ -24,7 +24,9 @@ use Rattle.screen.specs.Effect.{isA, fixes, isColon, effectOf}
 use Rattle.screen.specs.Reach.{Claim, Holds, Met}
 use Rattle.screen.specs.Rules.{Assignment}
 use Rattle.screen.specs.TokenFacts.{or-second, one-family, fixes-is, stops-quiet}
-use Rattle.screen.specs.Visits.{effect-own, height-in, back-in}
+use Rattle.screen.specs.Ways.{effect-own}
+use Rattle.screen.specs.ReachLaws.{extends-ahead}
+use Rattle.screen.specs.Visits.{height-in, back-in}
 use Rattle.screen.specs.Walking.{At, Walked, walk-good, walk-bad}
 use Rattle.screen.specs.Marking.{Marks, marks-good, marks-found}
 use Rattle.screen.specs.Tallying.{TallyIs, tally-is}
@@ -36,7 +38,7 @@ use Rattle.screen.specs.Boards.{BodyRan, Advanced, advanced, given-body}
 use Rattle.screen.specs.Chains.{Steps, here, via, then, climbs, clear, zeros}
 use Rattle.screen.specs.Roots.{Rooted, extends-start, leads-start, body-reads}
 use Rattle.screen.specs.Cover.{start, Follows, ready, rooted}
-use Rattle.screen.specs.ExactRound.{extends-ahead, not-good, limits, Floor, Agrees, at-here, round-good, round-ran}
+use Rattle.screen.specs.ExactRound.{not-good, limits, Floor, Agrees, at-here, round-good, round-ran}
 use Rattle.screen.specs.ExactBody.{far-token, body-fine, at-inside, body-no-fails, sum-is, tally-passes}
 use Rattle.screen.specs.declared.effect.Effect.{Effect}
 use Rattle.screen.specs.declared.rounds.Tally.{Tally}

@@ -5,45 +5,39 @@ use native.Mathlib.Omega.{arith}
 use native.Mathlib.Decide.{ℕ-discrete, decLt}
 use mathlib.Core.Path.{_≡_, refl, sym, ap, _∙_, subst}
 use mathlib.Core.Bool.{Bool, true, false, not}
-use mathlib.Core.List.{List, []}
-use mathlib.Core.Logic.{_⊎_, inl, inr, _≢_}
-use lib.Dec.{T, T-not, leb, eqb→eq, le→leb}
+use mathlib.Core.List.{List}
+use mathlib.Core.Logic.{_≢_}
+use lib.Dec.{T, T-not, leb, le→leb}
 use lib.ListN.{getD}
 use borrow.Author.Tests.{ne-eqb}
-use Rattle.cells.specs.Facts.{holds, fails, is-true, is-false}
+use Rattle.cells.specs.Facts.{fails, is-true, is-false}
 use Rattle.rom.specs.Header.{lengthOf}
-use Rattle.tokens.specs.Family.{leave, define}
-use Rattle.tokens.specs.Code.{familyIn}
+use Rattle.tokens.specs.Family.{define}
 use Rattle.tokens.specs.Body.{unknownOf}
 use Rattle.tokens.specs.Laws.{next-ahead, none-starts}
 use Rattle.tokens.specs.Definition.{newNumber}
 use Rattle.tokens.specs.declared.decoding.Token.{Token}
 use Rattle.tokens.specs.declared.read.Read.the-variants.{Good}
 use Rattle.screen.specs.Effect.{isA, fixes, isColon, astray, leadsOf, names, effectOf}
-use Rattle.screen.specs.Reach.{In, Setting, after, tokenAt, Claim, Holds, Reach, Met, Body, Starts}
-use Rattle.screen.specs.ReachLaws.{ExtendsBy, extends-by}
+use Rattle.screen.specs.Reach.{In, Setting, tokenAt, Claim, Holds, Reach, Met, Body, Starts}
+use Rattle.screen.specs.ReachLaws.{ExtendsBy, extends-by, start-within, one-end, extends-ahead, one-good}
 use Rattle.screen.specs.Rules.{Assignment, Most}
-use Rattle.screen.specs.TokenFacts.{none-in, after-same, fixes-outside}
+use Rattle.screen.specs.TokenFacts.{after-same, fixes-outside}
 use Rattle.screen.specs.TokenFacts.{end-is as last-is}
-use Rattle.screen.specs.Visits.{FallOrJump, fall-or-jump, height-in, back-in, is-met, Meets, visit-fits, fits-visit}
+use Rattle.screen.specs.InForce.{one-fixed, start-on}
+use Rattle.screen.specs.Ways.{define-fixes}
+use Rattle.screen.specs.Visits.{height-in, back-in, is-met, Meets, visit-fits, fits-visit}
 use Rattle.screen.specs.Walking.{At, Fails, Walked}
-use Rattle.screen.specs.Marking.{walked-met, Marks, Fine, start-within, one-end}
+use Rattle.screen.specs.Marking.{walked-met, Marks, Fine}
 use Rattle.screen.specs.Tallying.{Among, Greatest, Leaving, TallyIs, needAt, peakAt, backAt, framesAt}
 use Rattle.screen.specs.Advancing.{settingOf}
 use Rattle.screen.specs.Model.{Path, Board, Marked, cellOf, heightIn, backIn, heightAfter, backAfter, sumAt, isMet, bodyText, sumOf, passesOf}
 use Rattle.screen.specs.Rounds.{ran-above, ran, farOf, Ran}
-use Rattle.screen.specs.Boards.{advanced}
-use Rattle.screen.specs.Chains.{steps-kept, climbs}
 use Rattle.screen.specs.Roots.{way-leads, far-met}
-use Rattle.screen.specs.Cover.{leads-way, leads-itself, ready, rooted, Before, cover}
-use Rattle.screen.specs.ExactRound.{define-fixes, extends-ahead, fixed-ahead, one-good, not-good, limits, Floor, stay-above, Agrees, known-held, effect-same, stay-below}
+use Rattle.screen.specs.Cover.{leads-way, leads-itself, ready, rooted}
+use Rattle.screen.specs.ExactRound.{not-good, limits, Agrees, known-held, effect-same, stay-below}
 use Rattle.screen.specs.declared.walking.Text.{Text as Scope}
 use Rattle.screen.specs.declared.rounds.Tally.{Tally}
-
--- what leaves a body leads nowhere
-leave-leads : (t : Token) → T (isA leave t) → leadsOf t ≡ []
-unfolding leadsOf
-leave-leads t h = let f = eqb→eq (familyIn (t .code)) leave h in rw f
 
 -- behind a token of a body that is not its last the body is read on
 reads-behind : {rom : List ℕ} {w : Bool} {p c : ℕ} {t : Token} → Holds rom (Claim.reads w p c) → tokenAt rom 1 w p ≡ Good t → (t .number ≡ 0xC2 → ⊥)
@@ -87,54 +81,9 @@ module _ (rom : List ℕ) (fits : lengthOf rom ≤ 16384) (a : Assignment rom) {
   pub far-token : Met rom 0 here far t
   far-token = far-met rom fits r (rooted rom fits (g .follows))
 
-  -- it reaches up to a place
-  far-end : (e : ℕ) × Holds rom (Claim.extends wide t e)
-  far-end = by (isColon t) refl
-    where
-      by : (k : Bool) → isColon t ≡ k → (e : ℕ) × Holds rom (Claim.extends wide t e)
-      by true e = let c = holds (isColon t) e in let y = a .read far-token c in (suc (y .0), Holds.through-body c (y .1))
-      by false e = (t .next, Holds.to-next (fails (isColon t) e))
-
-  -- ---- that token is met in one setting
-  abbrev Settled : Setting → ℕ → Type 0
-  Settled s q = (b .stand .start ≤ q) × (q ≤ far → s ≡ here)
-
-  -- above the start no token leads back into the round with another setting
-  settled-on : (s : Setting) (p q : ℕ) (u : Token) → Met rom 0 s p u → Settled s p → Holds rom (Claim.leads (s .wide) p u q) → Settled (after u s) q
-  settled-on s p q u m z l = (stay-above rom fits a (g .floor) m (z .0) l, λ k. by k (decLt far p))
-    where
-      low : far < far-end .0
-      low = extends-ahead far-token (far-end .1)
-
-      by : q ≤ far → Dec (far < p) → after u s ≡ here
-      by k (yes y) =
-          let i = a .apart far-token (far-end .1) m y in
-          let j = stay-above rom fits a (Floor.behind far-token f (far-end .1)) m i l in
-          let o = low in
-          absurd (omega arith)
-      by k (no y) = kind (fixes u) refl
-        where
-          kind : (o : Bool) → fixes u ≡ o → after u s ≡ here
-          kind true e =
-              let v = holds (fixes u) e in
-              let i = stay-below rom fits a g (r .walked .highest .1) m v (z .0) in
-              let j = fixed-ahead m v l in
-              absurd (omega arith)
-          kind false e = after-same u s (fails (fixes u) e) ∙ z .1 (omega arith)
-
-  -- so that it is met in that of the board
+  -- it is met in one setting, that of the board
   pub one-setting : {s : Setting} → Reach rom 0 s far → s ≡ here
-  one-setting {s} m = by (cover rom fits (g .follows) Settled (omega arith, λ k. refl) settled-on m)
-    where
-      by : Before rom fits b s far ⊎ Settled s far → s ≡ here
-      by (inr z) = z .1 (omega arith)
-      by (inl z) =
-          let y = advanced rom fits (ready rom fits (z .from)) (z .next) in
-          let i = y .0 .walked .inside (z .at) .2 in
-          let j = y .1 .ahead in
-          let k = steps-kept rom fits (y .1 .ready) (z .to) .0 in
-          let l = climbs rom fits r in
-          absurd (omega arith)
+  one-setting m = one-fixed a m (far-token .reach)
 
   -- ---- its body
   module _ (c : T (isColon t)) {k : ℕ} (rd : Holds rom (Claim.reads wide (t .next) k)) where
@@ -255,15 +204,9 @@ module _ (rom : List ℕ) (fits : lengthOf rom ≤ 16384) (a : Assignment rom) {
         let e : Holds rom (Claim.leads wide p (v .token) q) = Holds.by-itself (a .known m) (l .leads) in
         record {
           reach = subst (λ s. Reach rom (suc far) s q) (after-same (v .token) here (l .free)) (Holds.next (y .reach) (v .meets .is) e);
-          start = way m (y .start) (l .leads) (fall-or-jump (v .token) q (l .leads));
+          start = start-on a the-body m (m .is) (y .start) (l .leads);
           cell = v .cell ∙ behind-cell m e (v .meets .named) (y .cell);
         }
-      where
-        way : {p q : ℕ} {u : Token} → Met rom (suc far) here p u → Starts rom wide (t .next) p → In q (leadsOf u) → FallOrJump u q → Starts rom wide (t .next) q
-        way {p} {q} {u} m s l (FallOrJump.falls e) =
-            subst (λ o. Starts rom wide (t .next) o) (sym e)
-            (Starts.behind s (m .is) (λ z. none-in (subst (λ o. In q o) (leave-leads u (last-is rom (lengthOf rom) wide true p u (m .is) z .0)) l)))
-        way m s l (FallOrJump.jumps j i) = a .stays the-body m j i
 
     -- the token of a place that it comes to
     pub inside-met : {p d : ℕ} → BodyAt p d → (u : Token) × Met rom (suc far) here p u

@@ -8,33 +8,33 @@ use mathlib.Core.List.{List}
 use mathlib.Core.Logic.{_⊎_, inl, inr, _≢_}
 use lib.Dec.{T, T-not}
 use lib.ListN.{getD}
-use Rattle.cells.specs.Facts.{holds, fails, is-true, is-false, never-true}
+use Rattle.cells.specs.Facts.{holds, fails, is-false}
 use Rattle.rom.specs.Header.{lengthOf}
 use Rattle.tokens.specs.Family.{define, call}
 use Rattle.tokens.specs.Decode.{isKind}
-use Rattle.tokens.specs.Place.{readOf}
 use Rattle.tokens.specs.Body.{kindOf, unknownOf}
-use Rattle.tokens.specs.Laws.{next-ahead, none-starts}
+use Rattle.tokens.specs.Laws.{none-starts}
 use Rattle.tokens.specs.Definition.{newNumber, kindIn}
 use Rattle.tokens.specs.declared.decoding.Token.{Token}
 use Rattle.tokens.specs.declared.read.Read.{Read}
 use Rattle.tokens.specs.declared.read.Read.the-variants.{Refused, Good}
-use Rattle.screen.specs.Effect.{isA, fixes, isColon, isBranch, aims, names, effectOf, called}
-use Rattle.screen.specs.Reach.{In, Setting, after, tokenAt, Named, Claim, Holds, Reach, Met}
-use Rattle.screen.specs.ReachLaws.{LeadsBy, leads-by, ExtendsBy, extends-by}
+use Rattle.screen.specs.Effect.{isA, fixes, isColon, names, effectOf, called}
+use Rattle.screen.specs.Reach.{Setting, after, tokenAt, Named, Claim, Holds, Reach, Met}
+use Rattle.screen.specs.ReachLaws.{extends-ahead}
 use Rattle.screen.specs.Rules.{Assignment, ownFrame}
-use Rattle.screen.specs.TokenFacts.{fixed-wide, aims-fit, after-same, leave-inside, heads}
-use Rattle.screen.specs.Visits.{FallOrJump, fall-or-jump, fixes-leads, effect-call, effect-own, unknown-call, call-known, assign-known, unnamed-known, GivesOn, gives-leads, height-in, back-in, Meets, Fits, visit-fits, fits-visit}
+use Rattle.screen.specs.InForce.{fixed-read, fixing, reach-first, next-met, step-of, step-passes}
+use Rattle.screen.specs.TokenFacts.{after-same, leave-inside, heads}
+use Rattle.screen.specs.Ways.{effect-call, effect-own, unknown-call, call-known, assign-known, unnamed-known, GivesOn, gives-leads, define-fixes, colon-fixes}
+use Rattle.screen.specs.Visits.{height-in, back-in, Meets, Fits, visit-fits, fits-visit}
 use Rattle.screen.specs.Walking.{At, Fails, Given, Walked, walk-good, walk-bad}
 use Rattle.screen.specs.Apart.{Overlap, apart-bad}
-use Rattle.screen.specs.Marking.{end-is}
 use Rattle.screen.specs.Advancing.{settingOf}
 use Rattle.screen.specs.Model.{Board, cellOf, heightIn, backIn, heightAfter, backAfter, sumAt, fixedIn, endIn, outsideText, apartOf, roundOf, roundGood}
 use Rattle.screen.specs.Rounds.{ran, farOf, OutAt, Ran, good-ran}
 use Rattle.screen.specs.Boards.{Advanced, advanced}
 use Rattle.screen.specs.Chains.{steps-kept}
 use Rattle.screen.specs.Roots.{LeadsTo, way-leads}
-use Rattle.screen.specs.Cover.{colon-fixes, Follows, ready, rooted, Before, round-end, cover}
+use Rattle.screen.specs.Cover.{Follows, ready, rooted, Before, round-end, cover}
 use Rattle.screen.specs.declared.effect.Effect.{Effect}
 use Rattle.screen.specs.declared.walking.Text.{Text as Scope}
 
@@ -42,21 +42,6 @@ use Rattle.screen.specs.declared.walking.Text.{Text as Scope}
 -- a kind is not 0
 pub kind-some : (k : ℕ) → T (isKind k) → k ≢ 0
 kind-some k h e = let z : T (isKind 0) = subst (λ n. T (isKind n)) e h in z
-
--- a defining token is met exactly once
-pub define-fixes : (t : Token) → T (isA define t) → T (fixes t)
-define-fixes t d = rw (is-true (isA define t) d) tt
-
--- a token reaches past its own place
-pub extends-ahead : {rom : List ℕ} {s : Setting} {p e : ℕ} {t : Token} → Met rom 0 s p t → Holds rom (Claim.extends (s .wide) t e) → p < e
-extends-ahead {rom} {s} {p} {e} {t} m h = by (extends-by h)
-  where
-    ahead : (p < t .next) × (t .next ≤ lengthOf rom)
-    ahead = next-ahead rom (lengthOf rom) (s .wide) false p t (m .is)
-
-    by : {k : ℕ} → ExtendsBy rom (s .wide) t k → p < k
-    by (ExtendsBy.short n) = let l = ahead in omega arith
-    by (ExtendsBy.long c r) = let l = ahead in let m = end-is r .low in omega arith
 
 -- how a token is known
 pub data KnownBy (rom : List ℕ) (p : ℕ) (t : Token) : Type 0 where
@@ -68,19 +53,7 @@ pub known-by : {rom : List ℕ} {p : ℕ} {t : Token} → Holds rom (Claim.known
 known-by (Holds.unnamed n) = unnamed n
 known-by (Holds.named r i n x l) = named (record { reach = r; is = i }) n x l
 
--- of a token that is met exactly once the successor is behind it
-pub fixed-ahead : {rom : List ℕ} {s : Setting} {p q : ℕ} {t : Token} → Met rom 0 s p t → T (fixes t) → Holds rom (Claim.leads (s .wide) p t q) → p < q
-fixed-ahead {rom} {s} {p} {q} {t} m f h = by (leads-by h)
-  where
-    by : LeadsBy rom (s .wide) p t q → p < q
-    by (LeadsBy.itself k j) = let e = fixes-leads t f q j in let l = next-ahead rom (lengthOf rom) (s .wide) false p t (m .is) in omega arith
-    by (LeadsBy.behind c e) = extends-ahead m e
-
--- one place has one token
-pub one-good : {r : Read} {t u : Token} → r ≡ Good t → r ≡ Good u → t ≡ u
-one-good e f = cc (e, f)
-
--- and no refusal
+-- a place that has a token has no refusal
 pub not-good : {r : Read} {t : Token} {why : ℕ} → r ≡ Good t → r ≡ Refused why → ⊥
 not-good e f = let z : zero ≡ 1 = cc (e, f) in omega arith
 
@@ -96,11 +69,6 @@ module _ (rom : List ℕ) (fits : lengthOf rom ≤ 16384) (a : Assignment rom) w
     pub returnHigh : a .back x p - e .«return_takes» + e .«return_gives» ≤ 32
     pub returnRise : a .back x p + e .«return_rise» ≤ 32
     pub frames : ownFrame x + e .frames ≤ 16
-
-  -- a successor is met
-  pub next-met : {x p q : ℕ} {s : Setting} {t : Token} → Met rom x s p t → Holds rom (Claim.leads (s .wide) p t q)
-      → (u : Token) × Met rom x (after t s) q u
-  next-met m l = let r = Holds.next (m .reach) (m .is) l in let w = a .whole r in (w .0, record { reach = r; is = w .1 })
 
   -- they are within the limits, and so are those of its successors
   pub limits : {x p : ℕ} {s : Setting} {t : Token} → Met rom x s p t → Limits x p (effectOf (a .sum) t)
@@ -127,7 +95,7 @@ module _ (rom : List ℕ) (fits : lengthOf rom ≤ 16384) (a : Assignment rom) w
           let r = a .returnLimit m in
           let y = a .there m in
           let l = Holds.by-itself (a .known m) i in
-          let n = next-met m l .1 in
+          let n = next-met a m l .1 in
           let f = a .flow m l in
           let d′ = a .dataLimit n .0 in
           let r′ = a .returnLimit n in
@@ -151,29 +119,11 @@ module _ (rom : List ℕ) (fits : lengthOf rom ≤ 16384) (a : Assignment rom) w
 
   -- it is so of both
   pub stay-above : {k : ℕ} → Floor k → {s : Setting} {p q : ℕ} {t : Token} → Met rom 0 s p t → k ≤ p → Holds rom (Claim.leads (s .wide) p t q) → k ≤ q
-  stay-above {k} fl {s} {p} {q} {t} m l h = by (leads-by h)
-    where
-      ahead : (p < t .next) × (t .next ≤ lengthOf rom)
-      ahead = next-ahead rom (lengthOf rom) (s .wide) false p t (m .is)
-
-      floored : Floor k → T (isBranch t) → In q (aims (t .operand)) → k ≤ q
-      floored (first e) b i = let y = aims-fit rom (lengthOf rom) (s .wide) false p t (m .is) q i .0 in omega arith
-      floored (behind {s = r} {m = o} {u = u} n f x) b i = over (decLt o q)
-        where
-          low : o < k
-          low = extends-ahead n x
-
-          over : Dec (o < q) → k ≤ q
-          over (yes y) = a .apart n x (next-met m h .1) y
-          over (no y) = let z = low in absurd (a .clear m b i n f (omega arith) (omega arith))
-
-      by : LeadsBy rom (s .wide) p t q → k ≤ q
-      by (LeadsBy.itself y i) = way (fall-or-jump t q i)
-        where
-          way : FallOrJump t q → k ≤ q
-          way (FallOrJump.falls e) = let z = ahead in omega arith
-          way (FallOrJump.jumps b j) = floored fl b j
-      by (LeadsBy.behind c e) = let z = extends-ahead m e in omega arith
+  stay-above (first e) m l h = let y = reach-first (next-met a m h .1 .reach) in omega arith
+  stay-above (behind {m = o} n f x) m l h =
+      let y = extends-ahead n x in
+      let z = step-passes a m (step-of a m h) .keeps o (fixing n f) (omega arith) in
+      a .apart n x (next-met a m h .1) z
 
   -- ---- a board that agrees with the assignment
   pub record Agrees (b : Board) : Type 0 where
@@ -300,21 +250,13 @@ module _ (rom : List ℕ) (fits : lengthOf rom ≤ 16384) (a : Assignment rom) w
 
         by : Dec (p ≡ d) → p ≤ d → q ≤ d
         by (yes e) k =
-            let z = fixed-wide rom (lengthOf rom) (s .wide) false d u (m .is) f (b .stand .wide) in
-            let y : v .token ≡ u = one-good (subst (λ o. readOf rom (lengthOf rom) (b .stand .wide) false o ≡ Good (v .token)) e (v .meets .is)) z in
-            absurd (T-not (fixes (v .token)) (to .free) (subst (λ o. T (fixes o)) (sym y) f))
-        by (no e) k = way (fall-or-jump (v .token) q (to .leads))
+            let y : u ≡ v .token = fixed-read m f (subst (λ o. Met rom 0 (settingOf (b .stand)) o (v .token)) e n) in
+            absurd (T-not (fixes (v .token)) (to .free) (subst (λ o. T (fixes o)) y f))
+        by (no e) k = over (decLt d q)
           where
-            plain : T (not (isColon (v .token)))
-            plain = fails (isColon (v .token)) (never-true (isColon (v .token)) (λ c. T-not (fixes (v .token)) (to .free) (colon-fixes (v .token) c)))
-
-            over : T (isBranch (v .token)) → In q (aims (v .token .operand)) → Dec (d < q) → q ≤ d
-            over j h (yes y) = absurd (a .clear n j h m f (omega arith) (omega arith))
-            over j h (no y) = omega arith
-
-            way : FallOrJump (v .token) q → q ≤ d
-            way (FallOrJump.falls y) = let z = a .apart n (Holds.to-next plain) m (omega arith) in omega arith
-            way (FallOrJump.jumps j k) = over j k (decLt d q)
+            over : Dec (d < q) → q ≤ d
+            over (yes y) = let z = step-passes a n (step-of a n (Holds.by-itself (a .known n) (to .leads))) .adds d (fixing m f) y in absurd (omega arith)
+            over (no y) = omega arith
 
     -- ---- its tokens' rules are met
     pub here-known : {p c : ℕ} {t : Token} → OutAt rom b p c → Met rom 0 (settingOf (b .stand)) p t → unknownOf (b .kinds) t ≡ false

@@ -6,6 +6,8 @@ pub mod Screen
 pub mod Promise
 pub mod ReachLaws
 pub mod TokenFacts
+pub mod Ways
+pub mod InForce
 pub mod Visits
 pub mod Walking
 pub mod Apart

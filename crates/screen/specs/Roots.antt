@@ -16,12 +16,12 @@ use Rattle.tokens.specs.Definition.{newNumber, kindIn}
 use Rattle.tokens.specs.declared.decoding.Token.{Token}
 use Rattle.screen.specs.Effect.{isA, fixes, isColon, leadsOf, names}
 use Rattle.screen.specs.Reach.{In, here, there, Setting, after, Named, Claim, Holds, Reach, Met}
-use Rattle.screen.specs.ReachLaws.{LeadsBy, leads-by, ExtendsBy, extends-by}
+use Rattle.screen.specs.ReachLaws.{LeadsBy, leads-by, ExtendsBy, extends-by, one-end}
 use Rattle.screen.specs.TokenFacts.{none-in, fixes-no-name, after-same}
-use Rattle.screen.specs.Visits.{WayIn, Fits, visit-fits, way-in, fixes-next, fixes-aim, fixes-leads, fixes-on, colon-leads, unknown-call, unknown-assign}
+use Rattle.screen.specs.Ways.{fixes-leads, fixes-on, colon-leads, unknown-call, unknown-assign}
+use Rattle.screen.specs.Visits.{WayIn, Fits, visit-fits, way-in, fixes-next, fixes-aim}
 use Rattle.screen.specs.Model.{Board, cellOf, visitOf, outsideText, bodyText}
 use Rattle.screen.specs.Walking.{Way, At}
-use Rattle.screen.specs.Marking.{one-end}
 use Rattle.screen.specs.Advancing.{settingOf}
 use Rattle.screen.specs.Rounds.{farOf, left, OutAt, Ran, on}
 use Rattle.screen.specs.Boards.{BodyRan, Advanced}
