@@ -5,3 +5,4 @@ pub mod Codes
 pub mod Wholes
 pub mod Bodies
 pub mod Passes
+pub mod Quicks

@@ -8,6 +8,7 @@ pub mod Place
 pub mod Body
 pub mod Definition
 pub mod Glance
+pub mod Quick
 pub mod Laws
 pub mod Reader
 pub mod ReaderLaws

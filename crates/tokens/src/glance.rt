@@ -6,6 +6,7 @@ ghost use Prim.Native.Nat.{_<_, _^_};
 ghost use Rattle.rom.specs.Bytes.{byteOf};
 ghost use Rattle.tokens.specs.Decode.{isDouble};
 ghost use Rattle.tokens.specs.Glance.{nothingSeen, firstOf, endedOf, branchedOf, definedOf, seenFrom, glanceOf};
+ghost use Rattle.tokens.specs.Quick.{Codes};
 use crate::code::double_code;
 use crate::decoding::behind_number;
 use crate::decoding::behind_offset;
@@ -225,16 +226,11 @@ fn doubled(rom: &[u8], length: u32, place: u32, first: u32) -> Glance
     ended(length, code, number, at + 2)
 }
 
-// What stands at a place, with the offset width in force there.
-pub fn glance_at(rom: &[u8], length: u32, wide: bool, place: u32) -> Glance
+// What stands at a place before the length, by its first byte and what the table says of that.
+pub fn glance_from(rom: &[u8], length: u32, wide: bool, place: u32, first: u8, code: u32) -> Glance
+    requires { ⌜ (place < length) × (first ≡ byteOf (now rom) place) × (code ≡ firstOf first) ⌝ }
     ensures { λ r. ⌜ r ≡ glanceOf (now (rom .entry)) length wide place ⌝ }
 {
-    if length <= place {
-        return nothing();
-    }
-    let at = place as usize;
-    let first = byte(rom, at);
-    let code = first_code(first);
     if code / 0x1_0000 % 16 == 0 {
         if code == 0 {
             return nothing();
@@ -251,4 +247,15 @@ pub fn glance_at(rom: &[u8], length: u32, wide: bool, place: u32) -> Glance
         return doubled(rom, length, place, first as u32);
     }
     with_operand(rom, length, wide, code, first as u32, place + 1)
+}
+
+// What stands at a place, with the offset width in force there.
+pub fn glance_at(rom: &[u8], length: u32, wide: bool, place: u32) -> Glance
+    ensures { λ r. ⌜ r ≡ glanceOf (now (rom .entry)) length wide place ⌝ }
+{
+    if length <= place {
+        return nothing();
+    }
+    let first = byte(rom, place as usize);
+    glance_from(rom, length, wide, place, first, first_code(first))
 }

@@ -1,5 +1,6 @@
-// The token list of document 01 with its names, the token at a place, whole or at a glance, reading a body to its end, and a reader that
-// goes from place to place. Every call is total: any bytes, any place, any length. Places are counted in 32 bits.
+// The token list of document 01 with its names, the token at a place, whole, at a glance or by a quick read, reading a body to its end,
+// and a reader that goes from place to place. Every call is total: any bytes, any place, any length; but a table that is lent must be that
+// of `first_codes`, `quick_at` wants a place before the length, and `glance_from` what that has read. Places are counted in 32 bits.
 mod body;
 mod code;
 mod decoding;
@@ -7,6 +8,7 @@ mod definition;
 pub mod family;
 mod glance;
 mod name;
+mod quick;
 mod read;
 pub mod reader;
 
@@ -31,8 +33,12 @@ pub use definition::new_number;
 pub use definition::takes_here;
 pub use glance::Glance;
 pub use glance::glance_at;
+pub use glance::glance_from;
 pub use name::name_front;
 pub use name::name_rest;
+pub use quick::Quick;
+pub use quick::first_codes;
+pub use quick::quick_at;
 pub use read::Read;
 pub use read::out_of_place;
 pub use read::read_at;
