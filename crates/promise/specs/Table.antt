@@ -27,8 +27,8 @@ use Rattle.state.specs.KeepsOpen.{opened, open-good}
 use Rattle.state.specs.Laws.{run-opened}
 use Rattle.tokens.specs.Body.{unknownOf}
 use Rattle.screen.specs.Effect.{effectOf}
-use Rattle.screen.specs.Model.{screenOf, lastOf, roundsOf, roundOf, apartOf, advanceOf, defineOf, colonOf, startsOf, bodyWalked, bodyTally, bodyShifted}
-use Rattle.screen.specs.Model.{tallyOf, tallied, passesOf, shiftOf, walkFrom, walkOf, stepOf, onward, putsOf, putOf, visitOf, tokenVisit, soundOf, fitsOf, sumAt}
+use Rattle.screen.specs.Model.{screenOf, lastOf, roundsOf, roundOf, apartOf, advanceOf, defineOf, colonOf, startsOf, bodyWalked, bodyShifted}
+use Rattle.screen.specs.Model.{tallied, passesOf, shiftOf, walkFrom, walkOf, stepOf, onward, putsOf, putOf, visitOf, tokenVisit, soundOf, fitsOf, sumAt}
 use Rattle.screen.specs.Screen.{marked, judgedOf, screenedOf}
 use Rattle.screen.specs.ScreenLaws.{screen-judged}
 use Rattle.screen.specs.declared.screening.Verdict.{Verdict}
@@ -134,7 +134,7 @@ unfolding headerOf sumOf
 all-open = (refl, (refl, (refl, (refl, (refl, (refl, (refl, (refl, (refl, tt)))))))))
 
 all-tokens : every tokensAgree cases ≡ true
-unfolding ashiftOf sumOf aimOf ends lows highs doubles table rowOf codeOf behindOf operandOf wholeOf decodeOf misplacedOf readOf sameBytes leftOf plainOf refusalOf effects actOf doneOf tokenOf tokensFrom sameAnswer sameVerdict unknownOf effectOf screenOf lastOf roundsOf roundOf apartOf advanceOf defineOf colonOf startsOf bodyWalked bodyTally bodyShifted tallyOf tallied passesOf shiftOf walkFrom walkOf stepOf onward putsOf putOf visitOf tokenVisit soundOf fitsOf sumAt
+unfolding ashiftOf sumOf aimOf ends lows highs doubles table rowOf codeOf behindOf operandOf wholeOf decodeOf misplacedOf readOf sameBytes leftOf plainOf refusalOf effects actOf doneOf tokenOf tokensFrom sameAnswer sameVerdict unknownOf effectOf screenOf lastOf roundsOf roundOf apartOf advanceOf defineOf colonOf startsOf bodyWalked bodyShifted tallied passesOf shiftOf walkFrom walkOf stepOf onward putsOf putOf visitOf tokenVisit soundOf fitsOf sumAt
 all-tokens = refl
 
 pub claim : every agrees cases ≡ true

@@ -15,9 +15,9 @@ use Rattle.tokens.specs.declared.decoding.Token.{Token}
 use Rattle.screen.specs.Effect.{isA, fixes, isColon, valueSum}
 use Rattle.screen.specs.Reach.{Setting}
 use Rattle.screen.specs.Model.{Path, Board, Turn, Marked, board, turn, moved, onStand, newNode, closedNode, entryOf, isNew, sumOf, places}
-use Rattle.screen.specs.Model.{startsOf, bodyWalked, bodyTally, passesOf, shiftOf, bodyShifted, colonOf, defineOf, advanceOf}
+use Rattle.screen.specs.Model.{startsOf, bodyWalked, passesOf, shiftOf, bodyShifted, colonOf, defineOf, advanceOf}
 use Rattle.screen.specs.declared.rounds.Stand.{Stand}
-use Rattle.screen.specs.declared.rounds.Tally.{Tally}
+use Rattle.screen.specs.Model.{Tally}
 
 abbrev pub settingOf : Stand → Setting
 settingOf s = record { wide = s .wide; children = s .children; nodes = s .nodes; numbers = s .count }
@@ -37,7 +37,7 @@ module _ (rom : List ℕ) (len : ℕ) (b : Board) (cell : ℕ) (t : Token) where
   pathIn = bodyWalked rom len (stood .wide) b (t .next) marksIn
 
   abbrev pub tallyIn : Tally
-  tallyIn = bodyTally rom len (stood .wide) b (t .next) (marksIn .end) pathIn
+  tallyIn = pathIn .walk .tally
 
   abbrev pub shiftedIn : List ℕ
   shiftedIn = shiftOf (tallyIn .need) (places (t .next) (marksIn .end)) (t .next) (pathIn .seen)
@@ -51,7 +51,7 @@ module _ (rom : List ℕ) (len : ℕ) (b : Board) (cell : ℕ) (t : Token) where
         → Did (entryOf b stood numberIn (kindIn (t .operand)) valueSum (t .next))
     bodies : T (isA define t) → T (isColon t) → kindOf (b .kinds) numberIn ≡ 0 → b .stand .count < numbersMost → marksIn .good ≡ true
         → pathIn .walk .good ≡ true → passesOf tallyIn ≡ true
-        → Did (entryOf (board shiftedIn (pathIn .work) (b .kinds) (b .sums) stood) stood numberIn 0xB7 (sumOf tallyIn) (suc (marksIn .end)))
+        → Did (entryOf (board shiftedIn (b .kinds) (b .sums) stood) stood numberIn 0xB7 (sumOf tallyIn) (suc (marksIn .end)))
 
   -- a turn that is good has done one of them
   abbrev DidIn : Turn → Type 0

@@ -24,7 +24,7 @@ use Rattle.screen.specs.Effect.{isA, fixes, isColon, valueSum}
 use Rattle.screen.specs.Reach.{after}
 use Rattle.screen.specs.TokenFacts.{one-family, fixes-is, heads}
 use Rattle.screen.specs.Model.{Path, Board, Marked, cellOf, heightIn, backIn, slot, packed, unpacked, sumAt, isMet, unmet, passesOf, sumOf, bodyText, outsideText, places}
-use Rattle.screen.specs.Model.{startsOf, bodyWalked, bodyTally, shiftOf, board, entryOf, onStand, withCount, moved}
+use Rattle.screen.specs.Model.{startsOf, bodyWalked, shiftOf, roomOf, board, entryOf, onStand, withCount, moved}
 use Rattle.screen.specs.Ways.{effect-own}
 use Rattle.screen.specs.Visits.{Meets, Fits, visit-fits}
 use Rattle.screen.specs.Walking.{At, Given, Walked, walk-good}
@@ -32,11 +32,12 @@ use Rattle.screen.specs.Marking.{walked-met, Cell, start, other, Marks, 
 use Rattle.screen.specs.Tallying.{Among, TallyIs, tally-is}
 use Rattle.screen.specs.Shifting.{Shifted, shift-is}
 use Rattle.screen.specs.Advancing.{settingOf, Did, advance-did, widens, plants, finishes, values, bodies}
-use Rattle.screen.specs.Rounds.{ran-above, ran, farOf, left, Fair, Ready, Ran, Next, on}
+use Rattle.screen.specs.Room.{has-room}
+use Rattle.screen.specs.Rounds.{ran-size, ran-above, ran, farOf, left, Fair, Ready, Ran, Next, on}
 use Rattle.screen.specs.declared.effect.Sum.{Sum}
 use Rattle.screen.specs.declared.walking.Text.{Text as Scope}
 use Rattle.screen.specs.declared.rounds.Stand.{Stand}
-use Rattle.screen.specs.declared.rounds.Tally.{Tally}
+use Rattle.screen.specs.Model.{Tally}
 
 -- ---- tables of numbers
 -- a number that is held is a program's
@@ -178,14 +179,14 @@ module _ (rom : List ℕ) (fits : lengthOf rom ≤ 16384) (b : Board) (y : Ready
     pathB = bodyWalked rom (lengthOf rom) wide (left rom b) (t .next) marksB
 
     abbrev tallyB : Tally
-    tallyB = bodyTally rom (lengthOf rom) wide (left rom b) (t .next) (marksB .end) pathB
+    tallyB = pathB .walk .tally
 
     abbrev BodyAt : ℕ → ℕ → Type 0
     BodyAt p c = At rom (bodyText (lengthOf rom) wide (t .next)) (b .kinds) (b .sums) (t .next) (cellOf 64 0) p c
 
     module _ (g : marksB .good ≡ true) where
       marked-is : Marks rom wide (b .kinds) (t .next) (ran rom b .seen) marksB
-      marked-is = marks-good rom wide (b .kinds) (t .next) (ran rom b .seen) (let l = r .walked .sizes .0 in omega arith) g
+      marked-is = marks-good rom wide (b .kinds) (t .next) (ran rom b .seen) (has-room (lengthOf rom) fits (ran-size rom y r) .0) g
 
       -- before the walk a cell of the body is a start's, or 0
       cells : (p : ℕ) → t .next ≤ p → (getD (marksB .seen) p 0 ≡ unmet) ⊎ (getD (marksB .seen) p 0 ≡ 0)
@@ -195,12 +196,12 @@ module _ (rom : List ℕ) (fits : lengthOf rom ≤ 16384) (b : Board) (y : Ready
           by (start s e) = inl e
           by (other s e) = let n = ends in inr (e ∙ above p (omega arith))
 
-      pub given-body : Given rom (bodyText (lengthOf rom) wide (t .next)) (b .kinds) (b .sums) (t .next) (cellOf 64 0) (marksB .seen) (ran rom b .work)
+      pub given-body : Given rom (bodyText (lengthOf rom) wide (t .next)) (b .kinds) (b .sums) (t .next) (cellOf 64 0) (marksB .seen)
       given-body =
+          let h = has-room (lengthOf rom) fits (marked-is .size ∙ ran-size rom y r) in
           record {
-            seen-size = marked-is .size ∙ r .walked .sizes .0;
-            work-size = r .walked .sizes .1;
-            short = fits;
+            room = h .0;
+            few = h .1;
             unlike = λ e. absurd (omega arith);
             some = λ e. absurd (omega arith);
             fresh = λ p l h n. by (cells p l) n;
@@ -216,8 +217,14 @@ module _ (rom : List ℕ) (fits : lengthOf rom ≤ 16384) (b : Board) (y : Ready
         walked-is = walk-good rom (bodyText (lengthOf rom) wide (t .next)) (b .kinds) (b .sums) (t .next) (cellOf 64 0) given-body h
 
         told-is : TallyIs rom (lengthOf rom) wide (b .sums) (pathB .seen) (t .next) (marksB .end) tallyB
-        unfolding bodyTally
-        told-is = tally-is rom (lengthOf rom) wide (b .sums) (pathB .seen) (t .next) (marksB .end) (let l = marked-is .low in omega arith)
+        told-is = let e = ends in tally-is marked-is (λ p l. above p (omega arith)) given-body walked-is
+
+        -- the walk leaves as many cells as there were, so that every place of the program has one
+        body-size : length (pathB .seen) ≡ roomOf (lengthOf rom)
+        body-size = walked-is .size ∙ marked-is .size ∙ ran-size rom y r
+
+        body-room : {p : ℕ} → p < lengthOf rom → p < length (pathB .seen)
+        body-room l = let h = has-room (lengthOf rom) fits body-size .0 in omega arith
 
         -- a place of the body that is met was walked to, and its token's rules are met
         visited-at : (p : ℕ) → t .next ≤ p → isMet (getD (pathB .seen) p 0) ≡ true → BodyAt p (getD (pathB .seen) p 0)
@@ -261,11 +268,11 @@ module _ (rom : List ℕ) (fits : lengthOf rom ≤ 16384) (b : Board) (y : Ready
                     | no n ↦ let o = told-is .frames .got n in let m = visited-fits (o .among) .frames in omega (arith, o .is)
                   ]
 
-          body-ran : (work : List ℕ) (s : Stand) → T (isProgram (newNumber (t .operand)))
+          body-ran : (s : Stand) → T (isProgram (newNumber (t .operand)))
               → BodyRan rom (left rom b) t wide
-              (entryOf (board (shiftOf (tallyB .need) (places (t .next) (marksB .end)) (t .next) (pathB .seen)) work (b .kinds) (b .sums) s) s
+              (entryOf (board (shiftOf (tallyB .need) (places (t .next) (marksB .end)) (t .next) (pathB .seen)) (b .kinds) (b .sums) s) s
               (newNumber (t .operand)) 0xB7 (sumOf tallyB) (suc (marksB .end)))
-          body-ran work s n =
+          body-ran s n =
               record {
                 marks = marksB;
                 path = pathB;
@@ -274,7 +281,7 @@ module _ (rom : List ℕ) (fits : lengthOf rom ≤ 16384) (b : Board) (y : Ready
                 walked = walked-is;
                 told = told-is;
                 passes = ok;
-                shifted = shift-is (tallyB .need) (t .next) (marksB .end) (pathB .seen) (let l = walked-is .sizes .0 in let m = marked-is .high in omega arith);
+                shifted = shift-is (tallyB .need) (t .next) (marksB .end) (pathB .seen) (body-room (marked-is .high));
                 start = refl;
                 sum = sum-same (b .sums) (newNumber (t .operand)) (sumOf tallyB) (y .sums) n small-is;
               }
@@ -321,8 +328,7 @@ module _ (rom : List ℕ) (fits : lengthOf rom ≤ 16384) (b : Board) (y : Ready
   plainly k i n s st ce se nd ch =
       record {
         ready = record {
-          seen = r .walked .sizes .0;
-          work = r .walked .sizes .1;
+          seen = ran-size rom y r;
           kinds = y .kinds;
           sums = y .sums;
           fresh = λ p l. let e = ends in above p (omega arith);
@@ -353,20 +359,20 @@ module _ (rom : List ℕ) (fits : lengthOf rom ≤ 16384) (b : Board) (y : Ready
       → settingOf (withCount (moved (b .stand) t cell) q (suc (b .stand .count))) ≡ after t (settingOf (b .stand))
   setting-defined d q = rw (is-true (isA define t) d, one-family define newDevice t d tt, one-family define finishDevice t d tt)
 
-  module _ (seen work : List ℕ) (kind : ℕ) (s : Sum) (q : ℕ) (d : T (isA define t)) where
+  module _ (seen : List ℕ) (kind : ℕ) (s : Sum) (q : ℕ) (d : T (isA define t)) where
     abbrev numbered : Board
-    numbered = entryOf (board seen work (b .kinds) (b .sums) (moved (b .stand) t cell)) (moved (b .stand) t cell) (newNumber (t .operand)) kind s q
+    numbered =
+        entryOf (board seen (b .kinds) (b .sums) (moved (b .stand) t cell)) (moved (b .stand) t cell) (newNumber (t .operand)) kind s q
 
     defines-number : kindOf (b .kinds) (newNumber (t .operand)) ≡ 0 → b .stand .count < numbersMost → kind ≡ kindIn (t .operand) → Small s
-        → length seen ≡ 16384 → length work ≡ 16384 → far < q → ((p : ℕ) → q ≤ p → getD seen p 0 ≡ 0)
+        → length seen ≡ roomOf (lengthOf rom) → far < q → ((p : ℕ) → q ≤ p → getD seen p 0 ≡ 0)
         → ((p : ℕ) → p ≤ far → getD seen p 0 ≡ getD (ran rom b .seen) p 0) → (T (not (isColon t)) → q ≡ t .next)
         → (T (not (isColon t)) → (p : ℕ) → far < p → getD seen p 0 ≡ 0)
         → (T (not (isColon t)) → s ≡ valueSum) → (T (isColon t) → BodyRan rom (left rom b) t (b .stand .wide) numbered) → Advanced rom b t numbered
-    defines-number z l k small ss ws ah fr ke st qu va bo =
+    defines-number z l k small ss ah fr ke st qu va bo =
         record {
           ready = record {
             seen = ss;
-            work = ws;
             kinds = length-set (b .kinds) (slot (newNumber (t .operand))) kind ∙ y .kinds;
             sums = length-set (b .sums) (slot (newNumber (t .operand))) (packed s) ∙ y .sums;
             fresh = fr;
@@ -411,22 +417,23 @@ module _ (rom : List ℕ) (fits : lengthOf rom ≤ 16384) (b : Board) (y : Ready
       (λ j. absurd (clash finishDevice newDevice i tt j)) (λ j. l)
   advanced-by (values d nc z l) =
       let e = ends in
-      defines-number (ran rom b .seen) (ran rom b .work) (kindIn (t .operand)) valueSum (t .next) d z l refl
-      (record { need = omega arith; out = omega arith; peak = omega arith; back = omega arith; frames = omega arith }) (r .walked .sizes .0)
-      (r .walked .sizes .1) (omega arith) (λ p h. above p (omega arith)) (λ p h. refl) (λ c. refl) (λ c p h. above p h) (λ c. refl)
+      defines-number (ran rom b .seen) (kindIn (t .operand)) valueSum (t .next) d z l refl
+      (record { need = omega arith; out = omega arith; peak = omega arith; back = omega arith; frames = omega arith }) (ran-size rom y r)
+      (omega arith) (λ p h. above p (omega arith)) (λ p h. refl) (λ c. refl) (λ c p h. above p h) (λ c. refl)
       (λ c. absurd (T-not (isColon t) nc c))
   advanced-by (bodies d c z l m a p) =
       let e = ends in
       let w = isA widen t || b .stand .wide in
       let lo = marked-is w m .low in
       let hi = marked-is w m .high in
-      let sh = shift-is (tallyB w .need) (t .next) (marksB w .end) (pathB w .seen) (let k = walked-is w m a .sizes .0 in omega arith) in
-      defines-number _ (pathB w .work) 0xB7 (sumOf (tallyB w)) (suc (marksB w .end)) d z l (sym (eqb→eq (kindIn (t .operand)) 0xB7 (both-hold (isA define t) (eqb (kindIn (t .operand)) 0xB7) c .1)))
-      (small-is w m a p) (sh .size ∙ walked-is w m a .sizes .0) (walked-is w m a .sizes .1) (omega arith)
+      let sh = shift-is (tallyB w .need) (t .next) (marksB w .end) (pathB w .seen) (body-room w m a hi) in
+      defines-number _ 0xB7 (sumOf (tallyB w)) (suc (marksB w .end)) d z l
+      (sym (eqb→eq (kindIn (t .operand)) 0xB7 (both-hold (isA define t) (eqb (kindIn (t .operand)) 0xB7) c .1)))
+      (small-is w m a p) (sh .size ∙ body-size w m a) (omega arith)
       (λ q h. sh .other q (λ u v. omega arith) ∙ behind-body w m a q (omega arith))
       (λ q h. sh .other q (λ u v. omega arith) ∙ before-body w m a q h)
       (λ n. absurd (T-not (isColon t) n c)) (λ n. absurd (T-not (isColon t) n c)) (λ n. absurd (T-not (isColon t) n c))
-      (λ g. in-width (wide-same d) (body-ran w m a p (pathB w .work) (moved (b .stand) t cell) (number-is d)))
+      (λ g. in-width (wide-same d) (body-ran w m a p (moved (b .stand) t cell) (number-is d)))
 
 -- what a round does to the board
 pub advanced : (rom : List ℕ) → lengthOf rom ≤ 16384 → {b b′ : Board} → Ready rom b → Next rom b b′ → (r : Ran rom b) × Advanced rom b (r .token) b′ × T (fixes (r .token))

@@ -7,14 +7,15 @@ use mathlib.Core.Bool.{true, false}
 use mathlib.Core.List.{List}
 use mathlib.Core.Logic.{_≢_}
 use lib.Dec.{T, T-not}
-use lib.ListN.{length, getD, replicate, length-replicate}
+use lib.ListN.{getD, length-replicate}
 use Rattle.cells.specs.Tests.{when-is}
 use Rattle.cells.specs.Facts.{is-true, is-false}
 use Rattle.rom.specs.Header.{lengthOf, wideOf}
 use Rattle.tokens.specs.Place.{readOf}
 use Rattle.tokens.specs.Body.{kindOf}
 use Rattle.screen.specs.Effect.{fixes}
-use Rattle.screen.specs.Model.{Board, Turn, sumAt, turn, restOf, goOn, roundGood, roundsOf, firstBoard}
+use Rattle.screen.specs.Model.{Board, Turn, sumAt, turn, restOf, goOn, roundGood, roundsOf, roomOf, firstBoard}
+use Rattle.screen.specs.Room.{zeros}
 use Rattle.screen.specs.Rounds.{ran, farOf, left, turnOf, Ready, Ran, Next, on, Chain, ends, goes, good-ran}
 use Rattle.screen.specs.Boards.{advanced}
 use Rattle.screen.specs.Walking.{walked-below}
@@ -47,22 +48,13 @@ module _ (rom : List ℕ) (fits : lengthOf rom ≤ 16384) where
       (λ g. rest-chain b y (good-ran rom fits b y (is-true (roundGood rom (lengthOf rom) b (ran rom b)) g)) (λ c. roundsOf rom (lengthOf rom) k c) (λ c z. chain-of k c z))
       (λ g. refused _)
 
-  abbrev pub clear : ℕ → List ℕ
-  clear n = replicate n 0
-
-  pub zeros : (n p : ℕ) → getD (clear n) p 0 ≡ 0
-  zeros zero p = refl
-  zeros (suc n) zero = refl
-  zeros (suc n) (suc p) = zeros n p
-
-  pub first-ready : Ready rom (firstBoard (wideOf rom))
+  pub first-ready : Ready rom (firstBoard (roomOf (lengthOf rom)) (wideOf rom))
   first-ready =
       record {
-        seen = length-replicate {A = ℕ} 16384 0;
-        work = length-replicate {A = ℕ} 16384 0;
+        seen = length-replicate {A = ℕ} (roomOf (lengthOf rom)) 0;
         kinds = length-replicate {A = ℕ} 2048 0;
         sums = length-replicate {A = ℕ} 2048 0;
-        fresh = λ p l. zeros 16384 p;
+        fresh = λ p l. zeros (roomOf (lengthOf rom)) p;
         fair = record { height = 0; back = 0; is = refl; low = omega arith; few = omega arith };
       }
 

@@ -15,6 +15,7 @@ use Rattle.tokens.specs.Definition.{kindIn, takesHere}
 use Rattle.tokens.specs.declared.decoding.Token.{Token}
 use Rattle.screen.specs.Effect.{isA, called, ownEffect, effectOf}
 use Rattle.screen.specs.Model.{heightIn, backIn, capOf, ownOf, heightAfter, backAfter, sumAt, fitsOf}
+use Rattle.screen.specs.declared.effect.Sum.{Sum}
 use Rattle.screen.specs.declared.effect.Effect.{Effect}
 
 -- ---- effects
@@ -27,6 +28,25 @@ pub record Small (e : Effect) : Type 0 where
   pub returnGives : e .«return_gives» < 256
   pub returnRise : e .«return_rise» < 256
   pub frames : e .frames < 256
+
+-- and so has each part of a sum
+pub record SumSmall (s : Sum) : Type 0 where
+  pub need : s .need < 256
+  pub out : s .out < 256
+  pub peak : s .peak < 256
+  pub returnPeak : s .«return_peak» < 256
+  pub frames : s .frames < 256
+
+pub sum-small : (sums : List ℕ) (n : ℕ) (s : Sum) → s ≡ sumAt sums n → SumSmall s
+unfolding sumAt
+sum-small sums n s e =
+    rw e (record {
+      need = omega arith;
+      out = omega arith;
+      peak = omega arith;
+      returnPeak = omega arith;
+      frames = omega arith;
+    })
 
 pub takes-small : (t : Token) → takesHere t < 256
 takes-small t =
@@ -115,6 +135,10 @@ pub record Fitting (e : Effect) (cell : ℕ) : Type 0 where
 pub cap-most : (within : Bool) → capOf within ≤ 128
 cap-most true = omega arith
 cap-most false = omega arith
+
+pub own-most : (within : Bool) → ownOf within ≤ 1
+own-most true = omega arith
+own-most false = omega arith
 
 pub fitting : (within : Bool) (e : Effect) (cell : ℕ) → fitsOf within e cell ≡ true → Fitting e cell
 fitting within e cell f =

@@ -19,12 +19,13 @@ use Rattle.screen.specs.ReachLaws.{LeadsBy, leads-by}
 use Rattle.screen.specs.TokenFacts.{after-same}
 use Rattle.screen.specs.Ways.{colon-fixes}
 use Rattle.screen.specs.Visits.{WayIn, Fits, visit-fits, in-way}
-use Rattle.screen.specs.Model.{Board, visitOf, fixedIn, outsideText, slot, firstBoard}
+use Rattle.screen.specs.Model.{Board, visitOf, fixedIn, outsideText, slot, roomOf, firstBoard}
 use Rattle.screen.specs.Walking.{Way, At}
 use Rattle.screen.specs.Advancing.{settingOf}
 use Rattle.screen.specs.Rounds.{farOf, OutAt, Ready, Ran, Next, on}
 use Rattle.screen.specs.Boards.{Advanced, advanced}
-use Rattle.screen.specs.Chains.{Steps, here, via, then, ready-steps, first-ready, clear, zeros}
+use Rattle.screen.specs.Chains.{Steps, here, via, then, ready-steps, first-ready}
+use Rattle.screen.specs.Room.{clear, zeros}
 use Rattle.screen.specs.Roots.{Rooted, rooted-next, start-only}
 use Rattle.screen.specs.declared.walking.Text.{Text as Scope}
 
@@ -49,7 +50,7 @@ leads-itself {rom} {w} {p} {q} {t} n h = by (leads-by h)
 module _ (rom : List ℕ) (fits : lengthOf rom ≤ 16384) where
   -- the first round, and all that follow it
   abbrev pub start : Board
-  start = firstBoard (wideOf rom)
+  start = firstBoard (roomOf (lengthOf rom)) (wideOf rom)
 
   abbrev pub Follows : Board → Type 0
   Follows b = Steps rom fits start b
@@ -58,7 +59,7 @@ module _ (rom : List ℕ) (fits : lengthOf rom ≤ 16384) where
   rooted-start = record { reach = Holds.first; real = λ n h. absurd (h (none n)) }
     where
       none : (n : ℕ) → kindOf (start .kinds) n ≡ 0
-      none n = pick-is (λ k. k ≡ 0) (isProgram n) (getD (clear rom fits 2048) (slot n) 0) 0 (λ t. zeros rom fits 2048 (slot n)) (λ t. refl)
+      none n = pick-is (λ k. k ≡ 0) (isProgram n) (getD (clear 2048) (slot n) 0) 0 (λ t. zeros 2048 (slot n)) (λ t. refl)
 
   rooted-steps : {b c : Board} → Ready rom b → Rooted rom fits b → Steps rom fits b c → Rooted rom fits c
   rooted-steps y o here = o

@@ -27,21 +27,22 @@ use Rattle.screen.specs.TokenFacts.{or-second, one-family, fixes-is, sto
 use Rattle.screen.specs.Ways.{effect-own}
 use Rattle.screen.specs.ReachLaws.{extends-ahead}
 use Rattle.screen.specs.Visits.{height-in, back-in}
-use Rattle.screen.specs.Walking.{At, Walked, walk-good, walk-bad}
+use Rattle.screen.specs.Walking.{At, Given, Walked, walk-good, walk-bad}
 use Rattle.screen.specs.Marking.{Marks, marks-good, marks-found}
 use Rattle.screen.specs.Tallying.{TallyIs, tally-is}
 use Rattle.screen.specs.Advancing.{settingOf}
 use Rattle.screen.specs.Model.{Path, Board, Turn, Marked, cellOf, heightIn, backIn, slot, sumAt, bodyText, moved, isNew, sumOf, passesOf, restOf, goOn}
-use Rattle.screen.specs.Model.{startsOf, bodyWalked, bodyTally, bodyShifted, colonOf, defineOf, advanceOf, roundGood, roundsOf, lastOf}
-use Rattle.screen.specs.Rounds.{ran, farOf, left, OutAt, turnOf, Ran, Next, on}
+use Rattle.screen.specs.Model.{startsOf, bodyWalked, bodyShifted, colonOf, defineOf, advanceOf, roundGood, roundsOf, lastOf}
+use Rattle.screen.specs.Rounds.{ran-size, ran-above, ran, farOf, left, OutAt, turnOf, Ran, Next, on}
 use Rattle.screen.specs.Boards.{BodyRan, Advanced, advanced, given-body}
-use Rattle.screen.specs.Chains.{Steps, here, via, then, climbs, clear, zeros}
+use Rattle.screen.specs.Chains.{Steps, here, via, then, climbs}
+use Rattle.screen.specs.Room.{has-room, clear, zeros}
 use Rattle.screen.specs.Roots.{Rooted, extends-start, leads-start, body-reads}
 use Rattle.screen.specs.Cover.{start, Follows, ready, rooted}
 use Rattle.screen.specs.ExactRound.{not-good, limits, Floor, Agrees, at-here, round-good, round-ran}
 use Rattle.screen.specs.ExactBody.{far-token, body-fine, at-inside, body-no-fails, sum-is, tally-passes}
 use Rattle.screen.specs.declared.effect.Effect.{Effect}
-use Rattle.screen.specs.declared.rounds.Tally.{Tally}
+use Rattle.screen.specs.Model.{Tally}
 
 module _ (rom : List ℕ) (fits : lengthOf rom ≤ 16384) (a : Assignment rom) where
   -- ---- the boards agree with the assignment
@@ -56,7 +57,7 @@ module _ (rom : List ℕ) (fits : lengthOf rom ≤ 16384) (a : Assignment rom) w
       }
     where
       none : (n : ℕ) → kindOf (start rom fits .kinds) n ≡ 0
-      none n = pick-is (λ k. k ≡ 0) (isProgram n) (getD (clear rom fits 2048) (slot n) 0) 0 (λ t. zeros rom fits 2048 (slot n)) (λ t. refl)
+      none n = pick-is (λ k. k ≡ 0) (isProgram n) (getD (clear 2048) (slot n) 0) 0 (λ t. zeros 2048 (slot n)) (λ t. refl)
 
   -- what ends a round leaves the return height, and takes from the data height
   fixed-effect : {b : Board} (r : Ran rom b) → T (fixes (r .token)) → (e : Effect) → effectOf (a .sum) (r .token) ≡ e
@@ -192,7 +193,7 @@ module _ (rom : List ℕ) (fits : lengthOf rom ≤ 16384) (a : Assignment rom) w
       pathB w = bodyWalked rom (lengthOf rom) w (left rom b) (t .next) (marksB w)
 
       abbrev tallyB : Bool → Tally
-      tallyB w = bodyTally rom (lengthOf rom) w (left rom b) (t .next) (marksB w .end) (pathB w)
+      tallyB w = pathB w .walk .tally
 
       -- the width in force
       abbrev wide : Bool
@@ -208,7 +209,13 @@ module _ (rom : List ℕ) (fits : lengthOf rom ≤ 16384) (a : Assignment rom) w
 
       -- its starts are marked
       marked : Marks rom wide (b .kinds) (t .next) (ran rom b .seen) (marksB wide)
-      marked = marks-good rom wide (b .kinds) (t .next) (ran rom b .seen) (let l = r .walked .sizes .0 in omega arith) marks-pass
+      marked =
+          marks-good rom wide (b .kinds) (t .next) (ran rom b .seen)
+          (has-room (lengthOf rom) fits (ran-size rom (ready rom fits (g .follows)) r) .0) marks-pass
+
+      -- what its walk asks is given
+      given : Given rom (bodyText (lengthOf rom) wide (t .next)) (b .kinds) (b .sums) (t .next) (cellOf 64 0) (marksB wide .seen)
+      given = given-body rom fits b (ready rom fits (g .follows)) r f wide marks-pass
 
       -- its walk is good
       path-passes : pathB wide .walk .good ≡ true
@@ -219,20 +226,19 @@ module _ (rom : List ℕ) (fits : lengthOf rom ≤ 16384) (a : Assignment rom) w
           by true e = refl
           by false e =
               absurd (body-no-fails rom fits a g r f c (the-end .1) marked
-              (walk-bad rom (bodyText (lengthOf rom) wide (t .next)) (b .kinds) (b .sums) (t .next) (cellOf 64 0)
-              (given-body rom fits b (ready rom fits (g .follows)) r f wide marks-pass) e))
+              (walk-bad rom (bodyText (lengthOf rom) wide (t .next)) (b .kinds) (b .sums) (t .next) (cellOf 64 0) given e))
 
       -- and has come to every place that it can come to
       walked : Walked rom (bodyText (lengthOf rom) wide (t .next)) (b .kinds) (b .sums) (t .next) (cellOf 64 0) (marksB wide .seen) (pathB wide)
       unfolding bodyWalked
       walked =
-          walk-good rom (bodyText (lengthOf rom) wide (t .next)) (b .kinds) (b .sums) (t .next) (cellOf 64 0)
-          (given-body rom fits b (ready rom fits (g .follows)) r f wide marks-pass) path-passes
+          walk-good rom (bodyText (lengthOf rom) wide (t .next)) (b .kinds) (b .sums) (t .next) (cellOf 64 0) given path-passes
 
       -- its tally is what the places ask for
       told : TallyIs rom (lengthOf rom) wide (b .sums) (pathB wide .seen) (t .next) (marksB wide .end) (tallyB wide)
-      unfolding bodyTally
-      told = tally-is rom (lengthOf rom) wide (b .sums) (pathB wide .seen) (t .next) (marksB wide .end) (let l = marked .low in omega arith)
+      told =
+          let e = next-ahead rom (lengthOf rom) wide false far t (r .is) in
+          tally-is marked (λ p l. ran-above rom (ready rom fits (g .follows)) r p (omega arith)) given walked
 
       -- and passes
       passes : passesOf (tallyB wide) ≡ true

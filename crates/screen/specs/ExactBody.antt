@@ -37,7 +37,7 @@ use Rattle.screen.specs.Roots.{way-leads, far-met}
 use Rattle.screen.specs.Cover.{leads-way, leads-itself, ready, rooted}
 use Rattle.screen.specs.ExactRound.{not-good, limits, Agrees, known-held, effect-same, stay-below}
 use Rattle.screen.specs.declared.walking.Text.{Text as Scope}
-use Rattle.screen.specs.declared.rounds.Tally.{Tally}
+use Rattle.screen.specs.Model.{Tally}
 
 -- behind a token of a body that is not its last the body is read on
 reads-behind : {rom : List ℕ} {w : Bool} {p c : ℕ} {t : Token} → Holds rom (Claim.reads w p c) → tokenAt rom 1 w p ≡ Good t → (t .number ≡ 0xC2 → ⊥)

@@ -30,6 +30,7 @@ use Rattle.screen.specs.Walking.{At, Fails, Given, Walked, walk-good, wa
 use Rattle.screen.specs.Apart.{Overlap, apart-bad}
 use Rattle.screen.specs.Advancing.{settingOf}
 use Rattle.screen.specs.Model.{Board, cellOf, heightIn, backIn, heightAfter, backAfter, sumAt, fixedIn, endIn, outsideText, apartOf, roundOf, roundGood}
+use Rattle.screen.specs.Room.{has-room}
 use Rattle.screen.specs.Rounds.{ran, farOf, OutAt, Ran, good-ran}
 use Rattle.screen.specs.Boards.{Advanced, advanced}
 use Rattle.screen.specs.Chains.{steps-kept}
@@ -302,14 +303,14 @@ module _ (rom : List ℕ) (fits : lengthOf rom ≤ 16384) (a : Assignment rom) w
     no-fails (Fails.barred {p} i n) = n (ready rom fits (g .follows) .fresh p (at-here i .above))
 
     -- what the walk asks is given
-    given : Given rom x (b .kinds) (b .sums) (b .stand .start) (b .stand .cell) (b .seen) (b .work)
+    given : Given rom x (b .kinds) (b .sums) (b .stand .start) (b .stand .cell) (b .seen)
     given =
         let y = ready rom fits (g .follows) in
+        let h = has-room (lengthOf rom) fits (y .seen) in
         let c = g .cell in
         record {
-          seen-size = y .seen;
-          work-size = y .work;
-          short = fits;
+          room = h .0;
+          few = h .1;
           unlike = λ z. absurd (omega arith);
           some = λ z. absurd (omega arith);
           fresh = λ p l h n. y .fresh p l;

@@ -5,10 +5,10 @@ use native.Mathlib.Omega.{arith}
 use native.Mathlib.Decide.{decLt, ℕ-discrete}
 use mathlib.Core.Path.{_≡_, refl, sym, ap, _∙_, subst}
 use mathlib.Core.Bool.{Bool, true, false}
-use mathlib.Core.List.{List, map}
+use mathlib.Core.List.{List}
 use mathlib.Core.Logic.{_≢_, _↔_}
 use lib.Dec.{T, eqb, eqb→eq}
-use lib.ListN.{length, getD, replicate, length-map}
+use lib.ListN.{length, getD, replicate}
 use Rattle.cells.specs.Tests.{when-is, neqb→ne}
 use Rattle.cells.specs.Facts.{when-true, when-false}
 use mathlib.Core.Option.{none, some}
@@ -17,12 +17,14 @@ use Rattle.rom.specs.Header.{lengthOf, headerOf}
 use Rattle.rom.specs.Sizes.{romMost, marksSize}
 use Rattle.screen.specs.Reach.{Setting, Reach}
 use Rattle.screen.specs.Rules.{Assignment}
-use Rattle.screen.specs.Model.{Board, cellOf, markIn, lastOf, screenOf}
+use Rattle.screen.specs.Model.{Board, cellOf, markIn, roomOf, lastOf, laidOf, screenOf}
 use Rattle.screen.specs.Screen.{Screened, screened, marked, judgedOf, screenedOf}
-use Rattle.screen.specs.ScreenLaws.{mark-of, header-length}
+use Rattle.screen.specs.Room.{room-most, zeros}
+use Rattle.screen.specs.Laid.{header-length, laid-size, laid-at}
 use Rattle.screen.specs.Promise.{Marks, Promised, wrong-size, bad-header, no-heights, passes}
-use Rattle.screen.specs.Rounds.{Chain, ends, goes}
-use Rattle.screen.specs.Chains.{here, chain-of, first-ready, chain-kept, zeros}
+use Rattle.screen.specs.Rounds.{Ready, ran-size, Chain, ends, goes}
+use Rattle.screen.specs.Boards.{advanced}
+use Rattle.screen.specs.Chains.{here, chain-of, first-ready, chain-kept}
 use Rattle.screen.specs.Cover.{start}
 use Rattle.screen.specs.Accept.{accept}
 use Rattle.screen.specs.Exact.{exact}
@@ -53,46 +55,55 @@ module _ (rom : List ℕ) (fits : lengthOf rom ≤ 16384) where
       (omega arith, omega arith)
 
   -- ---- the marks
-  chain-size : {b f : Board} → Chain rom b f → length (f .seen) ≡ 16384
-  chain-size (ends r n) = r .walked .sizes .0
-  chain-size (goes n c) = chain-size c
+  chain-size : {b f : Board} → Ready rom b → Chain rom b f → length (f .seen) ≡ roomOf (lengthOf rom)
+  chain-size y (ends r n) = ran-size rom y r
+  chain-size y (goes n c) = chain-size (advanced rom fits y n .1 .ready) c
 
   -- what has a cell is reachable
   found : lastOf rom .good ≡ true → (p : ℕ) → getD (lastOf rom .board .seen) p 0 ≢ 0 → Reached rom p
   found g p z = elim (decLt p 8) [ yes l ↦ absurd (z (header l)) | no l ↦ only-reached rom fits here (passed g) p (omega arith) z ]
     where
       header : p < 8 → getD (lastOf rom .board .seen) p 0 ≡ 0
-      header l = chain-kept rom fits (first-ready rom fits) (passed g) .seen p l ∙ zeros rom fits 16384 p
+      header l = chain-kept rom fits (first-ready rom fits) (passed g) .seen p l ∙ zeros (roomOf (lengthOf rom)) p
 
-  pub model-marks : (a : Assignment rom) → Marks rom a (map markIn (lastOf rom .board .seen))
-  model-marks a = record { size = length-map (lastOf rom .board .seen) markIn ∙ chain-size c; height = λ r. mark-of (lastOf rom .board .seen) _ ∙ there r; elsewhere = nowhere }
+  pub model-marks : (a : Assignment rom) → Marks rom a (laidOf (lastOf rom .board .seen))
+  model-marks a =
+      record {
+        size = laid-size (lastOf rom .board .seen) few;
+        height = λ r. laid-at (lastOf rom .board .seen) _ ∙ there r;
+        elsewhere = nowhere;
+      }
     where
       c : Chain rom (start rom fits) (lastOf rom .board)
       c = passed (exact rom fits a)
 
+      few : length (lastOf rom .board .seen) ≤ 16384
+      few = subst (λ n. n ≤ 16384) (sym (chain-size (first-ready rom fits) c)) (room-most (lengthOf rom))
+
       there : {x p : ℕ} {s : Setting} → Reach rom x s p → markIn (getD (lastOf rom .board .seen) p 0) ≡ suc (a .height x p)
       there {x} {p} r = let e = last-is rom fits c a r in let l = tall a r in omega arith
 
-      nowhere : (p : ℕ) → ((x : ℕ) (s : Setting) → Reach rom x s p → ⊥) → getD (map markIn (lastOf rom .board .seen)) p 0 ≡ 0
+      nowhere : (p : ℕ) → ((x : ℕ) (s : Setting) → Reach rom x s p → ⊥) → getD (laidOf (lastOf rom .board .seen)) p 0 ≡ 0
       nowhere p n =
           elim (ℕ-discrete (getD (lastOf rom .board .seen) p 0) 0) [
-            | yes e ↦ mark-of (lastOf rom .board .seen) p ∙ ap markIn e
+            | yes e ↦ laid-at (lastOf rom .board .seen) p ∙ ap markIn e
             | no z ↦ let r = found (exact rom fits a) p z in absurd (n (r .text) (r .setting) (r .reach))
           ]
 
   -- marks that an assignment allows are the model's
-  pub marks-are : (a : Assignment rom) (marks : List ℕ) → Marks rom a marks → marks ≡ map markIn (lastOf rom .board .seen)
-  marks-are a marks m = ext-getD 0 marks (map markIn (lastOf rom .board .seen)) (m .size ∙ sym (k .size)) (λ p l. same p)
+  pub marks-are : (a : Assignment rom) (marks : List ℕ) → Marks rom a marks → marks ≡ laidOf (lastOf rom .board .seen)
+  marks-are a marks m = ext-getD 0 marks (laidOf (lastOf rom .board .seen)) (m .size ∙ sym (k .size)) (λ p l. same p)
     where
-      k : Marks rom a (map markIn (lastOf rom .board .seen))
+      k : Marks rom a (laidOf (lastOf rom .board .seen))
       k = model-marks a
 
-      same : (p : ℕ) → getD marks p 0 ≡ getD (map markIn (lastOf rom .board .seen)) p 0
+      same : (p : ℕ) → getD marks p 0 ≡ getD (laidOf (lastOf rom .board .seen)) p 0
       same p =
-          elim (ℕ-discrete (getD (map markIn (lastOf rom .board .seen)) p 0) 0) [
+          elim (ℕ-discrete (getD (laidOf (lastOf rom .board .seen)) p 0) 0) [
             | yes e ↦ m .elsewhere p (λ x s r. absurd (let h = k .height r in omega arith)) ∙ sym e
             | no z ↦
-                let r = found (exact rom fits a) p (λ e. z (mark-of (lastOf rom .board .seen) p ∙ ap markIn e)) in m .height (r .reach) ∙ sym (k .height (r .reach))
+                let r = found (exact rom fits a) p (λ e. z (laid-at (lastOf rom .board .seen) p ∙ ap markIn e)) in
+                m .height (r .reach) ∙ sym (k .height (r .reach))
           ]
 
 -- ---- the model keeps the promise
@@ -103,13 +114,13 @@ module _ (rom before : List ℕ) (s : length before ≡ marksSize) (h : headerOf
   judged-good : lastOf rom .good ≡ true → Keeps rom before (judgedOf rom before)
   unfolding judgedOf screenOf
   judged-good g =
-      subst (λ o. Keeps rom before (marked before o)) (sym (when-true (some (map markIn (lastOf rom .board .seen))) none (lastOf rom .good) g))
+      subst (λ o. Keeps rom before (marked before o)) (sym (when-true (some (laidOf (lastOf rom .board .seen))) none (lastOf rom .good) g))
       (passes s h (passes-exactly rom (header-length rom h) .0 g) (model-marks rom (header-length rom h) (passes-exactly rom (header-length rom h) .0 g)))
 
   judged-bad : lastOf rom .good ≡ false → Keeps rom before (judgedOf rom before)
   unfolding judgedOf screenOf
   judged-bad g =
-      subst (λ o. Keeps rom before (marked before o)) (sym (when-false (some (map markIn (lastOf rom .board .seen))) none (lastOf rom .good) g))
+      subst (λ o. Keeps rom before (marked before o)) (sym (when-false (some (laidOf (lastOf rom .board .seen))) none (lastOf rom .good) g))
       (subst (λ n. Promised rom before (Refused 31) (replicate n 0)) (sym s)
       (no-heights s h (λ a. subst T (sym (exact rom (header-length rom h) a) ∙ g) tt)))
 

@@ -8,11 +8,13 @@ pub mod ReachLaws
 pub mod TokenFacts
 pub mod Ways
 pub mod InForce
+pub mod CodeLaws
 pub mod Visits
 pub mod Walking
 pub mod Apart
 pub mod Marking
 pub mod Tallying
+pub mod Room
 pub mod Shifting
 pub mod Advancing
 pub mod Rounds
@@ -27,8 +29,9 @@ pub mod ExactRound
 pub mod ExactBody
 pub mod Exact
 pub mod Agree
+pub mod Laid
 pub mod Exactly
-pub mod CodeLaws
+pub mod VisitLaws
 pub mod WalkLaws
 pub mod BodyLaws
 pub mod KeepLaws

@@ -1,18 +1,18 @@
 -- The screen as a program: how heights are found, step by step, as the code does it. That it finds an assignment exactly where there is one
 -- is said elsewhere. Assumes nothing.
 --
--- Defining tokens, CC, 11F and 127 must each be met exactly once: no branch leads around one or back over it. So a program outside bodies is a row
--- of rounds: each starts behind such a token, or at place 8, stays at or above its start, and comes to no other such token than the one that ends
--- it, which is the highest place that it comes to. Numbers, width, nodes and open children are the same for the whole of a round. A body is
--- walked once, when its b(:) ends a round.
+-- Defining tokens, CC, 11F and 127 must each be met exactly once: no branch leads around one or back over it. So a program outside bodies
+-- is a row of rounds: each starts behind such a token, or at place 8, stays at or above its start, and comes to no other such token than
+-- the one that ends it, which is the highest place that it comes to. Numbers, width, nodes and open children are the same for the whole of
+-- a round. A body is walked once, when its b(:) ends a round.
 use Prim.Native.Nat.{ℕ, zero, suc, _+_, _-_, _*_, _/_, _%_, max}
 use mathlib.Core.Bool.{Bool, true, false, not, _&&_, _||_}
-use mathlib.Core.List.{List, map}
+use mathlib.Core.List.{List, [], _∷_, map, _++_}
 use mathlib.Core.Option.{Option, none, some}
-use lib.ListN.{getD, set, replicate}
+use lib.ListN.{length, getD, set, replicate}
 use lib.Dec.{ltb, leb, eqb}
 use Rattle.cells.specs.Choice.{pick}
-use Rattle.rom.specs.Sizes.{firstPlace, dataMost, returnMost, framesMost, numbersMost, nodesMost, romMost}
+use Rattle.rom.specs.Sizes.{firstPlace, dataMost, returnMost, framesMost, numbersMost, nodesMost, romMost, marksSize}
 use Rattle.rom.specs.Header.{lengthOf, wideOf}
 use Rattle.rom.specs.declared.branch.Aim.the-variants.{Inside, Outside}
 use Rattle.tokens.specs.Family.{finish, always, choice, widen, leave, define, newDevice}
@@ -28,10 +28,7 @@ use Rattle.screen.specs.Effect.{isA, allowed, fixes, astray, valueSum, e
 use Rattle.screen.specs.declared.effect.Sum.{Sum}
 use Rattle.screen.specs.declared.effect.Effect.{Effect}
 use Rattle.screen.specs.declared.walking.Text.{Text as Scope}
-use Rattle.screen.specs.declared.walking.Walk.{Walk}
-use Rattle.screen.specs.declared.walking.Visit.{Visit}
 use Rattle.screen.specs.declared.rounds.Stand.{Stand}
-use Rattle.screen.specs.declared.rounds.Tally.{Tally}
 
 -- ---- a place's cell: 0 where no token was met, else one more than the data height, and 256 times the return height. Its low byte is the mark.
 abbrev pub cellOf : ℕ → ℕ → ℕ
@@ -129,6 +126,13 @@ nextIn t = pick (stops t) 0 (t .next)
 abbrev pub branchIn : Token → ℕ
 branchIn t = pick (isA always t || isA choice t) (aimIn (t .operand)) 0
 
+-- what a visit to a token tells: whether its rules are met, the heights behind it, and its successors, 0 for none
+pub record Visit : Type 0 where
+  pub good : Bool
+  pub cell : ℕ
+  pub next : ℕ
+  pub aim : ℕ
+
 abbrev pub badVisit : Visit
 badVisit = record { good = false; cell = 0; next = 0; aim = 0 }
 
@@ -153,31 +157,74 @@ unfoldable pub visitOf : List ℕ → Scope → List ℕ → List ℕ → ℕ �
 unfolding tokenVisit soundOf fitsOf
 visitOf rom x kinds sums p cell = readVisit x kinds sums cell (readOf rom (x .length) (x .wide) (x .within) p)
 
--- ---- a walk: every place has its cell, and waits at most once
+-- ---- what a body comes to: its need, peaks, frames and ends, token by token as they are met
+-- whether the ends agree so far, the need, the highest data height and return height, the frames, and one more than the data height of the
+-- ends, 0 where none was met: all as they are where the body is entered at 64
+pub record Tally : Type 0 where
+  pub good : Bool
+  pub need : ℕ
+  pub peak : ℕ
+  pub «return_peak» : ℕ
+  pub frames : ℕ
+  pub out : ℕ
+
+abbrev pub noTally : Tally
+noTally = record { good = true; need = 0; peak = 0; «return_peak» = 0; frames = 0; out = 0 }
+
+-- an end: the first, or one with the same height
+abbrev pub agreed : Tally → ℕ → Bool
+agreed a k = eqb (a .out) 0 || eqb (a .out) (suc k)
+
+unfoldable pub tallied : Tally → Token → Effect → ℕ → Tally
+tallied a t e cell =
+    record {
+      good = a .good && (not (isA leave t) || agreed a (heightIn cell));
+      need = max (a .need) (entered + e .takes - heightIn cell);
+      peak = max (a .peak) (max (heightIn cell) (heightIn cell - e .takes + e .rise));
+      «return_peak» = max (a .«return_peak») (backIn cell + e .«return_rise»);
+      frames = max (a .frames) (1 + e .frames);
+      out = pick (isA leave t) (suc (heightIn cell)) (a .out);
+    }
+
+abbrev pub talliedIn : List ℕ → Tally → ℕ → Read → Tally
+talliedIn sums a cell (Refused why) = a
+talliedIn sums a cell (Good t) = tallied a t (effectOf (sumAt sums) t) cell
+
+-- outside bodies nothing is told
+abbrev pub toldIn : Bool → List ℕ → Tally → ℕ → Read → Tally
+toldIn true sums a cell r = talliedIn sums a cell r
+toldIn false sums a cell r = a
+
+-- ---- a walk: every place has its cell, and waits at most once; the one to be met next is the first of those that wait
+pub record Walk : Type 0 where
+  pub good : Bool
+  pub far : ℕ
+  pub tally : Tally
+
 pub record Path : Type 0 where
   pub seen : List ℕ
-  pub work : List ℕ
+  pub waits : List ℕ
   pub walk : Walk
 
 abbrev pub path : List ℕ → List ℕ → Walk → Path
-path seen work walk = record { seen = seen; work = work; walk = walk }
+path seen waits walk = record { seen = seen; waits = waits; walk = walk }
 
 abbrev pub spoilt : Walk → Walk
-spoilt w = record { good = false; top = w .top; far = w .far }
+spoilt w = record { good = false; far = w .far; tally = w .tally }
 
 abbrev pub bad : Path → Path
-bad a = path (a .seen) (a .work) (spoilt (a .walk))
+bad a = path (a .seen) (a .waits) (spoilt (a .walk))
 
 -- a place is come to with heights: it has none yet, and waits; or it has these
 unfoldable pub putOf : Scope → Path → ℕ → ℕ → Path
 putOf x a q cell =
-    elim (ltb q (x .low) || leb (x .length) q || leb romMost (a .walk .top)) [
+    elim (ltb q (x .low) || leb (x .length) q) [
       | true ↦ bad a
       | false ↦ elim (eqb (getD (a .seen) q 0) (blankOf (x .within))) [
-        | true ↦ path (set (a .seen) q cell) (set (a .work) (a .walk .top) q) (record {
+        | true ↦ path (set (a .seen) q cell) (q ∷ a .waits) (record {
           good = a .walk .good;
-          top = suc (a .walk .top);
           far = max (a .walk .far) q;
+          tally = a .walk .tally;
         })
         | false ↦ elim (eqb (getD (a .seen) q 0) cell) [ true ↦ a | false ↦ bad a ]
       ]
@@ -188,23 +235,44 @@ unfoldable pub putsOf : Scope → Path → ℕ → ℕ → Path
 unfolding putOf
 putsOf x a q cell = elim (eqb q 0) [ true ↦ a | false ↦ putOf x a q cell ]
 
--- the place that waits on top is visited, and its successors are come to
-abbrev pub topped : Path → Path
-topped a = path (a .seen) (a .work) (record { good = a .walk .good; top = a .walk .top - 1; far = a .walk .far })
+-- the place that is met next, 0 where none waits, and the rest
+abbrev pub headIn : List ℕ → ℕ
+headIn [] = 0
+headIn (p ∷ ps) = p
+
+abbrev pub restIn : List ℕ → List ℕ
+restIn [] = []
+restIn (p ∷ ps) = ps
 
 abbrev pub waiting : Path → ℕ
-waiting a = getD (a .work) (a .walk .top - 1) 0
+waiting a = headIn (a .waits)
 
+-- it waits no more, and the tally has it
+abbrev pub topped : List ℕ → Scope → List ℕ → Path → Path
+topped rom x sums a =
+    path (a .seen) (restIn (a .waits)) (record {
+      good = a .walk .good;
+      far = a .walk .far;
+      tally =
+          toldIn (x .within) sums (a .walk .tally) (getD (a .seen) (waiting a) 0) (readOf rom (x .length) (x .wide) (x .within) (waiting a));
+    })
+
+-- its successors are come to
 unfoldable pub onward : Scope → Path → Visit → Path
 unfolding putsOf
 onward x a v = elim (v .good) [ true ↦ putsOf x (putsOf x a (v .next) (v .cell)) (v .aim) (v .cell) | false ↦ bad a ]
 
 unfoldable pub stepOf : List ℕ → Scope → List ℕ → List ℕ → Path → Path
-unfolding visitOf onward
-stepOf rom x kinds sums a = onward x (topped a) (visitOf rom x kinds sums (waiting a) (getD (a .seen) (waiting a) 0))
+unfolding visitOf onward sumAt tallied
+stepOf rom x kinds sums a =
+    onward x (topped rom x sums a) (visitOf rom x kinds sums (waiting a) (getD (a .seen) (waiting a) 0))
+
+abbrev pub isSome : List ℕ → Bool
+isSome [] = false
+isSome (p ∷ ps) = true
 
 abbrev pub walking : Path → Bool
-walking a = a .walk .good && ltb 0 (a .walk .top)
+walking a = a .walk .good && isSome (a .waits)
 
 -- each place is visited once, so that there are always turns enough
 unfoldable pub walkOf : List ℕ → Scope → List ℕ → List ℕ → ℕ → Path → Path
@@ -214,11 +282,11 @@ walkOf rom x kinds sums (suc k) a = elim (walking a) [ true ↦ walkOf rom x kin
 
 -- from a place on
 abbrev pub setOut : ℕ → Walk
-setOut start = record { good = true; top = 0; far = start }
+setOut start = record { good = true; far = start; tally = noTally }
 
-unfoldable pub walkFrom : List ℕ → Scope → List ℕ → List ℕ → List ℕ → List ℕ → ℕ → ℕ → Path
+unfoldable pub walkFrom : List ℕ → Scope → List ℕ → List ℕ → List ℕ → ℕ → ℕ → Path
 unfolding putOf walkOf
-walkFrom rom x kinds sums seen work start cell = walkOf rom x kinds sums romMost (putOf x (path seen work (setOut start)) start cell)
+walkFrom rom x kinds sums seen start cell = walkOf rom x kinds sums romMost (putOf x (path seen [] (setOut start)) start cell)
 
 -- ---- outside bodies no two tokens overlap, and a token that ends a round is the highest of it
 abbrev pub endIn : ℕ → Read → ℕ
@@ -263,39 +331,9 @@ startsOf rom length wide kinds zero p seen = marked false p seen
 startsOf rom length wide kinds (suc k) p seen =
     startIn kinds seen p (λ q m. startsOf rom length wide kinds k q m) (readOf rom length wide true p)
 
--- its need, peaks, frames and ends, over its reachable tokens
-abbrev pub noTally : Tally
-noTally = record { good = true; need = 0; peak = 0; «return_peak» = 0; frames = 0; out = 0 }
-
--- an end: the first, or one with the same height
-abbrev pub agreed : Tally → ℕ → Bool
-agreed a k = eqb (a .out) 0 || eqb (a .out) (suc k)
-
-unfoldable pub tallied : Tally → Token → Effect → ℕ → Tally
-tallied a t e cell =
-    record {
-      good = a .good && (not (isA leave t) || agreed a (heightIn cell));
-      need = max (a .need) (entered + e .takes - heightIn cell);
-      peak = max (a .peak) (max (heightIn cell) (heightIn cell - e .takes + e .rise));
-      «return_peak» = max (a .«return_peak») (backIn cell + e .«return_rise»);
-      frames = max (a .frames) (1 + e .frames);
-      out = pick (isA leave t) (suc (heightIn cell)) (a .out);
-    }
-
-abbrev pub talliedIn : List ℕ → Tally → ℕ → Read → Tally
-talliedIn sums a cell (Refused why) = a
-talliedIn sums a cell (Good t) = tallied a t (effectOf (sumAt sums) t) cell
-
 -- a place's cell is that of a reachable token of the body
 abbrev pub isMet : ℕ → Bool
 isMet cell = not (eqb cell 0) && not (eqb cell unmet)
-
-unfoldable pub tallyOf : List ℕ → ℕ → Bool → List ℕ → List ℕ → ℕ → ℕ → Tally → Tally
-unfolding sumAt tallied
-tallyOf rom length wide sums seen zero p a = a
-tallyOf rom length wide sums seen (suc k) p a =
-    tallyOf rom length wide sums seen k (suc p)
-    (elim (isMet (getD seen p 0)) [ true ↦ talliedIn sums a (getD seen p 0) (readOf rom length wide true p) | false ↦ a ])
 
 -- the sum of a body that was entered at 64, as it is where it is entered at its need
 abbrev pub sumOf : Tally → Sum
@@ -323,7 +361,6 @@ shiftOf need (suc k) p seen = shiftOf need k (suc p) (set seen p (movedOf need (
 -- what stands when a round starts
 pub record Board : Type 0 where
   pub seen : List ℕ
-  pub work : List ℕ
   pub kinds : List ℕ
   pub sums : List ℕ
   pub stand : Stand
@@ -335,8 +372,8 @@ pub record Turn : Type 0 where
 abbrev pub turn : Bool → Board → Turn
 turn good b = record { good = good; board = b }
 
-abbrev pub board : List ℕ → List ℕ → List ℕ → List ℕ → Stand → Board
-board seen work kinds sums stand = record { seen = seen; work = work; kinds = kinds; sums = sums; stand = stand }
+abbrev pub board : List ℕ → List ℕ → List ℕ → Stand → Board
+board seen kinds sums stand = record { seen = seen; kinds = kinds; sums = sums; stand = stand }
 
 abbrev pub outsideText : ℕ → Stand → Scope
 outsideText length s =
@@ -367,7 +404,7 @@ withCount s start count =
 
 -- offset16, new-device, finish-device
 abbrev pub onStand : Board → Stand → Board
-onStand b s = board (b .seen) (b .work) (b .kinds) (b .sums) s
+onStand b s = board (b .seen) (b .kinds) (b .sums) s
 
 abbrev pub newNode : Board → Stand → Turn
 newNode b s = turn (ltb (s .nodes) nodesMost) (onStand b (withNodes s (suc (s .children)) (suc (s .nodes))))
@@ -378,7 +415,7 @@ closedNode b s = turn (not (eqb (s .children) 0)) (onStand b (withNodes s (s .ch
 -- a number with its kind and its sum goes into the tables
 abbrev pub entryOf : Board → Stand → ℕ → ℕ → Sum → ℕ → Board
 entryOf b s n kind sum start =
-    board (b .seen) (b .work) (set (b .kinds) (slot n) kind) (set (b .sums) (slot n) (packed sum)) (withCount s start (suc (s .count)))
+    board (b .seen) (set (b .kinds) (slot n) kind) (set (b .sums) (slot n) (packed sum)) (withCount s start (suc (s .count)))
 
 -- a body: its starts, its walk, its tally, its heights
 abbrev pub places : ℕ → ℕ → ℕ
@@ -387,30 +424,26 @@ places entry end = suc end - entry
 unfoldable pub bodyWalked : List ℕ → ℕ → Bool → Board → ℕ → Marked → Path
 unfolding walkFrom
 bodyWalked rom length wide b entry m =
-    walkFrom rom (bodyText length wide entry) (b .kinds) (b .sums) (m .seen) (b .work) entry (cellOf entered 0)
-
-unfoldable pub bodyTally : List ℕ → ℕ → Bool → Board → ℕ → ℕ → Path → Tally
-unfolding tallyOf
-bodyTally rom length wide b entry end a = tallyOf rom length wide (b .sums) (a .seen) (places entry end) entry noTally
+    walkFrom rom (bodyText length wide entry) (b .kinds) (b .sums) (m .seen) entry (cellOf entered 0)
 
 unfoldable pub bodyShifted : Board → Stand → ℕ → ℕ → ℕ → Path → Tally → Turn
 unfolding shiftOf passesOf
 bodyShifted b s n entry end a y =
     turn (passesOf y)
-    (entryOf (board (shiftOf (y .need) (places entry end) entry (a .seen)) (a .work) (b .kinds) (b .sums) s) s n 0xB7 (sumOf y) (suc end))
+    (entryOf (board (shiftOf (y .need) (places entry end) entry (a .seen)) (b .kinds) (b .sums) s) s n 0xB7 (sumOf y) (suc end))
 
-abbrev pub onSeen : Board → List ℕ → List ℕ → Board
-onSeen b seen work = board seen work (b .kinds) (b .sums) (b .stand)
+abbrev pub onSeen : Board → List ℕ → Board
+onSeen b seen = board seen (b .kinds) (b .sums) (b .stand)
 
 unfoldable pub colonOf : List ℕ → ℕ → Board → Stand → ℕ → ℕ → Turn
-unfolding startsOf bodyWalked bodyTally bodyShifted
+unfolding startsOf bodyWalked bodyShifted
 colonOf rom length b s n entry =
     elim (m .good) [
       | true ↦ elim (a .walk .good) [
-        | true ↦ bodyShifted b s n entry (m .end) a (bodyTally rom length (s .wide) b entry (m .end) a)
-        | false ↦ turn false (onSeen b (a .seen) (a .work))
+        | true ↦ bodyShifted b s n entry (m .end) a (a .walk .tally)
+        | false ↦ turn false (onSeen b (a .seen))
       ]
-      | false ↦ turn false (onSeen b (m .seen) (b .work))
+      | false ↦ turn false (onSeen b (m .seen))
     ]
   where
     m : Marked
@@ -453,7 +486,7 @@ advanceOf rom length b cell t =
 unfoldable pub roundOf : List ℕ → ℕ → Board → Path
 unfolding walkFrom
 roundOf rom length b =
-    walkFrom rom (outsideText length (b .stand)) (b .kinds) (b .sums) (b .seen) (b .work) (b .stand .start) (b .stand .cell)
+    walkFrom rom (outsideText length (b .stand)) (b .kinds) (b .sums) (b .seen) (b .stand .start) (b .stand .cell)
 
 abbrev pub roundGood : List ℕ → ℕ → Board → Path → Bool
 roundGood rom length b a =
@@ -482,23 +515,31 @@ roundsOf rom length (suc k) b =
     a = roundOf rom length b
 
     b′ : Board
-    b′ = onSeen b (a .seen) (a .work)
+    b′ = onSeen b (a .seen)
 
 -- ---- the whole
 abbrev pub firstStand : Bool → Stand
 firstStand wide = record { start = firstPlace; cell = cellOf 0 0; wide = wide; children = 0; nodes = 2; count = 0 }
 
-abbrev pub firstBoard : Bool → Board
-firstBoard wide = board (replicate 16384 0) (replicate 16384 0) (replicate 2048 0) (replicate 2048 0) (firstStand wide)
+-- how many cells there are for a program of a length: a small one does not pay for what a large one needs
+abbrev pub roomOf : ℕ → ℕ
+roomOf n = pick (leb n 256) 256 (pick (leb n 1024) 1024 (pick (leb n 4096) 4096 romMost))
+
+abbrev pub firstBoard : ℕ → Bool → Board
+firstBoard room wide = board (replicate room 0) (replicate 2048 0) (replicate 2048 0) (firstStand wide)
 
 unfoldable pub lastOf : List ℕ → Turn
 unfolding roundsOf
-lastOf rom = roundsOf rom (lengthOf rom) romMost (firstBoard (wideOf rom))
+lastOf rom = roundsOf rom (lengthOf rom) romMost (firstBoard (roomOf (lengthOf rom)) (wideOf rom))
 
 abbrev pub markIn : ℕ → ℕ
 markIn cell = cell % 256
 
+-- behind the last cell there are none
+unfoldable pub laidOf : List ℕ → List ℕ
+laidOf seen = map markIn seen ++ replicate (marksSize - length seen) 0
+
 -- the marks of a ROM with a good header, where it passes
 unfoldable pub screenOf : List ℕ → Option (List ℕ)
-unfolding lastOf
-screenOf rom = elim (lastOf rom .good) [ true ↦ some (map markIn (lastOf rom .board .seen)) | false ↦ none ]
+unfolding lastOf laidOf
+screenOf rom = elim (lastOf rom .good) [ true ↦ some (laidOf (lastOf rom .board .seen)) | false ↦ none ]

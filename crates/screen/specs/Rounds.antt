@@ -14,10 +14,11 @@ use Rattle.tokens.specs.Place.{readOf}
 use Rattle.tokens.specs.declared.decoding.Token.{Token}
 use Rattle.tokens.specs.declared.read.Read.the-variants.{Good}
 use Rattle.screen.specs.Effect.{fixes}
-use Rattle.screen.specs.Model.{Path, Board, Turn, cellOf, outsideText, onSeen, roundOf, roundGood, advanceOf, apartOf}
+use Rattle.screen.specs.Model.{Path, Board, Turn, cellOf, outsideText, onSeen, roundOf, roundGood, advanceOf, apartOf, roomOf}
 use Rattle.screen.specs.Visits.{Fits, visit-fits}
 use Rattle.screen.specs.Walking.{At, Given, Walked, at-real, walk-good, walked-above}
 use Rattle.screen.specs.Apart.{Apart, apart-good}
+use Rattle.screen.specs.Room.{has-room}
 use Rattle.screen.specs.declared.walking.Text.{Text as Scope}
 
 -- heights within the limits, as a cell
@@ -37,7 +38,7 @@ module _ (rom : List ℕ) where
   farOf b = ran b .walk .far
 
   abbrev pub left : Board → Board
-  left b = onSeen b (ran b .seen) (ran b .work)
+  left b = onSeen b (ran b .seen)
 
   abbrev pub OutAt : Board → ℕ → ℕ → Type 0
   OutAt b p c = At rom (outsideText (lengthOf rom) (b .stand)) (b .kinds) (b .sums) (b .stand .start) (b .stand .cell) p c
@@ -47,8 +48,7 @@ module _ (rom : List ℕ) where
 
   -- what every round starts with
   pub record Ready (b : Board) : Type 0 where
-    pub seen : length (b .seen) ≡ 16384
-    pub work : length (b .work) ≡ 16384
+    pub seen : length (b .seen) ≡ roomOf (lengthOf rom)
     pub kinds : length (b .kinds) ≡ 2048
     pub sums : length (b .sums) ≡ 2048
     pub fresh : (p : ℕ) → b .stand .start ≤ p → getD (b .seen) p 0 ≡ 0
@@ -61,6 +61,10 @@ module _ (rom : List ℕ) where
     pub apart : Apart rom (outsideText (lengthOf rom) (b .stand)) (ran b .seen) (b .stand .start) (farOf b)
     pub token : Token
     pub is : readOf rom (lengthOf rom) (b .stand .wide) false (farOf b) ≡ Good token
+
+  -- a round leaves as many cells as there were
+  pub ran-size : {b : Board} → Ready b → Ran b → length (ran b .seen) ≡ roomOf (lengthOf rom)
+  ran-size y r = r .walked .size ∙ y .seen
 
   -- above the highest place of a round nothing is marked
   pub ran-above : {b : Board} → Ready b → Ran b → (p : ℕ) → farOf b < p → getD (ran b .seen) p 0 ≡ 0
@@ -92,12 +96,12 @@ module _ (rom : List ℕ) where
         test : Bool
         test = apartOf rom x (ran b .seen) (farOf b) (suc (farOf b) - b .stand .start) (b .stand .start) 0
 
-        given : Given rom x (b .kinds) (b .sums) (b .stand .start) (b .stand .cell) (b .seen) (b .work)
+        given : Given rom x (b .kinds) (b .sums) (b .stand .start) (b .stand .cell) (b .seen)
         given =
+            let h = has-room (lengthOf rom) fits (y .seen) in
             record {
-              seen-size = y .seen;
-              work-size = y .work;
-              short = fits;
+              room = h .0;
+              few = h .1;
               unlike = positive;
               some = positive;
               fresh = λ p l h n. y .fresh p l;

@@ -1,24 +1,31 @@
--- The pass over a body's places finds the greatest of what its tokens ask for, and the height of its ends. Assumes nothing.
-use Prim.Native.Nat.{ℕ, zero, suc, _+_, _-_, _≤_, _<_, max}
-use mathlib.Core.Path.{_≡_, refl, _∙_, subst}
-use mathlib.Core.Logic.{_≢_}
+-- What is told along a walk of a body is the greatest of what its tokens ask for, and the height of its ends. Assumes nothing.
+use Prim.Native.Nat.{ℕ, suc, _+_, _-_, _≤_, _<_, max}
+use mathlib.Core.Path.{_≡_, refl, sym, subst}
+use mathlib.Core.Logic.{_≢_, inl, inr}
 use mathlib.Core.Bool.{Bool, true, false, not, _&&_, _||_}
-use mathlib.Core.List.{List}
+use mathlib.Core.List.{List, [], _∷_}
 use native.Mathlib.Omega.{arith}
-use native.Mathlib.Decide.{ℕ-discrete, decLt}
+use native.Mathlib.Decide.{decLt}
+use borrow.Author.Tests.{ne-eqb}
 use lib.ListN.{getD}
 use lib.Dec.{T, T-not, eqb, eqb→eq}
 use Rattle.cells.specs.Choice.{pick}
-use Rattle.cells.specs.Facts.{holds, fails, is-true, neither, and-first, and-second}
-use Rattle.cells.specs.Tests.{when-is, neqb→ne}
+use Rattle.cells.specs.Facts.{holds, fails, neither, and-first, and-second}
+use Rattle.cells.specs.Tests.{neqb→ne}
+use Rattle.rom.specs.Header.{lengthOf}
 use Rattle.tokens.specs.Family.{leave}
 use Rattle.tokens.specs.Place.{readOf}
 use Rattle.tokens.specs.declared.decoding.Token.{Token}
-use Rattle.tokens.specs.declared.read.Read.{Read}
-use Rattle.tokens.specs.declared.read.Read.the-variants.{Refused, Good}
-use Rattle.screen.specs.declared.rounds.Tally.{Tally}
+use Rattle.tokens.specs.declared.read.Read.the-variants.{Good}
+use Rattle.screen.specs.Model.{Tally}
+use Rattle.screen.specs.declared.walking.Text.{Text as Scope}
 use Rattle.screen.specs.Effect.{isA, effectOf}
-use Rattle.screen.specs.Model.{heightIn, backIn, entered, sumAt, noTally, tallied, talliedIn, isMet, tallyOf, places}
+use Rattle.screen.specs.Reach.{In}
+use Rattle.screen.specs.TokenFacts.{none-in}
+use Rattle.screen.specs.Model.{Path, Marked, heightIn, backIn, entered, unmet, sumAt, noTally, tallied, talliedIn, isMet, bodyText}
+use Rattle.screen.specs.Visits.{Fits, visit-fits}
+use Rattle.screen.specs.Walking.{in-parts, At, Told, untold, telling, Given, Walked, at-real}
+use Rattle.screen.specs.Marking.{Marks, marks-only, walked-met}
 
 -- a place of a body that was met, with its token
 pub record Visited (rom : List ℕ) (length : ℕ) (wide : Bool) (seen : List ℕ) (p : ℕ) (t : Token) : Type 0 where
@@ -66,157 +73,7 @@ pub record Ends (rom : List ℕ) (length : ℕ) (wide : Bool) (seen : List ℕ) 
   pub none : out ≡ 0 → {p : ℕ} {t : Token} → Among rom length wide seen from to p t → T (isA leave t) → ⊥
   pub clash : good ≡ false → Differ rom length wide seen from to
 
-module _ {rom : List ℕ} {length : ℕ} {wide : Bool} {seen : List ℕ} where
-  -- one place more
-  wider : {from to p : ℕ} {t : Token} → Among rom length wide seen from to p t → Among rom length wide seen from (suc to) p t
-  wider a = record { low = a .low; high = omega (arith, a .high); visited = a .visited }
-
-  -- the last of them
-  newest : {from p : ℕ} {t : Token} → from ≤ p → Visited rom length wide seen p t → Among rom length wide seen from (suc p) p t
-  newest l v = record { low = l; high = omega arith; visited = v }
-
-  -- what holds of the places before the last, and of the last, holds of them all
-  among-is : {from p q : ℕ} {u : Token} (Q : ℕ → Token → Type 0) → Among rom length wide seen from (suc p) q u
-      → (Among rom length wide seen from p q u → Q q u) → (Visited rom length wide seen p u → Q p u) → Q q u
-  among-is {from} {p} {q} {u} Q a old new =
-      elim (ℕ-discrete q p) [
-        | yes e ↦ rw e (new (rw e at (a .visited)))
-        | no n ↦ old (record { low = a .low; high = omega (arith, a .high, n); visited = a .visited })
-      ]
-
-  -- one token at a place
-  one-token : {p : ℕ} {t u : Token} → Visited rom length wide seen p t → Visited rom length wide seen p u → t ≡ u
-  one-token v w = let e = v .is in let f = w .is in cc (e, f)
-
-module _ (rom : List ℕ) (length : ℕ) (wide : Bool) (sums seen : List ℕ) where
-  -- what holds of a tally before a place, whether that has a token or not, holds of it at the end of the pass
-  fold-is : (P : ℕ → Tally → Type 0) (from : ℕ)
-      → ((p : ℕ) (a : Tally) → from ≤ p → ((t : Token) → Visited rom length wide seen p t → ⊥) → P p a → P (suc p) a)
-      → ((p : ℕ) (a : Tally) (t : Token) → from ≤ p → Visited rom length wide seen p t → P p a → P (suc p) (tallied a t (effectOf (sumAt sums) t) (getD seen p 0)))
-      → (k p to : ℕ) (a : Tally) → from ≤ p → p + k ≡ to → P p a → P to (tallyOf rom length wide sums seen k p a)
-  unfolding tallyOf
-  fold-is P from skip take zero p to a l e h = let d : to ≡ p = omega arith in rw d h
-  fold-is P from skip take (suc k) p to a l e h =
-      fold-is P from skip take k (suc p) to _ (omega arith) (omega arith)
-      (when-is (P (suc p)) (isMet (getD seen p 0)) _ _ (λ t. read (readOf rom length wide true p) refl (is-true (isMet (getD seen p 0)) t))
-      (λ t. skip p a l (λ u v. T-not (isMet (getD seen p 0)) t (holds (isMet (getD seen p 0)) (v .met))) h))
-    where
-      read : (r : Read) → readOf rom length wide true p ≡ r → isMet (getD seen p 0) ≡ true → P (suc p) (talliedIn sums a (getD seen p 0) r)
-      read (Refused why) e m = skip p a l (λ u v. let f = v .is in let z : zero ≡ 1 = cc (e, f) in omega arith) h
-      read (Good t) e m = take p a t l (record { met = m; is = e }) h
-
-  -- a number of the tally that every token raises to what it asks for is the greatest of that
-  greatest : (field : Tally → ℕ) (value : Token → ℕ → ℕ) → field noTally ≡ 0
-      → ((a : Tally) (t : Token) (cell : ℕ) → field (tallied a t (effectOf (sumAt sums) t) cell) ≡ max (field a) (value t cell))
-      → (entry end : ℕ) → entry ≤ suc end
-      → Greatest rom length wide seen entry (suc end) value (field (tallyOf rom length wide sums seen (places entry end) entry noTally))
-  greatest field value z raised entry end l =
-      fold-is (λ p a. Greatest rom length wide seen entry p value (field a)) entry
-      (λ p a u no g.
-      record {
-        all = λ b. among-is (λ q t. value t (getD seen q 0) ≤ field a) b (λ c. g .all c) (λ v. absurd (no _ v));
-        got = λ n. let y = g .got n in record { place = y .place; token = y .token; among = wider (y .among); is = y .is };
-      })
-      (λ p a t u v g. rw (raised a t (getD seen p 0)) (more p (field a) t u v g))
-      (places entry end) entry (suc end) noTally (omega arith) (omega arith)
-      (record { all = λ b. absurd (omega (arith, b .low, b .high)); got = λ n. absurd (n z) })
-    where
-      more : (p m : ℕ) (t : Token) → entry ≤ p → Visited rom length wide seen p t → Greatest rom length wide seen entry p value m
-          → Greatest rom length wide seen entry (suc p) value (max m (value t (getD seen p 0)))
-      more p m t u v g =
-          record {
-            all = λ b.
-                among-is (λ q t′. value t′ (getD seen q 0) ≤ max m (value t (getD seen p 0))) b (λ c. let h = g .all c in omega arith)
-                (λ w. rw (one-token w v) (omega arith));
-            got = λ n.
-                elim (decLt m (value t (getD seen p 0))) [
-                  | yes h ↦ record { place = p; token = t; among = newest u v; is = omega arith }
-                  | no h ↦
-                      let y = g .got (λ e. n (omega arith)) in
-                      record { place = y .place; token = y .token; among = wider (y .among); is = y .is ∙ omega arith }
-                ];
-          }
-
--- ---- the ends
-and-true : (b : Bool) → (b && true) ≡ b
-and-true true = refl
-and-true false = refl
-
--- an end that agrees with another has its height
-agree : (out n : ℕ) → T (eqb out 0 || eqb out n) → out ≢ 0 → out ≡ n
-agree out n t z = by (eqb out 0) refl t
-  where
-    by : (b : Bool) → eqb out 0 ≡ b → T (b || eqb out n) → out ≡ n
-    by true e u = absurd (z (eqb→eq out 0 (holds (eqb out 0) e)))
-    by false e u = eqb→eq out n u
-
-module _ {rom : List ℕ} {length : ℕ} {wide : Bool} {seen : List ℕ} where
-  -- what was found before a place is found before the next
-  farther : {from to n : ℕ} → Leaving rom length wide seen from to n → Leaving rom length wide seen from (suc to) n
-  farther y = record { place = y .place; token = y .token; among = wider (y .among); leaves = y .leaves; is = y .is }
-
-  parted : {from to : ℕ} → Differ rom length wide seen from to → Differ rom length wide seen from (suc to)
-  parted d = record { m = d .m; n = d .n; one = farther (d .one); other = farther (d .other); differ = d .differ }
-
-  -- a place with no end
-  passed : {from p out : ℕ} {good : Bool} → ((t : Token) → Visited rom length wide seen p t → T (isA leave t) → ⊥)
-      → Ends rom length wide seen from p good out → Ends rom length wide seen from (suc p) good out
-  passed {from} {p} {out} out-of s =
-      record {
-        same = λ g b.
-            among-is (λ q t. T (isA leave t) → suc (heightIn (getD seen q 0)) ≡ out) b (λ c. s .same g c) (λ v i. absurd (out-of _ v i));
-        got = λ n. farther (s .got n);
-        none = λ z b. among-is (λ q t. T (isA leave t) → ⊥) b (λ c. s .none z c) (λ v i. out-of _ v i);
-        clash = λ g. parted (s .clash g);
-      }
-
-  -- an end
-  ended : {from p out : ℕ} {good : Bool} {t : Token} → from ≤ p → Visited rom length wide seen p t → T (isA leave t)
-      → Ends rom length wide seen from p good out
-      → Ends rom length wide seen from (suc p)
-      (good && (eqb out 0 || eqb out (suc (heightIn (getD seen p 0))))) (suc (heightIn (getD seen p 0)))
-  ended {from} {p} {out} {good} {t} l v i s =
-      record {
-        same = λ g b.
-            among-is (λ q u. T (isA leave u) → suc (heightIn (getD seen q 0)) ≡ suc (heightIn (getD seen p 0))) b
-            (λ c j.
-            let e = s .same (and-first good agrees g) c j in
-            let d = agree out (suc (heightIn (getD seen p 0))) (holds agrees (and-second good agrees g)) (λ z. omega arith) in
-            omega arith)
-            (λ w j. refl);
-        got = λ n. it;
-        none = λ z. absurd (omega arith);
-        clash = λ g. parting good refl g;
-      }
-    where
-      agrees : Bool
-      agrees = eqb out 0 || eqb out (suc (heightIn (getD seen p 0)))
-
-      it : Leaving rom length wide seen from (suc p) (suc (heightIn (getD seen p 0)))
-      it = record { place = p; token = t; among = newest l v; leaves = i; is = refl }
-
-      parting : (g : Bool) → good ≡ g → (g && agrees) ≡ false → Differ rom length wide seen from (suc p)
-      parting false e f = parted (s .clash e)
-      parting true e f =
-          let d = neither (eqb out 0) (eqb out (suc (heightIn (getD seen p 0)))) (fails agrees f) in
-          record {
-            m = out;
-            n = suc (heightIn (getD seen p 0));
-            one = farther (s .got (neqb→ne out 0 (d .0)));
-            other = it;
-            differ = neqb→ne out (suc (heightIn (getD seen p 0))) (d .1);
-          }
-
-  -- a token, whether it is an end or not
-  ends-more : {from p out : ℕ} {good : Bool} {t : Token} (b : Bool) → isA leave t ≡ b → from ≤ p → Visited rom length wide seen p t
-      → Ends rom length wide seen from p good out
-      → Ends rom length wide seen from (suc p)
-      (good && (not b || (eqb out 0 || eqb out (suc (heightIn (getD seen p 0)))))) (pick b (suc (heightIn (getD seen p 0))) out)
-  ends-more {t = t} true e l v s = ended l v (holds (isA leave t) e) s
-  ends-more {good = good} {t = t} false e l v s =
-      rw (and-true good) (passed (λ u w i. T-not (isA leave t) (fails (isA leave t) e) (rw (one-token v w) i)) s)
-
--- ---- the pass
+-- ---- the tally
 -- what a token asks for, with the cell of its place
 abbrev pub needAt : List ℕ → Token → ℕ → ℕ
 needAt sums t cell = entered + effectOf (sumAt sums) t .takes - heightIn cell
@@ -238,25 +95,207 @@ pub record TallyIs (rom : List ℕ) (length : ℕ) (wide : Bool) (sums seen : Li
   pub frames : Greatest rom length wide seen entry (suc end) (framesAt sums) (y .frames)
   pub ends : Ends rom length wide seen entry (suc end) (y .good) (y .out)
 
--- the tally of a body is so
-pub tally-is : (rom : List ℕ) (length : ℕ) (wide : Bool) (sums seen : List ℕ) (entry end : ℕ) → entry ≤ suc end
-    → TallyIs rom length wide sums seen entry end (tallyOf rom length wide sums seen (places entry end) entry noTally)
-unfolding tallied
-tally-is rom length wide sums seen entry end l =
-    record {
-      need = greatest rom length wide sums seen (λ a. a .need) (needAt sums) refl (λ a t cell. refl) entry end l;
-      peak = greatest rom length wide sums seen (λ a. a .peak) (peakAt sums) refl (λ a t cell. refl) entry end l;
-      back = greatest rom length wide sums seen (λ a. a .«return_peak») (backAt sums) refl (λ a t cell. refl) entry end l;
-      frames = greatest rom length wide sums seen (λ a. a .frames) (framesAt sums) refl (λ a t cell. refl) entry end l;
-      ends =
-          fold-is rom length wide sums seen (λ p a. Ends rom length wide seen entry p (a .good) (a .out)) entry
-          (λ p a u out s. passed (λ t v i. out t v) s)
-          (λ p a t u v s. ends-more (isA leave t) refl u v s)
-          (places entry end) entry (suc end) noTally (omega arith) (omega arith)
-          (record {
-            same = λ g b. absurd (omega (arith, b .low, b .high));
-            got = λ n. absurd (n refl);
-            none = λ z b. absurd (omega (arith, b .low, b .high));
-            clash = λ g. absurd (subst T g tt);
-          });
-    }
+-- one token at a place
+one-token : {rom : List ℕ} {length : ℕ} {wide : Bool} {seen : List ℕ} {p : ℕ} {t u : Token} → Visited rom length wide seen p t
+    → Visited rom length wide seen p u → t ≡ u
+one-token v w = let e = v .is in let f = w .is in cc (e, f)
+
+-- ---- tests
+-- one that holds adds nothing
+and-true : (b : Bool) → (b && true) ≡ b
+and-true true = refl
+and-true false = refl
+
+-- an end that agrees with another has its height
+agree : (out n : ℕ) → T (eqb out 0 || eqb out n) → out ≢ 0 → out ≡ n
+agree out n t z = by (eqb out 0) refl t
+  where
+    by : (b : Bool) → eqb out 0 ≡ b → T (b || eqb out n) → out ≡ n
+    by true e u = absurd (z (eqb→eq out 0 (holds (eqb out 0) e)))
+    by false e u = eqb→eq out n u
+
+-- ---- a body that was walked: before its starts were marked, all its cells were 0
+module _ {rom : List ℕ} {wide : Bool} {kinds sums seen : List ℕ} {entry cell : ℕ} {m : Marked} {a : Path}
+    (y : Marks rom wide kinds entry seen m) (plain : (p : ℕ) → entry ≤ p → getD seen p 0 ≡ 0)
+    (given : Given rom (bodyText (lengthOf rom) wide entry) kinds sums entry cell (m .seen))
+    (w : Walked rom (bodyText (lengthOf rom) wide entry) kinds sums entry cell (m .seen) a) where
+  -- the body, and the cells that the walk brings to its places
+  abbrev text : Scope
+  text = bodyText (lengthOf rom) wide entry
+
+  abbrev BodyAt : ℕ → ℕ → Type 0
+  BodyAt p c = At rom text kinds sums entry cell p c
+
+  -- the cell that it leaves
+  abbrev cellAt : ℕ → ℕ
+  cellAt p = getD (a .seen) p 0
+
+  -- a place with its token: one that was met, and one of the body that was met
+  abbrev Known : ℕ → Token → Type 0
+  Known p t = Visited rom (lengthOf rom) wide (a .seen) p t
+
+  abbrev Here : ℕ → Token → Type 0
+  Here p t = Among rom (lengthOf rom) wide (a .seen) entry (suc (m .end)) p t
+
+  -- ---- the places of the walk are those of the body that were met
+  come-here : {p c : ℕ} {t : Token} → BodyAt p c → readOf rom (lengthOf rom) wide true p ≡ Good t → Here p t
+  come-here {p} {c} i e =
+      let n = at-real rom text kinds sums entry cell given i in
+      let f = w .inside i in
+      let z = plain p (f .0) in
+      let s = y .starts (marks-only y p (f .3) (λ g. absurd (omega arith))) in
+      record {
+        low = f .0;
+        high = omega (arith, s .1);
+        visited = record { met = rw (w .marked i, ne-eqb c 0 (n .0), ne-eqb c unmet (n .1)); is = e };
+      }
+
+  -- so that the tally was told of each
+  here-past : {p : ℕ} {t : Token} → Here p t → In p (w .past)
+  here-past {p} b = w .every (walked-met y w p (plain p (b .low)) (b .visited .met))
+
+  -- what holds of no tally, and of one that was told of a place more, holds of every tally that was told
+  told-by : (P : List ℕ → Tally → Type 0) → P [] noTally
+      → ((p : ℕ) (t : Token) (ps : List ℕ) (k : Tally) → Here p t → P ps k
+      → P (p ∷ ps) (tallied k t (effectOf (sumAt sums) t) (cellAt p)))
+      → {ps : List ℕ} {k : Tally} → Told rom text kinds sums entry cell ps k → P ps k
+  told-by P none more untold = none
+  told-by P none more (telling {ps = ps} {y = k} {p = p} {c = c} s i) =
+      by (visit-fits rom text kinds sums p c (w .fine i)) (told-by P none more s)
+    where
+      by : Fits rom text kinds sums p c → P ps k → P (p ∷ ps) (talliedIn sums k c (readOf rom (lengthOf rom) wide true p))
+      by f h =
+          let t = f .token in
+          rw (f .meets .is)
+          (subst (λ (n : ℕ). P (p ∷ ps) (tallied k t (effectOf (sumAt sums) t) n)) (w .marked i)
+          (more p t ps k (come-here i (f .meets .is)) h))
+
+  -- ---- the greatest
+  -- of what the places of a list ask for, which a place of the body does ask for
+  record Most (ps : List ℕ) (value : Token → ℕ → ℕ) (n : ℕ) : Type 0 where
+    all : {p : ℕ} {t : Token} → In p ps → Known p t → value t (cellAt p) ≤ n
+    got : n ≢ 0 → Attained rom (lengthOf rom) wide (a .seen) entry (suc (m .end)) value n
+
+  -- what holds of the places of a list, and of one more, holds of them all
+  past-is : {p q : ℕ} {ps : List ℕ} {u : Token} (Q : ℕ → Type 0) → In q (p ∷ ps) → Known q u → (In q ps → Q q) → (Known p u → Q p)
+      → Q q
+  past-is {u = u} Q i v old new =
+      elim (in-parts i) [ inl e ↦ subst Q e (new (subst (λ (n : ℕ). Known n u) (sym e) v)) | inr j ↦ old j ]
+
+  -- of no places
+  most-none : (value : Token → ℕ → ℕ) → Most [] value 0
+  most-none value = record { all = λ i. none-in i; got = λ n. absurd (n refl) }
+
+  -- of a place more
+  most-more : {value : Token → ℕ → ℕ} {p : ℕ} {t : Token} {ps : List ℕ} {n : ℕ} → Here p t → Most ps value n
+      → Most (p ∷ ps) value (max n (value t (cellAt p)))
+  most-more {value} {p} {t} {ps} {n} b g =
+      record {
+        all = λ {t = u} i v.
+            past-is (λ q. value u (cellAt q) ≤ max n (value t (cellAt p))) i v (λ j. let h = g .all j v in omega arith)
+            (λ k. rw (one-token k (b .visited)) (omega arith));
+        got = λ z.
+            elim (decLt n (value t (cellAt p))) [
+              | yes h ↦ record { place = p; token = t; among = b; is = omega arith }
+              | no h ↦
+                  let o = g .got (λ e. z (omega arith)) in
+                  record { place = o .place; token = o .token; among = o .among; is = omega (arith, o .is) }
+            ];
+      }
+
+  -- of all places
+  most-all : {value : Token → ℕ → ℕ} {n : ℕ} → Most (w .past) value n
+      → Greatest rom (lengthOf rom) wide (a .seen) entry (suc (m .end)) value n
+  most-all g = record { all = λ b. g .all (here-past b) (b .visited); got = g .got }
+
+  -- ---- the ends
+  -- among the places of a list, which a place of the body is
+  record Ending (ps : List ℕ) (good : Bool) (out : ℕ) : Type 0 where
+    same : good ≡ true → {p : ℕ} {t : Token} → In p ps → Known p t → T (isA leave t) → suc (heightIn (cellAt p)) ≡ out
+    got : out ≢ 0 → Leaving rom (lengthOf rom) wide (a .seen) entry (suc (m .end)) out
+    none : out ≡ 0 → {p : ℕ} {t : Token} → In p ps → Known p t → T (isA leave t) → ⊥
+    clash : good ≡ false → Differ rom (lengthOf rom) wide (a .seen) entry (suc (m .end))
+
+  -- a place with no end
+  passed : {p out : ℕ} {ps : List ℕ} {good : Bool} → ((t : Token) → Known p t → T (isA leave t) → ⊥) → Ending ps good out
+      → Ending (p ∷ ps) good out
+  passed {out = out} out-of s =
+      record {
+        same = λ g {t = u} i v.
+            past-is (λ q. T (isA leave u) → suc (heightIn (cellAt q)) ≡ out) i v (λ j. s .same g j v) (λ k l. absurd (out-of u k l));
+        got = s .got;
+        none = λ z {t = u} i v. past-is (λ q. T (isA leave u) → ⊥) i v (λ j. s .none z j v) (λ k. out-of u k);
+        clash = s .clash;
+      }
+
+  -- an end
+  ended : {p out : ℕ} {ps : List ℕ} {good : Bool} {t : Token} → Here p t → T (isA leave t) → Ending ps good out
+      → Ending (p ∷ ps) (good && (eqb out 0 || eqb out (suc (heightIn (cellAt p))))) (suc (heightIn (cellAt p)))
+  ended {p} {out} {ps} {good} {t} b l s =
+      record {
+        same = λ g {t = u} i v.
+            past-is (λ q. T (isA leave u) → suc (heightIn (cellAt q)) ≡ suc (heightIn (cellAt p))) i v
+            (λ j k.
+            let e = s .same (and-first good agrees g) j v k in
+            let d = agree out (suc (heightIn (cellAt p))) (holds agrees (and-second good agrees g)) (λ z. omega arith) in
+            omega arith)
+            (λ k j. refl);
+        got = λ n. it;
+        none = λ z. absurd (omega arith);
+        clash = λ g. parting good refl g;
+      }
+    where
+      agrees : Bool
+      agrees = eqb out 0 || eqb out (suc (heightIn (cellAt p)))
+
+      it : Leaving rom (lengthOf rom) wide (a .seen) entry (suc (m .end)) (suc (heightIn (cellAt p)))
+      it = record { place = p; token = t; among = b; leaves = l; is = refl }
+
+      parting : (g : Bool) → good ≡ g → (g && agrees) ≡ false → Differ rom (lengthOf rom) wide (a .seen) entry (suc (m .end))
+      parting false e f = s .clash e
+      parting true e f =
+          let d = neither (eqb out 0) (eqb out (suc (heightIn (cellAt p)))) (fails agrees f) in
+          record {
+            m = out;
+            n = suc (heightIn (cellAt p));
+            one = s .got (neqb→ne out 0 (d .0));
+            other = it;
+            differ = neqb→ne out (suc (heightIn (cellAt p))) (d .1);
+          }
+
+  -- a token, whether it is an end or not
+  ends-more : {p out : ℕ} {ps : List ℕ} {good : Bool} {t : Token} (b : Bool) → isA leave t ≡ b → Here p t → Ending ps good out
+      → Ending (p ∷ ps) (good && (not b || (eqb out 0 || eqb out (suc (heightIn (cellAt p)))))) (pick b (suc (heightIn (cellAt p))) out)
+  ends-more {t = t} true e b s = ended b (holds (isA leave t) e) s
+  ends-more {good = good} {t = t} false e b s =
+      rw (and-true good) (passed (λ u k l. T-not (isA leave t) (fails (isA leave t) e) (rw (one-token (b .visited) k) l)) s)
+
+  -- the ends among no places
+  ends-none : Ending [] true 0
+  ends-none =
+      record { same = λ g i. none-in i; got = λ n. absurd (n refl); none = λ z i. none-in i; clash = λ g. absurd (subst T g tt) }
+
+  -- and among all
+  ends-all : {good : Bool} {out : ℕ} → Ending (w .past) good out → Ends rom (lengthOf rom) wide (a .seen) entry (suc (m .end)) good out
+  ends-all s =
+      record {
+        same = λ g b. s .same g (here-past b) (b .visited);
+        got = s .got;
+        none = λ z b. s .none z (here-past b) (b .visited);
+        clash = s .clash;
+      }
+
+  -- ---- the tally of a body that was walked is so
+  pub tally-is : TallyIs rom (lengthOf rom) wide sums (a .seen) entry (m .end) (a .walk .tally)
+  unfolding tallied
+  tally-is =
+      record {
+        need = most-all (told-by (λ ps k. Most ps (needAt sums) (k .need)) (most-none _) (λ p t ps k b g. most-more b g) (w .told));
+        peak = most-all (told-by (λ ps k. Most ps (peakAt sums) (k .peak)) (most-none _) (λ p t ps k b g. most-more b g) (w .told));
+        back =
+            most-all (told-by (λ ps k. Most ps (backAt sums) (k .«return_peak»)) (most-none _) (λ p t ps k b g. most-more b g) (w .told));
+        frames = most-all (told-by (λ ps k. Most ps (framesAt sums) (k .frames)) (most-none _) (λ p t ps k b g. most-more b g) (w .told));
+        ends =
+            ends-all
+            (told-by (λ ps k. Ending ps (k .good) (k .out)) ends-none (λ p t ps k b s. ends-more (isA leave t) refl b s) (w .told));
+      }

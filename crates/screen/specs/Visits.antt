@@ -30,7 +30,7 @@ use Rattle.screen.specs.Ways.{Ways, ending, jumping, choosing, skipping,
 use Rattle.screen.specs.TokenFacts.{either, or-second, clash, none-in, fixes-no-branch}
 use Rattle.screen.specs.declared.effect.Effect.{Effect}
 use Rattle.screen.specs.declared.walking.Text.{Text as Scope}
-use Rattle.screen.specs.declared.walking.Visit.{Visit}
+use Rattle.screen.specs.Model.{Visit}
 
 -- ---- a place's cell
 -- its data height

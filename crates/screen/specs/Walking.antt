@@ -1,5 +1,6 @@
 -- What a walk finds, in any text and with any tables: it is good exactly where each place that it comes to has one cell, meets its token's
--- rules and lies where the text may have a token; then these places have their cells, and no other place has changed. Assumes nothing.
+-- rules and lies where the text may have a token; then these places have their cells, its tally was told of each of them and of nothing
+-- else, and no other place has changed. Assumes nothing.
 use Prim.Native.Nat.{ℕ, zero, suc, _+_, _-_, _%_, _≤_, _<_, max}
 use mathlib.Core.Path.{_≡_, refl, sym, ap, _∙_, subst}
 use mathlib.Core.Bool.{Bool, true, false, not, _&&_, _||_}
@@ -8,25 +9,33 @@ use mathlib.Core.Logic.{_≢_, _⊎_, inl, inr}
 use native.Mathlib.Omega.{arith}
 use native.Mathlib.Nat.{le-trans}
 use native.Mathlib.Decide.{decLt, ℕ-discrete}
-use lib.Dec.{T, ltb, leb, eqb, eqb→eq, ltb→lt, leb→le, nltb→le, nleb→lt}
+use lib.Dec.{T, T-not, ltb, leb, eqb, eqb→eq, ltb→lt, leb→le, nltb→le, nleb→lt}
 use lib.ListN.{length, getD, set, length-set}
 use lib.Seq.{getD-set-same, getD-set-other}
 use Rattle.cells.specs.Facts.{holds, is-true, is-false, both-hold, neither, not-both}
-use Rattle.cells.specs.Tests.{tests, when-is, neqb→ne}
+use Rattle.cells.specs.Tests.{when-is, neqb→ne}
 use Rattle.rom.specs.Sizes.{romMost, returnMost, framesMost}
 use Rattle.tokens.specs.Place.{readOf}
 use Rattle.tokens.specs.declared.read.Read.{Read}
 use Rattle.tokens.specs.declared.read.Read.the-variants.{Refused, Good}
 use Rattle.screen.specs.Effect.{effectOf}
+use Rattle.screen.specs.Reach.{In, here, there}
+use Rattle.screen.specs.TokenFacts.{either}
 use Rattle.screen.specs.declared.effect.Effect.{Effect}
+use Rattle.screen.specs.Model.{Tally}
 use Rattle.screen.specs.declared.walking.Text.{Text as Scope}
-use Rattle.screen.specs.declared.walking.Visit.{Visit}
+use Rattle.screen.specs.Model.{Visit}
 use Rattle.screen.specs.Model.{
   Path,
   path,
+  headIn,
+  restIn,
+  isSome,
   topped,
   waiting,
   walking,
+  noTally,
+  toldIn,
   setOut,
   blankOf,
   capOf,
@@ -51,19 +60,30 @@ use Rattle.screen.specs.Model.{
 }
 
 -- ---- tests and lists
--- of three tests one holds
-any-of : {R : Type 0} (a b c : Bool) → T (a || b || c) → (T a → R) → (T b → R) → (T c → R) → R
-any-of true b c t u v w = u tt
-any-of false true c t u v w = v tt
-any-of false false true t u v w = w tt
-any-of false false false t u v w = absurd t
+-- where some wait, the first does
+first-in : (ws : List ℕ) → T (isSome ws) → In (headIn ws) ws
+first-in [] t = absurd t
+first-in (w ∷ ws) t = here
 
--- of three tests none holds
-none-of : (a b c : Bool) → T (not (a || b || c)) → T (not a) × T (not b) × T (not c)
-none-of a b c t =
-    let u = neither (a || b) c t in
-    let v = neither a b (u .0) in
-    (v .0, v .1, u .1)
+-- and the rest are one less
+rest-less : (ws : List ℕ) → T (isSome ws) → suc (length (restIn ws)) ≡ length ws
+rest-less [] t = absurd t
+rest-less (w ∷ ws) t = refl
+
+-- what waits is the first or one of the rest
+pub in-parts : {p : ℕ} {ws : List ℕ} → In p ws → (headIn ws ≡ p) ⊎ In p (restIn ws)
+in-parts here = inl refl
+in-parts (there i) = inr i
+
+-- and the rest wait
+rest-in : {p : ℕ} (ws : List ℕ) → In p (restIn ws) → In p ws
+rest-in [] i = i
+rest-in (w ∷ ws) i = there i
+
+-- where one waits, some do
+some-in : {p : ℕ} {ws : List ℕ} → In p ws → T (isSome ws)
+some-in here = tt
+some-in (there i) = tt
 
 -- what holds of an entry after a store
 pub at-set : (P : ℕ → Type 0) (m : List ℕ) (q v r : ℕ) → q < length m → (r ≡ q → P v) → (r ≢ q → P (getD m r 0)) → P (getD (set m q v) r 0)
@@ -74,16 +94,16 @@ at-set P m q v r l same other = go (ℕ-discrete r q)
     go (no n) = rw getD-set-other (other n)
 
 -- 1 for b, 0 for any other
-abbrev same : ℕ → ℕ → ℕ
+abbrev pub same : ℕ → ℕ → ℕ
 same b y = 1 - ((y - b) + (b - y))
 
 -- how many entries are b
-blanks : ℕ → List ℕ → ℕ
+unfoldable pub blanks : ℕ → List ℕ → ℕ
 blanks b [] = 0
 blanks b (y ∷ ys) = same b y + blanks b ys
 
 -- there are no more of them than entries
-blanks-most : (b : ℕ) (m : List ℕ) → blanks b m ≤ length m
+pub blanks-most : (b : ℕ) (m : List ℕ) → blanks b m ≤ length m
 unfolding blanks
 blanks-most b [] = omega arith
 blanks-most b (y ∷ ys) = omega (arith, blanks-most b ys)
@@ -96,7 +116,7 @@ same-none : (b y : ℕ) → y ≢ b → same b y ≡ 0
 same-none b y n = omega arith
 
 -- one less, where one of them becomes another
-blanks-set : (b : ℕ) (m : List ℕ) (q v : ℕ) → q < length m → getD m q 0 ≡ b → v ≢ b → suc (blanks b (set m q v)) ≡ blanks b m
+pub blanks-set : (b : ℕ) (m : List ℕ) (q v : ℕ) → q < length m → getD m q 0 ≡ b → v ≢ b → suc (blanks b (set m q v)) ≡ blanks b m
 unfolding blanks
 blanks-set b [] q v l e n = absurd (omega arith)
 blanks-set b (y ∷ ys) zero v l e n = rw (same-one b y e, same-none b v n) (omega arith)
@@ -156,6 +176,20 @@ blank-even false = refl
 abbrev Bad : Path → Type 0
 Bad a = a .walk .good ≡ false
 
+-- a put on a path that is refused
+put-lost : (x : Scope) (a : Path) (q c : ℕ) → Bad a → Bad (putOf x a q c)
+unfolding putOf
+put-lost x a q c e =
+    when-is Bad (ltb q (x .low) || leb (x .length) q) _ _ (λ s. refl)
+    (λ s.
+    when-is Bad (eqb (getD (a .seen) q 0) (blankOf (x .within))) _ _ (λ t. e)
+    (λ t. when-is Bad (eqb (getD (a .seen) q 0) c) _ _ (λ u. e) (λ u. refl)))
+
+-- and at a place that may be none
+pub puts-lost : (x : Scope) (a : Path) (q c : ℕ) → a .walk .good ≡ false → putsOf x a q c .walk .good ≡ false
+unfolding putsOf
+puts-lost x a q c e = when-is Bad (eqb q 0) _ _ (λ s. e) (λ s. put-lost x a q c e)
+
 -- a successor that a visit names
 pub data Way (v : Visit) (q : ℕ) : Type 0 where
   by-next : v .next ≡ q → q ≢ 0 → Way v q
@@ -176,6 +210,12 @@ module _ (rom : List ℕ) (x : Scope) (kinds sums : List ℕ) (start cell₀ : �
     behind : {p c : ℕ} → At p c → x .length ≤ p → Fails seen₀
     barred : {p c : ℕ} → At p c → getD seen₀ p 0 ≢ blankOf (x .within) → Fails seen₀
 
+  -- a tally that was told of places, the last first, each with a cell that a walk can bring to it
+  pub data Told : List ℕ → Tally → Type 0 where
+    untold : Told [] noTally
+    telling : {ps : List ℕ} {y : Tally} {p c : ℕ} → Told ps y → At p c
+        → Told (p ∷ ps) (toldIn (x .within) sums y c (readOf rom (x .length) (x .wide) (x .within) p))
+
   -- what a walk leaves, and where it was
   pub record Walked (seen₀ : List ℕ) (a : Path) : Type 0 where
     pub marked : {p c : ℕ} → At p c → getD (a .seen) p 0 ≡ c
@@ -185,13 +225,16 @@ module _ (rom : List ℕ) (x : Scope) (kinds sums : List ℕ) (start cell₀ : �
     pub inside : {p c : ℕ} → At p c
         → (x .low ≤ p) × (p < x .length) × (p ≤ a .walk .far) × (getD seen₀ p 0 ≡ blankOf (x .within))
     pub highest : (c : ℕ) × At (a .walk .far) c
-    pub sizes : (length (a .seen) ≡ 16384) × (length (a .work) ≡ 16384)
+    pub size : length (a .seen) ≡ length seen₀
+    -- the places that its tally was told of: all that it can come to
+    pub past : List ℕ
+    pub told : Told past (a .walk .tally)
+    pub every : {p c : ℕ} → At p c → In p past
 
-  -- what a walk asks: above its low end the text's cells are blank or 0
-  pub record Given (seen₀ work₀ : List ℕ) : Type 0 where
-    pub seen-size : length seen₀ ≡ 16384
-    pub work-size : length work₀ ≡ 16384
-    pub short : x .length ≤ 16384
+  -- what a walk asks: the text has room, there are turns enough, and above its low end its cells are blank or 0
+  pub record Given (seen₀ : List ℕ) : Type 0 where
+    pub room : x .length ≤ length seen₀
+    pub few : length seen₀ ≤ 16384
     pub unlike : cell₀ ≢ blankOf (x .within)
     pub some : cell₀ ≢ 0
     pub fresh : (p : ℕ) → x .low ≤ p → p < x .length → getD seen₀ p 0 ≢ blankOf (x .within) → getD seen₀ p 0 ≡ 0
@@ -207,28 +250,26 @@ module _ (rom : List ℕ) (x : Scope) (kinds sums : List ℕ) (start cell₀ : �
     fresh : getD seen₀ p 0 ≡ blankOf (x .within)
 
   -- a place that is to be visited
-  record Waits (a : Path) (p : ℕ) : Type 0 where
-    index : ℕ
-    below : index < a .walk .top
-    is : getD (a .work) index 0 ≡ p
+  abbrev Waits : Path → ℕ → Type 0
+  Waits a p = In p (a .waits)
 
   module _ (seen₀ : List ℕ) where
     -- a place that a path has put, with its cell
     abbrev PutIn : Path → ℕ → ℕ → Type 0
     PutIn a p c = Put seen₀ (a .seen) (a .walk .far) p c
 
-    -- a place whose visit is done
-    record Closed (a : Path) (p c : ℕ) : Type 0 where
+    -- a place whose visit is done, and of which the tally was told
+    record Closed (past : List ℕ) (a : Path) (p c : ℕ) : Type 0 where
       fine : visitOf rom x kinds sums p c .good ≡ true
       out : (q : ℕ) → Way (visitOf rom x kinds sums p c) q → PutIn a q (visitOf rom x kinds sums p c .cell)
+      told : In p past
 
     -- every cell is an old one or was put, and what waits was put
     record Base (a : Path) : Type 0 where
       good : a .walk .good ≡ true
-      seen-size : length (a .seen) ≡ 16384
-      work-size : length (a .work) ≡ 16384
+      size : length (a .seen) ≡ length seen₀
       each : (p : ℕ) → (getD (a .seen) p 0 ≡ getD seen₀ p 0) ⊎ PutIn a p (getD (a .seen) p 0)
-      queue : (i : ℕ) → i < a .walk .top → (c : ℕ) × PutIn a (getD (a .work) i 0) c
+      queue : {p : ℕ} → Waits a p → (c : ℕ) × PutIn a p c
 
     -- the highest place was put
     abbrev Peak : Path → Type 0
@@ -239,11 +280,13 @@ module _ (rom : List ℕ) (x : Scope) (kinds sums : List ℕ) (start cell₀ : �
       ok : Base a
       base : PutIn a start cell₀
       far : Peak a
-      shut : {p c : ℕ} → PutIn a p c → Waits a p ⊎ Closed a p c
+      past : List ℕ
+      told : Told past (a .walk .tally)
+      shut : {p c : ℕ} → PutIn a p c → Waits a p ⊎ Closed past a p c
 
     -- how many places wait, and how many more can: no step makes more of them
     abbrev load : Path → ℕ
-    load a = blanks (blankOf (x .within)) (a .seen) + a .walk .top
+    load a = blanks (blankOf (x .within)) (a .seen) + length (a .waits)
 
     -- a′ has what a has, and more that waits
     record Grow (a a′ : Path) : Type 0 where
@@ -251,6 +294,7 @@ module _ (rom : List ℕ) (x : Scope) (kinds sums : List ℕ) (start cell₀ : �
       stay : {p : ℕ} → Waits a p → Waits a′ p
       back : {p c : ℕ} → PutIn a′ p c → PutIn a p c ⊎ Waits a′ p
       peak : (a′ .walk .far ≡ a .walk .far) ⊎ Peak a′
+      tally : a′ .walk .tally ≡ a .walk .tally
       light : load a′ ≤ load a
 
     -- what a put leaves, and where R holds, its place put
@@ -267,7 +311,7 @@ module _ (rom : List ℕ) (x : Scope) (kinds sums : List ℕ) (start cell₀ : �
     -- nothing waits
     record Ended (a : Path) : Type 0 where
       inv : Inv a
-      none : a .walk .top ≡ 0
+      none : T (not (isSome (a .waits)))
 
     -- a path is as wanted, or the walk is refused with its reason
     data Is (Q : Path → Type 0) (a : Path) : Type 0 where
@@ -281,7 +325,7 @@ module _ (rom : List ℕ) (x : Scope) (kinds sums : List ℕ) (start cell₀ : �
 
     -- a path has what it has
     same-grow : (a : Path) → Grow a a
-    same-grow a = record { keep = λ u. u; stay = λ w. w; back = λ u. inl u; peak = inl refl; light = omega arith }
+    same-grow a = record { keep = λ u. u; stay = λ w. w; back = λ u. inl u; peak = inl refl; tally = refl; light = omega arith }
 
     -- the highest place stays, or is a new one
     grow-far : {a b : Path} → Grow a b → Peak a → Peak b
@@ -298,11 +342,12 @@ module _ (rom : List ℕ) (x : Scope) (kinds sums : List ℕ) (start cell₀ : �
       stay = λ y. v .stay (u .stay y);
       back = λ y. elim (v .back y) [ inl z ↦ elim (u .back z) [ inl w ↦ inl w | inr w ↦ inr (v .stay w) ] | inr z ↦ inr z ];
       peak = elim (u .peak) [ inl y ↦ elim (v .peak) [ inl z ↦ inl (z ∙ y) | inr z ↦ inr z ] | inr y ↦ inr (grow-far v y) ];
+      tally = v .tally ∙ u .tally;
       light = omega (arith, u .light, v .light);
     }
 
   -- ---- a place is come to
-  module _ {seen₀ work₀ : List ℕ} (given : Given seen₀ work₀) where
+  module _ {seen₀ : List ℕ} (given : Given seen₀) where
     -- a cell that is brought is neither 0 nor blank
     pub at-real : {p c : ℕ} → At p c → (c ≢ 0) × (c ≢ blankOf (x .within))
     at-real begins = (given .some, given .unlike)
@@ -311,20 +356,17 @@ module _ (rom : List ℕ) (x : Scope) (kinds sums : List ℕ) (start cell₀ : �
         (λ z. n (rw z refl), λ z. n (rw z (blank-even (x .within))))
 
     -- where it is blank: it has the cell, and waits
-    module _ {a : Path} {q c : ℕ} (b : Base seen₀ a) (y : At q c) (l : x .low ≤ q) (h : q < x .length) (t : a .walk .top < 16384)
+    module _ {a : Path} {q c : ℕ} (b : Base seen₀ a) (y : At q c) (l : x .low ≤ q) (h : q < x .length)
         (z : getD (a .seen) q 0 ≡ blankOf (x .within)) where
       -- the path behind it
       abbrev newPath : Path
       newPath =
-          path (set (a .seen) q c) (set (a .work) (a .walk .top) q)
-          (record { good = a .walk .good; top = suc (a .walk .top); far = max (a .walk .far) q })
+          path (set (a .seen) q c) (q ∷ a .waits)
+          (record { good = a .walk .good; far = max (a .walk .far) q; tally = a .walk .tally })
 
-      -- both lists have room
+      -- there is room
       in-seen : q < length (a .seen)
-      in-seen = omega (arith, given .short, b .seen-size)
-
-      in-work : a .walk .top < length (a .work)
-      in-work = omega (arith, b .work-size)
+      in-seen = omega (arith, given .room, b .size)
 
       -- what was put stays
       new-keep : {r d : ℕ} → PutIn seen₀ a r d → PutIn seen₀ newPath r d
@@ -354,21 +396,22 @@ module _ (rom : List ℕ) (x : Scope) (kinds sums : List ℕ) (start cell₀ : �
       new-base : Base seen₀ newPath
       new-base = record {
         good = b .good;
-        seen-size = length-set (a .seen) q c ∙ b .seen-size;
-        work-size = length-set (a .work) (a .walk .top) q ∙ b .work-size;
+        size = length-set (a .seen) q c ∙ b .size;
         each = λ r.
             at-set (λ n. (n ≡ getD seen₀ r 0) ⊎ PutIn seen₀ newPath r n) (a .seen) q c r in-seen (λ s. inr (rw s new-has))
             (λ s. elim (b .each r) [ inl e ↦ inl e | inr u ↦ inr (new-keep u) ]);
-        queue = λ i j.
-            at-set (λ n. (d : ℕ) × PutIn seen₀ newPath n d) (a .work) (a .walk .top) q i in-work (λ s. (c, new-has))
-            (λ (s : i ≢ a .walk .top). let u = b .queue i (omega arith) in (u .0, new-keep (u .1)));
+        queue = λ i.
+            elim (in-parts i) [
+              | inl e ↦ (c, subst (λ (n : ℕ). PutIn seen₀ newPath n c) e new-has)
+              | inr j ↦ let u = b .queue j in (u .0, new-keep (u .1))
+            ];
       }
 
       -- of what is put, only the new place was not
       new-back : {r d : ℕ} → PutIn seen₀ newPath r d → PutIn seen₀ a r d ⊎ Waits newPath r
       new-back {r} {d} u =
           elim (ℕ-discrete r q) [
-            | yes e ↦ inr (record { index = a .walk .top; below = omega arith; is = getD-set-same (a .work) (a .walk .top) q 0 in-work ∙ sym e })
+            | yes e ↦ inr (rw e here)
             | no n ↦
                 let was : getD (a .seen) r 0 ≡ d = sym (getD-set-other (a .seen) q r c 0 n) ∙ u .is in
                 elim (b .each r) [
@@ -381,11 +424,7 @@ module _ (rom : List ℕ) (x : Scope) (kinds sums : List ℕ) (start cell₀ : �
       new-grow : Grow seen₀ a newPath
       new-grow = record {
         keep = new-keep;
-        stay = λ w. record {
-          index = w .index;
-          below = omega (arith, w .below);
-          is = getD-set-other (a .work) (a .walk .top) (w .index) q 0 (λ e. omega (arith, w .below)) ∙ w .is;
-        };
+        stay = λ w. there w;
         back = new-back;
         peak =
             elim (decLt (a .walk .far) q) [
@@ -394,6 +433,7 @@ module _ (rom : List ℕ) (x : Scope) (kinds sums : List ℕ) (start cell₀ : �
                   inr (c, subst (λ (n : ℕ). Put seen₀ (set (a .seen) q c) (max (a .walk .far) q) n c) e new-has)
               | no n ↦ inl (omega arith)
             ];
+        tally = refl;
         light = omega (arith, blanks-set (blankOf (x .within)) (a .seen) q c in-seen z (at-real y .1));
       }
 
@@ -411,21 +451,21 @@ module _ (rom : List ℕ) (x : Scope) (kinds sums : List ℕ) (start cell₀ : �
     differ {a} {q} {c} b y n e = elim (b .each q) [ inl s ↦ barred y (λ z. n (s ∙ z)) | inr u ↦ clash (u .at) y e ]
 
     -- what comes of a put
-    put-is : (R : Type 0) {a : Path} {q c : ℕ} → Base seen₀ a → At q c → a .walk .top < 16384 → Is seen₀ (Came seen₀ R a q c) (putOf x a q c)
+    put-is : (R : Type 0) {a : Path} {q c : ℕ} → Base seen₀ a → At q c → Is seen₀ (Came seen₀ R a q c) (putOf x a q c)
     unfolding putOf
-    put-is R {a} {q} {c} b y t =
-        when-is (Is seen₀ (Came seen₀ R a q c)) (ltb q (x .low) || leb (x .length) q || leb romMost (a .walk .top)) _ _
+    put-is R {a} {q} {c} b y =
+        when-is (Is seen₀ (Came seen₀ R a q c)) (ltb q (x .low) || leb (x .length) q) _ _
         (λ s.
-        any-of (ltb q (x .low)) (leb (x .length) q) (leb romMost (a .walk .top)) s (λ l. lost refl (before y (ltb→lt q (x .low) l)))
-        (λ l. lost refl (behind y (leb→le (x .length) q l))) (λ l. absurd (omega (arith, tests))))
+        either (ltb q (x .low)) (leb (x .length) q) _ s (λ l. lost refl (before y (ltb→lt q (x .low) l)))
+        (λ l. lost refl (behind y (leb→le (x .length) q l))))
         (λ s.
-        let n = none-of (ltb q (x .low)) (leb (x .length) q) (leb romMost (a .walk .top)) s in
+        let n = neither (ltb q (x .low)) (leb (x .length) q) s in
         let l = nltb→le q (x .low) (n .0) in
         let h = nleb→lt (x .length) q (n .1) in
         when-is (Is seen₀ (Came seen₀ R a q c)) (eqb (getD (a .seen) q 0) (blankOf (x .within))) _ _
         (λ e.
         let z = eqb→eq (getD (a .seen) q 0) (blankOf (x .within)) e in
-        went (record { ok = new-base b y l h t z; grow = new-grow b y l h t z; has = λ r. new-has b y l h t z }))
+        went (record { ok = new-base b y l h z; grow = new-grow b y l h z; has = λ r. new-has b y l h z }))
         (λ e.
         let z = neqb→ne (getD (a .seen) q 0) (blankOf (x .within)) e in
         when-is (Is seen₀ (Came seen₀ R a q c)) (eqb (getD (a .seen) q 0) c) _ _
@@ -433,30 +473,15 @@ module _ (rom : List ℕ) (x : Scope) (kinds sums : List ℕ) (start cell₀ : �
         (λ f. lost refl (differ b y z (neqb→ne (getD (a .seen) q 0) c f)))))
 
     -- and of one at a place that may be none
-    puts-is : {a : Path} {q c : ℕ} → Base seen₀ a → (q ≢ 0 → At q c) → a .walk .top < 16384
-        → Is seen₀ (Came seen₀ (q ≢ 0) a q c) (putsOf x a q c)
+    puts-is : {a : Path} {q c : ℕ} → Base seen₀ a → (q ≢ 0 → At q c) → Is seen₀ (Came seen₀ (q ≢ 0) a q c) (putsOf x a q c)
     unfolding putsOf
-    puts-is {a} {q} {c} b y t =
+    puts-is {a} {q} {c} b y =
         when-is (Is seen₀ (Came seen₀ (q ≢ 0) a q c)) (eqb q 0) _ _
         (λ e. went (record { ok = b; grow = same-grow seen₀ a; has = λ n. absurd (n (eqb→eq q 0 e)) }))
-        (λ e. put-is (q ≢ 0) b (y (neqb→ne q 0 e)) t)
-
-    -- a put on a path that is refused
-    put-lost : (a : Path) (q c : ℕ) → Bad a → Bad (putOf x a q c)
-    unfolding putOf
-    put-lost a q c e =
-        when-is Bad (ltb q (x .low) || leb (x .length) q || leb romMost (a .walk .top)) _ _ (λ s. refl)
-        (λ s.
-        when-is Bad (eqb (getD (a .seen) q 0) (blankOf (x .within))) _ _ (λ t. e)
-        (λ t. when-is Bad (eqb (getD (a .seen) q 0) c) _ _ (λ u. e) (λ u. refl)))
-
-    -- and at a place that may be none
-    puts-lost : (a : Path) (q c : ℕ) → Bad a → Bad (putsOf x a q c)
-    unfolding putsOf
-    puts-lost a q c e = when-is Bad (eqb q 0) _ _ (λ s. e) (λ s. put-lost a q c e)
+        (λ e. put-is (q ≢ 0) b (y (neqb→ne q 0 e)))
 
     -- ---- a step
-    module _ {a : Path} (i : Inv seen₀ a) (l : 0 < a .walk .top) where
+    module _ {a : Path} (i : Inv seen₀ a) (l : T (isSome (a .waits))) where
       -- the cell of the place that is visited
       abbrev held : ℕ
       held = getD (a .seen) (waiting a) 0
@@ -465,44 +490,56 @@ module _ (rom : List ℕ) (x : Scope) (kinds sums : List ℕ) (start cell₀ : �
       abbrev visited : Visit
       visited = visitOf rom x kinds sums (waiting a) held
 
+      -- the path without it
+      abbrev taken : Path
+      taken = topped rom x sums a
+
       -- the path with the next place put
       abbrev halfway : Path
-      halfway = putsOf x (topped a) (visited .next) (visited .cell)
+      halfway = putsOf x taken (visited .next) (visited .cell)
 
       -- that place was put
       here-put : PutIn seen₀ a (waiting a) held
       here-put =
-          let u = i .ok .queue (a .walk .top - 1) (omega arith) in
+          let u = i .ok .queue (first-in (a .waits) l) in
           subst (λ (n : ℕ). PutIn seen₀ a (waiting a) n) (sym (u .1 .is)) (u .1)
 
-      -- without it on top the rest waits as before
-      top-base : Base seen₀ (topped a)
+      -- without it the rest waits as before
+      top-base : Base seen₀ taken
       top-base = record {
         good = i .ok .good;
-        seen-size = i .ok .seen-size;
-        work-size = i .ok .work-size;
+        size = i .ok .size;
         each = i .ok .each;
-        queue = λ j m. i .ok .queue j (omega arith);
+        queue = λ j. i .ok .queue (rest-in (a .waits) j);
       }
 
-      module _ {a′ : Path} (g : visited .good ≡ true) (w : Grow seen₀ (topped a) a′)
+      -- the places that the tally was told of then
+      abbrev past : List ℕ
+      past = waiting a ∷ i .past
+
+      module _ {a′ : Path} (g : visited .good ≡ true) (w : Grow seen₀ taken a′)
           (o : (q : ℕ) → Way visited q → PutIn seen₀ a′ q (visited .cell)) where
         -- what waited: the place that was visited is closed, any other waits
-        waited-shut : {p c : ℕ} → PutIn seen₀ a p c → Waits a p → Waits a′ p ⊎ Closed seen₀ a′ p c
+        waited-shut : {p c : ℕ} → PutIn seen₀ a p c → Waits a p → Waits a′ p ⊎ Closed seen₀ past a′ p c
         waited-shut {p} {c} y k =
-            elim (ℕ-discrete (k .index) (a .walk .top - 1)) [
-              | yes e ↦
-                  let place : waiting a ≡ p = ap (λ (n : ℕ). getD (a .work) n 0) (sym e) ∙ k .is in
+            elim (in-parts k) [
+              | inl place ↦
                   let cell : held ≡ c = ap (λ (n : ℕ). getD (a .seen) n 0) place ∙ y .is in
-                  inr (subst (λ (n : ℕ). Closed seen₀ a′ n c) place (subst (λ (n : ℕ). Closed seen₀ a′ (waiting a) n) cell (record { fine = g; out = o })))
-              | no n ↦ inl (w .stay (record { index = k .index; below = omega (arith, k .below); is = k .is }))
+                  inr
+                  (subst (λ (n : ℕ). Closed seen₀ past a′ n c) place
+                  (subst (λ (n : ℕ). Closed seen₀ past a′ (waiting a) n) cell (record { fine = g; out = o; told = here })))
+              | inr j ↦ inl (w .stay j)
             ]
 
         -- so that every place that was put waits or is closed
-        step-shut : {p c : ℕ} → PutIn seen₀ a′ p c → Waits a′ p ⊎ Closed seen₀ a′ p c
+        step-shut : {p c : ℕ} → PutIn seen₀ a′ p c → Waits a′ p ⊎ Closed seen₀ past a′ p c
         step-shut u =
             elim (w .back u) [
-              | inl y ↦ elim (i .shut y) [ inl k ↦ waited-shut y k | inr k ↦ inr (record { fine = k .fine; out = λ q z. w .keep (k .out q z) }) ]
+              | inl y ↦
+                  elim (i .shut y) [
+                    | inl k ↦ waited-shut y k
+                    | inr k ↦ inr (record { fine = k .fine; out = λ q z. w .keep (k .out q z); told = there (k .told) })
+                  ]
               | inr y ↦ inl y
             ]
 
@@ -513,13 +550,13 @@ module _ (rom : List ℕ) (x : Scope) (kinds sums : List ℕ) (start cell₀ : �
       out-put {a₁} {a₂} w u v q (by-aim e z) = subst (λ (r : ℕ). PutIn seen₀ a₂ r (visited .cell)) e (v (λ y. z (sym e ∙ y)))
 
       -- what comes of a visit
-      onward-is : (k : ℕ) → load seen₀ a ≤ suc k → k < 16384 → Is seen₀ (Stepped seen₀ k) (onward x (topped a) visited)
+      onward-is : (k : ℕ) → load seen₀ a ≤ suc k → Is seen₀ (Stepped seen₀ k) (onward x taken visited)
       unfolding onward
-      onward-is k m n =
+      onward-is k m =
           when-is (Is seen₀ (Stepped seen₀ k)) (visited .good) _ _ (λ t. good (is-true (visited .good) t))
           (λ t. lost refl (unfit (here-put .at) (is-false (visited .good) t)))
         where
-          second : {a₁ a₂ : Path} → visited .good ≡ true → Came seen₀ (visited .next ≢ 0) (topped a) (visited .next) (visited .cell) a₁
+          second : {a₁ a₂ : Path} → visited .good ≡ true → Came seen₀ (visited .next ≢ 0) taken (visited .next) (visited .cell) a₁
               → Came seen₀ (visited .aim ≢ 0) a₁ (visited .aim) (visited .cell) a₂ → Stepped seen₀ k a₂
           second g u v =
               let w = grow-on seen₀ (u .grow) (v .grow) in
@@ -528,9 +565,11 @@ module _ (rom : List ℕ) (x : Scope) (kinds sums : List ℕ) (start cell₀ : �
                   ok = v .ok;
                   base = w .keep (i .base);
                   far = grow-far seen₀ w (i .far);
+                  past = past;
+                  told = subst (Told past) (sym (w .tally)) (telling (i .told) (here-put .at));
                   shut = step-shut g w (out-put (v .grow) (u .has) (v .has));
                 };
-                fuel = omega (arith, w .light);
+                fuel = omega (arith, w .light, rest-less (a .waits) l);
               }
 
           good : visited .good ≡ true
@@ -539,52 +578,50 @@ module _ (rom : List ℕ) (x : Scope) (kinds sums : List ℕ) (start cell₀ : �
               and-then seen₀
               (λ u.
               and-then seen₀ (λ v. went (second g u v)) (λ e. e)
-              (puts-is (u .ok) (λ z. on (here-put .at) g (by-aim refl z)) (omega (arith, u .grow .light))))
-              (puts-lost halfway (visited .aim) (visited .cell)) (puts-is top-base (λ z. on (here-put .at) g (by-next refl z)) (omega arith))
+              (puts-is (u .ok) (λ z. on (here-put .at) g (by-aim refl z))))
+              (puts-lost x halfway (visited .aim) (visited .cell)) (puts-is top-base (λ z. on (here-put .at) g (by-next refl z)))
 
       -- and of a step
-      step-is : (k : ℕ) → load seen₀ a ≤ suc k → k < 16384 → Is seen₀ (Stepped seen₀ k) (stepOf rom x kinds sums a)
+      step-is : (k : ℕ) → load seen₀ a ≤ suc k → Is seen₀ (Stepped seen₀ k) (stepOf rom x kinds sums a)
       unfolding stepOf
-      step-is k m n = onward-is k m n
+      step-is k m = onward-is k m
 
     -- ---- all steps
     walk-lost : (k : ℕ) (a : Path) → Bad a → Bad (walkOf rom x kinds sums k a)
     unfolding walkOf
     walk-lost zero a e = when-is Bad (walking a) _ _ (λ t. refl) (λ t. e)
     walk-lost (suc k) a e =
-        when-is Bad (walking a) _ _ (λ t. absurd (subst T e (both-hold (a .walk .good) (ltb 0 (a .walk .top)) t .0))) (λ t. e)
+        when-is Bad (walking a) _ _ (λ t. absurd (subst T e (both-hold (a .walk .good) (isSome (a .waits)) t .0))) (λ t. e)
 
     -- a walk ends where nothing waits
     none-waits : {a : Path} → Inv seen₀ a → T (not (walking a)) → Is seen₀ (Ended seen₀) a
     none-waits {a} i t =
-        let n = not-both (a .walk .good) (ltb 0 (a .walk .top)) (holds (a .walk .good) (i .ok .good)) t in
-        went (record { inv = i; none = omega (arith, tests) })
+        went (record { inv = i; none = not-both (a .walk .good) (isSome (a .waits)) (holds (a .walk .good) (i .ok .good)) t })
 
     -- as many turns as places wait or can are enough
-    walk-is : (k : ℕ) (a : Path) → Inv seen₀ a → load seen₀ a ≤ k → k ≤ 16384 → Is seen₀ (Ended seen₀) (walkOf rom x kinds sums k a)
+    walk-is : (k : ℕ) (a : Path) → Inv seen₀ a → load seen₀ a ≤ k → Is seen₀ (Ended seen₀) (walkOf rom x kinds sums k a)
     unfolding walkOf
-    walk-is zero a i m n =
+    walk-is zero a i m =
         when-is (Is seen₀ (Ended seen₀)) (walking a) _ _
-        (λ t. let h = both-hold (a .walk .good) (ltb 0 (a .walk .top)) t .1 in absurd (omega (arith, tests))) (λ t. none-waits i t)
-    walk-is (suc k) a i m n =
+        (λ t. absurd (omega (arith, rest-less (a .waits) (both-hold (a .walk .good) (isSome (a .waits)) t .1)))) (λ t. none-waits i t)
+    walk-is (suc k) a i m =
         when-is (Is seen₀ (Ended seen₀)) (walking a) _ _
         (λ t.
-        and-then seen₀ (λ s. walk-is k (stepOf rom x kinds sums a) (s .inv) (s .fuel) (omega arith)) (walk-lost k (stepOf rom x kinds sums a))
-        (step-is i (ltb→lt 0 (a .walk .top) (both-hold (a .walk .good) (ltb 0 (a .walk .top)) t .1)) k m n))
+        and-then seen₀ (λ s. walk-is k (stepOf rom x kinds sums a) (s .inv) (s .fuel)) (walk-lost k (stepOf rom x kinds sums a))
+        (step-is i (both-hold (a .walk .good) (isSome (a .waits)) t .1) k m))
         (λ t. none-waits i t)
 
     -- ---- the whole walk
     abbrev first : Path
-    first = path seen₀ work₀ (setOut start)
+    first = path seen₀ [] (setOut start)
 
     -- nothing is put, and all cells are old
     first-base : Base seen₀ first
     first-base = record {
       good = refl;
-      seen-size = given .seen-size;
-      work-size = given .work-size;
+      size = refl;
       each = λ p. inl refl;
-      queue = λ j m. absurd (omega arith);
+      queue = λ j. absurd (some-in j);
     }
 
     -- with the start put, it waits
@@ -593,6 +630,8 @@ module _ (rom : List ℕ) (x : Scope) (kinds sums : List ℕ) (start cell₀ : �
       ok = v .ok;
       base = v .has tt;
       far = elim (v .grow .peak) [ inl e ↦ (cell₀, subst (λ (n : ℕ). Put seen₀ (a .seen) (a .walk .far) n cell₀) (sym e) (v .has tt)) | inr y ↦ y ];
+      past = [];
+      told = subst (Told []) (sym (v .grow .tally)) untold;
       shut = λ u. elim (v .grow .back u) [ inl y ↦ absurd (at-real (y .at) .1 (sym (y .is) ∙ y .fresh)) | inr y ↦ inl y ];
     }
 
@@ -600,19 +639,18 @@ module _ (rom : List ℕ) (x : Scope) (kinds sums : List ℕ) (start cell₀ : �
     first-is : (a : Path) → Is seen₀ (Came seen₀ Unit first start cell₀) a → Is seen₀ (Ended seen₀) (walkOf rom x kinds sums romMost a)
     first-is a =
         and-then seen₀
-        (λ v.
-        walk-is romMost a (first-inv v) (omega (arith, v .grow .light, blanks-most (blankOf (x .within)) seen₀, given .seen-size)) (omega arith))
+        (λ v. walk-is romMost a (first-inv v) (omega (arith, v .grow .light, blanks-most (blankOf (x .within)) seen₀, given .few)))
         (walk-lost romMost a)
 
     -- and of the whole walk
-    from-is : Is seen₀ (Ended seen₀) (walkFrom rom x kinds sums seen₀ work₀ start cell₀)
+    from-is : Is seen₀ (Ended seen₀) (walkFrom rom x kinds sums seen₀ start cell₀)
     unfolding walkFrom
-    from-is = first-is (putOf x first start cell₀) (put-is Unit first-base begins (omega arith))
+    from-is = first-is (putOf x first start cell₀) (put-is Unit first-base begins)
 
     module _ {a : Path} (v : Ended seen₀ a) where
       -- nothing waits
-      all-closed : {p c : ℕ} → PutIn seen₀ a p c → Closed seen₀ a p c
-      all-closed u = elim (v .inv .shut u) [ inl k ↦ absurd (omega (arith, k .below, v .none)) | inr k ↦ k ]
+      all-closed : {p c : ℕ} → PutIn seen₀ a p c → Closed seen₀ (v .inv .past) a p c
+      all-closed u = elim (v .inv .shut u) [ inl k ↦ absurd (T-not (isSome (a .waits)) (v .none) (some-in k)) | inr k ↦ k ]
 
       -- what a walk can bring was put
       all-put : {p c : ℕ} → At p c → PutIn seen₀ a p c
@@ -628,16 +666,19 @@ module _ (rom : List ℕ) (x : Scope) (kinds sums : List ℕ) (start cell₀ : �
         fine = λ y. all-closed (all-put y) .fine;
         inside = λ y. let u = all-put y in (u .above, u .inside, u .under, u .fresh);
         highest = (v .inv .far .0, v .inv .far .1 .at);
-        sizes = (v .inv .ok .seen-size, v .inv .ok .work-size);
+        size = v .inv .ok .size;
+        past = v .inv .past;
+        told = v .inv .told;
+        every = λ y. all-closed (all-put y) .told;
       }
 
     -- a walk that is good has come to every place that it can come to
-    pub walk-good : walkFrom rom x kinds sums seen₀ work₀ start cell₀ .walk .good ≡ true
-        → Walked seen₀ (walkFrom rom x kinds sums seen₀ work₀ start cell₀)
+    pub walk-good : walkFrom rom x kinds sums seen₀ start cell₀ .walk .good ≡ true
+        → Walked seen₀ (walkFrom rom x kinds sums seen₀ start cell₀)
     walk-good g = elim from-is [ went v ↦ all-walked v | lost e f ↦ absurd (subst T (sym g ∙ e) tt) ]
 
     -- a walk that is not good has a reason
-    pub walk-bad : walkFrom rom x kinds sums seen₀ work₀ start cell₀ .walk .good ≡ false → Fails seen₀
+    pub walk-bad : walkFrom rom x kinds sums seen₀ start cell₀ .walk .good ≡ false → Fails seen₀
     walk-bad g = elim from-is [ went v ↦ absurd (subst T (sym (v .inv .ok .good) ∙ g) tt) | lost e f ↦ f ]
 
   -- where a walk leaves this, there is no reason to refuse it

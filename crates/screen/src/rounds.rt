@@ -1,21 +1,27 @@
 // From one token that must be met exactly once to the next.
 ghost use mathlib.Core.Path.{_≡_};
 ghost use mathlib.Core.Bool.{false, _&&_, _||_};
+ghost use mathlib.Core.Logic.{_≢_};
 ghost use lib.Dec.{eqb, ltb};
 ghost use Rattle.tokens.specs.Body.{kindOf};
 ghost use Prim.Native.Nat.{suc, _≤_, _<_, _+_};
 ghost use lib.ListN.{set};
+ghost use Rattle.tokens.specs.Quick.{Codes};
 ghost use Rattle.rom.specs.Sizes.{romMost, numbersMost};
 ghost use Rattle.tokens.specs.Family.{widen};
 ghost use Rattle.screen.specs.Effect.{isA, valueSum};
 ghost use Rattle.screen.specs.Model.{slot, packed, apartOf, outsideText, moved as Model·moved, withCount, board, newNode, closedNode};
 ghost use Rattle.screen.specs.Model.{colonOf, defineOf, advanceOf, roundsOf};
 ghost use Rattle.screen.specs.BodyLaws.{Bounded};
-ghost use Rattle.screen.specs.RoundLaws.{passOf, Standing, Defining, NodeIs, TurnIs, RoundIs, AfterIs, PassedIs};
+ghost use Rattle.screen.specs.WalkLaws.{Tables};
+ghost use Rattle.screen.specs.RoundLaws.{EndBy, PassIs, Standing, Defining, NodeIs, TurnIs, RoundIs, AfterIs, PassedIs};
 use crate::body::places;
 use crate::body::shift;
 use crate::body::sum_of;
 use crate::body::survey_body;
+use crate::cell::cell_of;
+use crate::cell::height_in;
+use crate::cell::less;
 use crate::effect::Sum;
 use crate::effect::fixes;
 use crate::effect::is_a;
@@ -27,15 +33,17 @@ use crate::tables::cell_at;
 use crate::tables::set_kind;
 use crate::tables::set_sum;
 use crate::walking::Text;
-use crate::walking::height_in;
-use crate::walking::less;
 use crate::walking::walk_from;
+use tokens::Glance;
 use tokens::Read;
 use tokens::Token;
 use tokens::family;
+use tokens::glance_from;
 use tokens::kind_in;
 use tokens::kind_of;
 use tokens::new_number;
+use tokens::out_of_place;
+use tokens::quick_at;
 use tokens::read_at;
 use tokens::takes_here;
 
@@ -48,20 +56,6 @@ pub struct Stand {
     pub nodes: u32,
     pub count: u32,
 }
-
-// Of a body: whether its ends agree so far, its need, the highest data height and return height, the frames, and one more than the data
-// height of its ends (0 where none was met), where it is entered at 64.
-pub struct Tally {
-    pub good: bool,
-    pub need: u32,
-    pub peak: u32,
-    pub return_peak: u32,
-    pub frames: u32,
-    pub out: u32,
-}
-
-// Whether a place of a round may stand where it does, and the place behind its token.
-pub struct Pass(pub bool, pub u32);
 
 // A round: whether it is good, and the highest place that it came to.
 pub struct Round {
@@ -94,45 +88,79 @@ fn outside(length: u32, stand: Stand) -> Text
     }
 }
 
-// A place of a round: no token may start before the last one ends, and one that ends a round is the highest.
-fn passed(rom: &[u8], text: Text, far: u32, cell: u32, place: u32, free: u32) -> Pass
+// Where the token of a place ends, by a glance at it, or 0 where it may not stand: one that ends a round is the highest.
+fn end_seen(far: u32, place: u32, glance: Glance) -> u32
     requires { ⌜ place < 0x4000_0000 ⌝ }
-    ensures { λ r. ⌜ r ≡ passOf (now (rom .entry)) text far cell place free ⌝ }
+    ensures { λ r. ⌜ EndBy far place glance r ⌝ }
+{
+    if glance.code == 0 {
+        return place + 1;
+    }
+    if out_of_place(glance.code, false) {
+        return place + 1;
+    }
+    if place == far {
+        return glance.next;
+    }
+    if fixes(glance.code) {
+        return 0;
+    }
+    glance.next
+}
+
+// A place of a round: no token may start before the last one ends, and one that ends a round is the highest. Where the next may start, or
+// 0.
+fn passed(
+    codes: &[u32; 256],
+    rom: &[u8],
+    text: Text,
+    far: u32,
+    cell: u32,
+    place: u32,
+    free: u32,
+) -> u32
+    requires { ⌜ Codes (now codes) × (place < 0x4000_0000) × (free ≢ 0) ⌝ }
+    ensures { λ r. ⌜ PassIs (now (rom .entry)) text far cell place free r ⌝ }
 {
     if cell == 0 {
-        return Pass(true, free);
+        return free;
     }
     if place < free {
-        return Pass(false, free);
+        return 0;
     }
-    match read_at(rom, text.length, text.wide, false, place) {
-        Read::Refused(_) => Pass(true, place + 1),
-        Read::Good(token) => {
-            if place == far {
-                return Pass(true, token.next);
-            }
-            if fixes(token) {
-                return Pass(false, free);
-            }
-            Pass(true, token.next)
-        }
+    if text.length <= place {
+        return place + 1;
     }
+    let quick = quick_at(codes, rom, text.length, place);
+    if quick.next != 0 {
+        return quick.next;
+    }
+    let glance = glance_from(rom, text.length, text.wide, place, quick.first, quick.code);
+    end_seen(far, place, glance)
 }
 
 // No two tokens of a round overlap, and none but the highest ends it.
-fn apart(rom: &[u8], text: Text, seen: &[u32], far: u32, count: u32, start: u32) -> bool
-    requires { ⌜ start + count < 0x4000_0000 ⌝ }
+fn apart(
+    codes: &[u32; 256],
+    rom: &[u8],
+    text: Text,
+    seen: &[u32],
+    far: u32,
+    count: u32,
+    start: u32,
+) -> bool
+    requires { ⌜ Codes (now codes) × (start + count < 0x4000_0000) × (start ≢ 0) ⌝ }
     ensures { λ r. ⌜ r ≡ apartOf (now (rom .entry)) text (now (seen .entry)) far count start 0 ⌝ }
 {
     let mut place = start;
-    let mut free = 0;
+    let mut free = start;
     let mut left = count;
     while 0 < left {
-        let p = passed(rom, text, far, cell_at(seen, place), place, free);
-        if !p.0 {
+        let end = passed(codes, rom, text, far, cell_at(seen, place), place, free);
+        if end == 0 {
             return false;
         }
-        free = p.1;
+        free = end;
         place += 1;
         left -= 1;
     }
@@ -141,19 +169,23 @@ fn apart(rom: &[u8], text: Text, seen: &[u32], far: u32, count: u32, start: u32)
 
 // The walk of a round, and its overlaps.
 fn walk_round(
+    codes: &[u32; 256],
     rom: &[u8],
     length: u32,
     kinds: &[u8; 2048],
     sums: &[u64],
     seen: &mut [u32],
-    work: &mut [u32],
+    work: &mut [u16],
     stand: Stand,
 ) -> Round
-    requires { ⌜ (length ≤ 16384) × Standing stand × (stand .cell ≤ 0x1000_0000) × Bounded 0x1000_0000 (now seen) ⌝ }
-    ensures { λ r. ⌜ RoundIs (now (rom .entry)) length (board (now (seen .entry)) (now (work .entry)) (now (kinds .entry)) (now (sums .entry)) stand) r (now (seen .exit)) (now (work .exit)) ⌝ }
+    requires { ⌜ Codes (now codes) × Tables length (now seen) (now work) × Standing stand × (stand .cell ≤ 0x1000_0000)
+        × Bounded 0x1000_0000 (now seen) ⌝ }
+    ensures { λ r. ⌜ RoundIs (now (rom .entry)) length (board (now (seen .entry)) (now (kinds .entry)) (now (sums .entry)) stand) r
+        (now (seen .exit)) ⌝ }
 {
     let text = outside(length, stand);
     let w = walk_from(
+        codes,
         rom,
         text,
         kinds,
@@ -172,7 +204,7 @@ fn walk_round(
     }
     let count = less(far + 1, stand.start);
     Round {
-        good: apart(rom, text, &*seen, far, count, stand.start),
+        good: apart(codes, rom, text, &*seen, far, count, stand.start),
         far: far,
     }
 }
@@ -194,7 +226,7 @@ fn moved(stand: Stand, token: Token, cell: u32) -> Stand
     let height = less(height_in(cell), takes_here(token));
     Stand {
         start: token.next,
-        cell: 1 + height + 256 * (cell / 256),
+        cell: cell_of(height, cell / 256),
         wide: widened(token, stand.wide),
         children: stand.children,
         nodes: stand.nodes,
@@ -273,7 +305,8 @@ fn close_node(stand: Stand) -> Turned
 // A number goes into the tables, with its kind and its sum.
 fn enter(kinds: &mut [u8; 2048], sums: &mut [u64], number: u32, kind: u8, sum: Sum)
     requires { ⌜ (number ≤ 0xFFF) × (sum .need < 65536) ⌝ }
-    ensures { λ r. ⌜ (now (kinds .exit) ≡ set (now (kinds .entry)) (slot number) kind) × (now (sums .exit) ≡ set (now (sums .entry)) (slot number) (packed sum)) ⌝ }
+    ensures { λ r. ⌜ (now (kinds .exit) ≡ set (now (kinds .entry)) (slot number) kind)
+        × (now (sums .exit) ≡ set (now (sums .entry)) (slot number) (packed sum)) ⌝ }
 {
     set_kind(kinds, number, kind);
     set_sum(sums, number, pack(sum));
@@ -281,20 +314,25 @@ fn enter(kinds: &mut [u8; 2048], sums: &mut [u64], number: u32, kind: u8, sum: S
 
 // b(:), whose number is new.
 fn colon(
+    codes: &[u32; 256],
     rom: &[u8],
     length: u32,
     seen: &mut [u32],
-    work: &mut [u32],
+    work: &mut [u16],
     kinds: &mut [u8; 2048],
     sums: &mut [u64],
     stand: Stand,
     number: u32,
     entry: u32,
 ) -> Turned
-    requires { ⌜ (length ≤ 16384) × (entry ≤ length) × (number ≤ 0xFFF) × (stand .count < 256) × Standing stand × Bounded 0x1000_0000 (now seen) ⌝ }
-    ensures { λ r. ⌜ ((st : Stand) → TurnIs (colonOf (now (rom .entry)) length (board (now (seen .entry)) (now (work .entry)) (now (kinds .entry)) (now (sums .entry)) st) stand number entry) (now (seen .entry)) (stand .cell) r (now (seen .exit)) (now (work .exit)) (now (kinds .exit)) (now (sums .exit))) ⌝ }
+    requires { ⌜ Codes (now codes) × Tables length (now seen) (now work) × (entry ≢ 0) × (entry ≤ length) × (number ≤ 0xFFF)
+        × (stand .count < 256) × Standing stand × Bounded 0x1000_0000 (now seen) ⌝ }
+    ensures { λ r. ⌜ ((st : Stand) → TurnIs (colonOf (now (rom .entry)) length (board (now (seen .entry)) (now (kinds .entry)) (now
+        (sums .entry)) st) stand number entry) (now (seen .entry)) (stand .cell) r (now (seen .exit)) (now (kinds .exit)) (now
+        (sums .exit))) ⌝ }
 {
     let s = survey_body(
+        codes,
         rom,
         length,
         &*kinds,
@@ -343,17 +381,21 @@ fn value_sum() -> Sum
 
 // A defining token, whose number must be new.
 fn define(
+    codes: &[u32; 256],
     rom: &[u8],
     length: u32,
     seen: &mut [u32],
-    work: &mut [u32],
+    work: &mut [u16],
     kinds: &mut [u8; 2048],
     sums: &mut [u64],
     stand: Stand,
     token: Token,
 ) -> Turned
-    requires { ⌜ (length ≤ 16384) × Defining length token × Standing stand × Bounded 0x1000_0000 (now seen) ⌝ }
-    ensures { λ r. ⌜ ((st : Stand) → st .count ≡ stand .count → TurnIs (defineOf (now (rom .entry)) length (board (now (seen .entry)) (now (work .entry)) (now (kinds .entry)) (now (sums .entry)) st) stand token) (now (seen .entry)) (stand .cell) r (now (seen .exit)) (now (work .exit)) (now (kinds .exit)) (now (sums .exit))) ⌝ }
+    requires { ⌜ Codes (now codes) × Tables length (now seen) (now work) × Defining length token × Standing stand
+        × Bounded 0x1000_0000 (now seen) ⌝ }
+    ensures { λ r. ⌜ ((st : Stand) → st .count ≡ stand .count → TurnIs (defineOf (now (rom .entry)) length (board (now (seen .entry))
+        (now (kinds .entry)) (now (sums .entry)) st) stand token) (now (seen .entry)) (stand .cell) r (now (seen .exit)) (now
+        (kinds .exit)) (now (sums .exit))) ⌝ }
 {
     let operand = token.operand;
     let number = new_number(operand);
@@ -363,6 +405,7 @@ fn define(
     }
     if kind == 0xB7 {
         return colon(
+            codes,
             rom,
             length,
             seen,
@@ -383,22 +426,25 @@ fn define(
 
 // The token that ended a round is carried out.
 fn advance(
+    codes: &[u32; 256],
     rom: &[u8],
     length: u32,
     seen: &mut [u32],
-    work: &mut [u32],
+    work: &mut [u16],
     kinds: &mut [u8; 2048],
     sums: &mut [u64],
     stand: Stand,
     cell: u32,
     token: Token,
 ) -> Turned
-    requires { ⌜ (length ≤ 16384) × Defining length token × Standing stand × Bounded 0x1000_0000 (now seen) ⌝ }
-    ensures { λ r. ⌜ TurnIs (advanceOf (now (rom .entry)) length (board (now (seen .entry)) (now (work .entry)) (now (kinds .entry)) (now (sums .entry)) stand) cell token) (now (seen .entry)) (cell + 1) r (now (seen .exit)) (now (work .exit)) (now (kinds .exit)) (now (sums .exit)) ⌝ }
+    requires { ⌜ Codes (now codes) × Tables length (now seen) (now work) × Defining length token × Standing stand
+        × Bounded 0x1000_0000 (now seen) ⌝ }
+    ensures { λ r. ⌜ TurnIs (advanceOf (now (rom .entry)) length (board (now (seen .entry)) (now (kinds .entry)) (now
+        (sums .entry)) stand) cell token) (now (seen .entry)) (cell + 1) r (now (seen .exit)) (now (kinds .exit)) (now (sums .exit)) ⌝ }
 {
     let s = moved(stand, token, cell);
     if is_a(family::DEFINE, token) {
-        return define(rom, length, seen, work, kinds, sums, s, token);
+        return define(codes, rom, length, seen, work, kinds, sums, s, token);
     }
     if is_a(family::NEW_DEVICE, token) {
         return new_node(s);
@@ -414,26 +460,39 @@ fn advance(
 
 // What the highest token of a round makes of the rest.
 fn next_round(
+    codes: &[u32; 256],
     rom: &[u8],
     length: u32,
     seen: &mut [u32],
-    work: &mut [u32],
+    work: &mut [u16],
     kinds: &mut [u8; 2048],
     sums: &mut [u64],
     stand: Stand,
     far: u32,
 ) -> After
-    requires { ⌜ (length ≤ 16384) × Standing stand × Bounded 0x1000_0000 (now seen) ⌝ }
-    ensures { λ r. ⌜ AfterIs (now (rom .entry)) length (now (seen .entry)) (now (work .entry)) (now (kinds .entry)) (now (sums .entry)) stand far (now (seen .exit)) (now (work .exit)) (now (kinds .exit)) (now (sums .exit)) r ⌝ }
+    requires { ⌜ Codes (now codes) × Tables length (now seen) (now work) × Standing stand × Bounded 0x1000_0000 (now seen) ⌝ }
+    ensures { λ r. ⌜ AfterIs (now (rom .entry)) length (now (seen .entry)) (now (kinds .entry)) (now (sums .entry)) stand far (now
+        (seen .exit)) (now (kinds .exit)) (now (sums .exit)) r ⌝ }
 {
     match read_at(rom, length, stand.wide, false, far) {
         Read::Refused(_) => After::Fails,
         Read::Good(token) => {
-            if !fixes(token) {
+            if !fixes(token.code) {
                 return After::Ends;
             }
             let cell = cell_at(&*seen, far);
-            let t = advance(rom, length, seen, work, kinds, sums, stand, cell, token);
+            let t = advance(
+                codes,
+                rom,
+                length,
+                seen,
+                work,
+                kinds,
+                sums,
+                stand,
+                cell,
+                token,
+            );
             let s = t.stand;
             if t.good { After::Goes(s) } else { After::Fails }
         }
@@ -442,25 +501,38 @@ fn next_round(
 
 // All rounds from the first on. Each starts behind the one before, so that there are turns enough.
 pub fn all_rounds(
+    codes: &[u32; 256],
     rom: &[u8],
     length: u32,
     seen: &mut [u32],
-    work: &mut [u32],
+    work: &mut [u16],
     kinds: &mut [u8; 2048],
     sums: &mut [u64],
     first: Stand,
 ) -> bool
-    requires { ⌜ (length ≤ 16384) × Standing first × (first .cell ≤ 65536) × Bounded 65536 (now seen) ⌝ }
-    ensures { λ r. ⌜ PassedIs (roundsOf (now (rom .entry)) length romMost (board (now (seen .entry)) (now (work .entry)) (now (kinds .entry)) (now (sums .entry)) first)) r (now (seen .exit)) ⌝ }
+    requires { ⌜ Codes (now codes) × Tables length (now seen) (now work) × Standing first × (first .cell ≤ 65536)
+        × Bounded 65536 (now seen) ⌝ }
+    ensures { λ r. ⌜ PassedIs (roundsOf (now (rom .entry)) length romMost (board (now (seen .entry)) (now (kinds .entry)) (now
+        (sums .entry)) first)) r (now (seen .exit)) ⌝ }
 {
     let mut stand = first;
     let mut left = ROM_MOST;
     while 0 < left {
-        let w = walk_round(rom, length, &*kinds, &*sums, &mut *seen, &mut *work, stand);
+        let w = walk_round(
+            codes,
+            rom,
+            length,
+            &*kinds,
+            &*sums,
+            &mut *seen,
+            &mut *work,
+            stand,
+        );
         if !w.good {
             return false;
         }
         match next_round(
+            codes,
             rom,
             length,
             &mut *seen,

@@ -1,9 +1,11 @@
 // The screen of a ROM, with its marks.
 ghost use mathlib.Core.Path.{_≡_};
-ghost use mathlib.Core.List.{map};
+ghost use Prim.Native.Nat.{_≤_};
 ghost use lib.ListN.{length, replicate};
+ghost use Rattle.rom.specs.Sizes.{marksSize};
 ghost use Rattle.rom.specs.Header.{headerOf};
-ghost use Rattle.screen.specs.Model.{markIn};
+ghost use Rattle.screen.specs.Model.{markIn, laidOf};
+ghost use Rattle.screen.specs.ScreenLaws.{Judging, Judged};
 ghost use Rattle.screen.specs.Screen.{screened, judgedOf};
 ghost use Rattle.screen.specs.Promise.{Promised};
 use crate::limits::FIRST_PLACE;
@@ -13,6 +15,7 @@ use rom::check_header;
 use rom::program_length;
 use rom::sizes::MARKS_SIZE;
 use rom::wide_start;
+use tokens::first_codes;
 
 // A ROM passes, or is refused for the reason of a number.
 pub enum Verdict {
@@ -26,14 +29,19 @@ fn mark_in(cell: u32) -> u8
     (cell % 256) as u8
 }
 
-// The marks are the cells' low bytes: one more than the data height at each token that can be reached, 0 anywhere else.
+// The marks are the cells' low bytes: one more than the data height at each token that can be reached, 0 anywhere else, and behind the
+// cells.
 fn lay_marks(seen: &[u32], marks: &mut [u8])
-    requires { ⌜ length (now seen) ≡ length (now marks) ⌝ }
-    ensures { λ r. ⌜ now (marks .exit) ≡ map markIn (now (seen .entry)) ⌝ }
+    requires { ⌜ (length (now seen) ≤ length (now marks)) × (length (now marks) ≡ marksSize) ⌝ }
+    ensures { λ r. ⌜ now (marks .exit) ≡ laidOf (now (seen .entry)) ⌝ }
 {
     let mut i = 0;
-    while i < marks.len() {
+    while i < seen.len() {
         marks[i] = mark_in(seen[i]);
+        i += 1;
+    }
+    while i < marks.len() {
+        marks[i] = 0;
         i += 1;
     }
 }
@@ -48,13 +56,18 @@ fn clear_marks(marks: &mut [u8])
     }
 }
 
-// A ROM with a good header.
-fn judge(rom: &[u8], marks: &mut [u8]) -> Verdict
-    requires { ⌜ (headerOf (now rom) ≡ 0) × (length (now marks) ≡ 16384) ⌝ }
+// A program of a length, by tables that have room for it.
+fn judge_in(
+    rom: &[u8],
+    length: u32,
+    marks: &mut [u8],
+    seen: &mut [u32],
+    work: &mut [u16],
+) -> Verdict
+    requires { ⌜ Judging (now rom) length (now marks) (now seen) (now work) ⌝ }
     ensures { λ r. ⌜ screened r (now (marks .exit)) ≡ judgedOf (now (rom .entry)) (now (marks .entry)) ⌝ }
 {
-    let mut seen = [0u32; 16384];
-    let mut work = [0u32; 16384];
+    let codes = first_codes();
     let mut kinds = [0u8; 2048];
     let mut sums = [0u64; 2048];
     let first = Stand {
@@ -66,23 +79,79 @@ fn judge(rom: &[u8], marks: &mut [u8]) -> Verdict
         count: 0,
     };
     let good = all_rounds(
+        &codes,
         rom,
-        program_length(rom),
-        &mut seen,
-        &mut work,
+        length,
+        &mut *seen,
+        &mut *work,
         &mut kinds,
         &mut sums,
         first,
     );
     if good {
-        lay_marks(&seen, marks);
+        lay_marks(&*seen, marks);
         return Verdict::Passes;
     }
     clear_marks(marks);
     Verdict::Refused(31)
 }
 
-// The screen: a ROM passes exactly where heights can be assigned to it, and the marks are then the data heights. One that is refused for its heights
+fn judge_least(rom: &[u8], length: u32, marks: &mut [u8]) -> Verdict
+    requires { ⌜ Judged (now rom) length (now marks) 256 ⌝ }
+    ensures { λ r. ⌜ screened r (now (marks .exit)) ≡ judgedOf (now (rom .entry)) (now (marks .entry)) ⌝ }
+{
+    let mut seen = [0u32; 256];
+    let mut work = [0u16; 256];
+    judge_in(rom, length, marks, &mut seen, &mut work)
+}
+
+fn judge_small(rom: &[u8], length: u32, marks: &mut [u8]) -> Verdict
+    requires { ⌜ Judged (now rom) length (now marks) 1024 ⌝ }
+    ensures { λ r. ⌜ screened r (now (marks .exit)) ≡ judgedOf (now (rom .entry)) (now (marks .entry)) ⌝ }
+{
+    let mut seen = [0u32; 1024];
+    let mut work = [0u16; 1024];
+    judge_in(rom, length, marks, &mut seen, &mut work)
+}
+
+fn judge_middle(rom: &[u8], length: u32, marks: &mut [u8]) -> Verdict
+    requires { ⌜ Judged (now rom) length (now marks) 4096 ⌝ }
+    ensures { λ r. ⌜ screened r (now (marks .exit)) ≡ judgedOf (now (rom .entry)) (now (marks .entry)) ⌝ }
+{
+    let mut seen = [0u32; 4096];
+    let mut work = [0u16; 4096];
+    judge_in(rom, length, marks, &mut seen, &mut work)
+}
+
+fn judge_large(rom: &[u8], length: u32, marks: &mut [u8]) -> Verdict
+    requires { ⌜ Judged (now rom) length (now marks) 16384 ⌝ }
+    ensures { λ r. ⌜ screened r (now (marks .exit)) ≡ judgedOf (now (rom .entry)) (now (marks .entry)) ⌝ }
+{
+    let mut seen = [0u32; 16384];
+    let mut work = [0u16; 16384];
+    judge_in(rom, length, marks, &mut seen, &mut work)
+}
+
+// A ROM with a good header: the smallest tables that have room for its program, since they are cleared at each call.
+fn judge(rom: &[u8], marks: &mut [u8]) -> Verdict
+    requires { ⌜ (headerOf (now rom) ≡ 0) × (length (now marks) ≡ marksSize) ⌝ }
+    ensures { λ r. ⌜ screened r (now (marks .exit)) ≡ judgedOf (now (rom .entry)) (now (marks .entry)) ⌝ }
+{
+    let length = program_length(rom);
+    if length <= 256 {
+        return judge_least(rom, length, marks);
+    }
+    if length <= 1024 {
+        return judge_small(rom, length, marks);
+    }
+    if length <= 4096 {
+        return judge_middle(rom, length, marks);
+    }
+    judge_large(rom, length, marks)
+}
+
+// The screen: a ROM passes exactly where heights can be assigned to it, and the marks are then the data heights. One that is refused for
+// its heights
 // leaves the marks all zero; a mark buffer of another size, or a bad header, leaves it as it was.
 pub fn screen(rom: &[u8], marks: &mut [u8]) -> Verdict
     ensures { λ r. ⌜ Promised (now (rom .entry)) (now (marks .entry)) r (now (marks .exit)) ⌝ }

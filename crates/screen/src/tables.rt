@@ -1,6 +1,6 @@
 // The tables of the screen. Outside a table there is 0, and nothing is written there, so that no caller owes a proof that it stays inside.
 ghost use mathlib.Core.Path.{_≡_};
-ghost use Prim.Native.Nat.{_≤_};
+ghost use Prim.Native.Nat.{_≤_, _<_};
 ghost use lib.ListN.{getD, set};
 ghost use Rattle.screen.specs.Model.{slot as Model·slot};
 
@@ -18,6 +18,14 @@ pub fn set_cell(cells: &mut [u32], at: u32, value: u32)
     if k < cells.len() {
         cells[k] = value;
     }
+}
+
+// A place that waits.
+pub fn place_at(work: &[u16], at: u32) -> u32
+    ensures { λ r. ⌜ (r ≡ getD (now (work .entry)) at 0) × (r < 65536) ⌝ }
+{
+    let k = at as usize;
+    if k < work.len() { work[k] as u32 } else { 0 }
 }
 
 // A program number's place in the tables of numbers.

@@ -6,12 +6,27 @@ use borrow.Author.Needs.{needs}
 use Rattle.screen.proofs.body.moved_cell.Statement.{statement}
 use Rattle.screen.proofs.body.moved_cell.Tie as tie
 
+returns : tie.Need-returns
+returns c =
+    let cell = c .before .args .cell in
+    sym (when-false _ _ (isMet cell) (unmet-none cell (c .if1 .taken)))
+
+returns-2 : tie.Need-returns-2
+returns-2 c =
+    let cell = c .before .before .args .cell in
+    sym (when-false _ _ (isMet cell) (unmet-blank cell (c .if2 .taken)))
+
+returns-3 : tie.Need-returns-3
+returns-3 c =
+    let cell = c .before .before .before .args .cell in
+    c .less .ensures ∙ sym (when-true _ _ (isMet cell) (met cell (c .before .before .if1 .left) (c .before .if2 .left)))
+
 pub moved-cell-spec : {M : Type 1} → statement M
 moved-cell-spec =
     tie.close
     (tie.spec
-    (λ c. sym (when-false _ _ (isMet (c .before .args .cell)) (unmet-none (c .before .args .cell) (c .if1 .taken))))
-    (λ c. sym (when-false _ _ (isMet (c .before .before .args .cell)) (unmet-blank (c .before .before .args .cell) (c .if2 .taken))))
+    returns
+    returns-2
     (λ c. search needs)
     (λ c κs. search needs)
-    (λ c. c .less .ensures ∙ sym (when-true _ _ (isMet (c .before .before .before .args .cell)) (met (c .before .before .before .args .cell) (c .before .before .if1 .left) (c .before .if2 .left)))))
+    returns-3)

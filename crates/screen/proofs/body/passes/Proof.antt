@@ -1,5 +1,4 @@
 use borrow.Author.Tests.{eq-eqb, ne-eqb}
-use Rattle.cells.specs.Facts.{not-on, not-off}
 use Rattle.screen.specs.Model.{passesOf}
 use borrow.Author.Needs.{needs}
 use Rattle.screen.proofs.body.passes.Statement.{statement}
@@ -10,7 +9,7 @@ unfolding passesOf
 passes-spec =
     tie.close
     (tie.spec
-    (λ c. rw (not-off (c .before .before .args .tally .good) (c .if1 .taken)))
-    (λ c. rw (not-on (c .before .before .before .before .args .tally .good) (c .before .before .if1 .left), eq-eqb _ _ (c .if2 .taken)))
+    (λ c. rw (eq-eqb _ _ (c .if1 .taken)))
+    (λ c. rw (ne-eqb _ _ (c .before .before .if1 .left), eq-eqb _ _ (c .if2 .taken)))
     (λ c. search needs)
-    (λ c. rw (not-on (c .before .before .before .before .before .args .tally .good) (c .before .before .before .if1 .left), ne-eqb _ _ (c .before .if2 .left))))
+    (λ c. rw (ne-eqb _ _ (c .before .before .before .if1 .left), ne-eqb _ _ (c .before .if2 .left))))

@@ -1,31 +1,112 @@
-use mathlib.Core.Path.{_∙_}
+use mathlib.Core.Path.{refl}
 use denote.Ref.{now}
 use Rattle.cells.specs.Facts.{not-on, not-off}
 use Rattle.screen.specs.Model.{bodyText}
 use Rattle.screen.specs.BodyLaws.{survey-unmarked, survey-lost, survey-judged}
-use Rattle.screen.specs.KeepLaws.{marked-bounded, walked-kept}
-use borrow.Author.Needs.{needs}
+use Rattle.screen.specs.KeepLaws.{marked-bounded, walked-kept, walked-low}
 use native.Mathlib.Omega.{arith}
+use borrow.Author.Needs.{needs}
 use Rattle.screen.proofs.body.survey_body.Statement.{statement}
 use Rattle.screen.proofs.body.survey_body.Tie as tie
+
+mark-starts-requires : tie.Need-mark-starts-requires
+mark-starts-requires c κs =
+    let t = c .before .before .before .before .before .pre .1 in
+    (c .before .before .before .before .before .pre .0, t .room, omega arith)
+
+returns : tie.Need-returns
+returns c =
+    let c₁ = c .before in
+    let c₂ = c₁ .before .before .before .before in
+    let c₃ = c₂ .before .before .before .before .before .before in
+    let a = c₃ .args in
+    let g = not-off (c₂ .mark-starts .result .0) (c₁ .if1 .taken) in
+    survey-unmarked (now (a .rom)) (a .length) (now (a .seen)) (now (a .kinds)) (now (a .sums)) (a .stand) (a .entry) _ _ _ _ _
+    (c₂ .mark-starts .ensures .0) g (c .failed .ensures)
+
+walk-from-requires : tie.Need-walk-from-requires
+walk-from-requires c κs =
+    let c₁ = c .before .before in
+    let c₂ = c₁ .before .before .before .before .before in
+    let c₃ = c₂ .before .before .before .before .before .before in
+    let p = c₃ .pre in
+    let t = p .1 in
+    let l = c₂ .mark-starts .kept .1 .1 .1 .1 .1 .0 in (
+      p .0,
+      rw (c₁ .body .ensures) (record
+          { tables = record { room = omega arith; few = omega arith; wide = omega arith }; some = p .2; unlike = λ z. omega arith }),
+    )
+
+returns-2 : tie.Need-returns-2
+returns-2 c =
+    let c₁ = c .before in
+    let c₂ = c₁ .before .before .before .before .before .before in
+    let c₃ = c₂ .before .before .before in
+    let c₄ = c₃ .before in
+    let c₅ = c₄ .before .before .before .before in
+    let c₆ = c₅ .before .before .before .before .before .before in
+    let a = c₆ .args in
+    let g = not-on (c₅ .mark-starts .result .0) (c₄ .if1 .left) in
+    let k = rw (c₃ .body .ensures) at (c₂ .walk-from .ensures) in
+    let l = not-off (c₂ .walk-from .result .good) (c₁ .if2 .taken) in
+    survey-lost (now (a .rom)) (a .length) (now (a .seen)) (now (a .kinds)) (now (a .sums)) (a .stand) (a .entry) _ _ _ _ _
+    (c₅ .mark-starts .ensures .0) g _ k l (c .failed2 .ensures)
+
+passes-requires : tie.Need-passes-requires
+passes-requires c κs =
+    let c₁ = c .before in
+    let c₂ = c₁ .before .before .before .before .before .before in
+    let c₃ = c₂ .before .before .before in
+    let c₄ = c₃ .before .before .before .before .before .before .before .before .before .before .before in
+    let a = c₄ .args in
+    let t = c₄ .pre .1 in
+    let p = c₄ .pre .3 in
+    let x = bodyText (a .length) (a .stand .wide) (a .entry) in
+    let k = rw (c₃ .body .ensures) at (c₂ .walk-from .ensures) in
+    let l = not-on (c₂ .walk-from .result .good) (c₁ .if2 .left) in
+    walked-low (now (a .rom)) (now (a .kinds)) x (now (a .sums)) _ (a .entry) 65 _ _ (omega arith) (omega arith) (omega arith) k l
+
+returns-3 : tie.Need-returns-3
+returns-3 c =
+    let c₁ = c .before .before in
+    let c₂ = c₁ .before .before .before .before .before .before in
+    let c₃ = c₂ .before .before .before in
+    let c₄ = c₃ .before in
+    let c₅ = c₄ .before .before .before .before in
+    let c₆ = c₅ .before .before .before .before .before .before in
+    let a = c₆ .args in
+    let t = c₆ .pre .1 in
+    let p = c₆ .pre .3 in
+    let x = bodyText (a .length) (a .stand .wide) (a .entry) in
+    let s = c₅ .mark-starts .ensures in
+    let g = not-on (c₅ .mark-starts .result .0) (c₄ .if1 .left) in
+    let k = rw (c₃ .body .ensures) at (c₂ .walk-from .ensures) in
+    let l = not-on (c₂ .walk-from .result .good) (c₁ .if2 .left) in
+    let low = walked-low (now (a .rom)) (now (a .kinds)) x (now (a .sums)) _ (a .entry) 65 _ _ (omega arith) (omega arith) (omega arith) k
+    l in
+    survey-judged (now (a .rom)) (a .length) (now (a .seen)) (now (a .kinds)) (now (a .sums)) (a .stand) (a .entry) _ _ _ _ _ (s .0) g _ k
+    l low (s .1 g)
+    (λ b h e.
+    let m = marked-bounded b h (now (a .rom)) (now (a .kinds)) (a .length) (a .stand .wide) (a .entry) (now (a .seen)) _ _ _ (s .0) e in
+    walked-kept b h (now (a .rom)) (now (a .kinds)) x (now (a .sums)) _ (a .entry) 65 _ _ (omega arith) (omega arith) (omega arith) k l
+    m .seen)
+    (c .passes .ensures) refl refl
 
 pub survey-body-spec : {M : Type 1} → statement M
 survey-body-spec =
     tie.close
     (tie.spec
-    (λ c κs. search needs)
-    (λ c κs. search needs)
-    (λ c. search needs)
-    (λ c. let a = c .before .before .before .before .before .before .before .before .before .before .before .args in let e = c .before .before .before .before .before .mark-starts .ensures .0 in survey-unmarked (now (a .rom)) (a .length) (now (a .seen)) (now (a .work)) (now (a .kinds)) (now (a .sums)) (a .stand) (a .entry) _ _ _ (λ m h k. marked-bounded m h (now (a .rom)) (now (a .kinds)) (a .length) (a .stand .wide) (a .entry) (now (a .seen)) _ _ _ e k) _ _ _ e (not-off (c .before .before .before .before .before .mark-starts .result .0) (c .before .if1 .taken)) (c .failed .ensures))
-    (λ c κs. search needs)
-    (λ c κs. search needs)
+    mark-starts-requires
     (λ c κs. search needs)
     (λ c. search needs)
-    (λ c. search needs)
-    (λ c. let a = c .before .before .before .before .before .before .before .before .before .before .before .before .before .before .before .before .before .before .before .before .before .args in let p = c .before .before .before .before .before .before .before .before .before .before .before .before .before .before .before .before .before .before .before .before .before .pre in let s = c .before .before .before .before .before .before .before .before .before .before .before .before .before .before .before .mark-starts .ensures .0 in let e = rw (c .before .before .before .before .before .before .before .before .before .before .body .ensures) at (c .before .before .before .before .before .before .before .walk-from .ensures) in survey-lost (now (a .rom)) (a .length) (now (a .seen)) (now (a .work)) (now (a .kinds)) (now (a .sums)) (a .stand) (a .entry) _ _ _ (λ m h k. walked-kept m h (now (a .rom)) (now (a .kinds)) (bodyText (a .length) (a .stand .wide) (a .entry)) (now (a .sums)) _ (now (a .work)) (a .entry) 65 _ _ _ (p .0) (p .1) (omega arith) e (marked-bounded m h (now (a .rom)) (now (a .kinds)) (a .length) (a .stand .wide) (a .entry) (now (a .seen)) _ _ _ s k) .seen) _ _ _ s (not-on (c .before .before .before .before .before .before .before .before .before .before .before .before .before .before .before .mark-starts .result .0) (c .before .before .before .before .before .before .before .before .before .before .before .if1 .left)) _ e (not-off (c .before .before .before .before .before .before .before .walk-from .result .good) (c .before .if2 .taken)) (c .failed2 .ensures))
-    (λ c κs. let p = c .before .before .before .before .before .before .before .before .before .before .before .before .before .before .before .before .before .before .before .before .pre in let i = c .before .before .before .before .before .before .before .before .before .before .before .before .before .before .mark-starts .ensures .1 (not-on (c .before .before .before .before .before .before .before .before .before .before .before .before .before .before .mark-starts .result .0) (c .before .before .before .before .before .before .before .before .before .before .if1 .left)) in omega arith)
-    (λ c κs. let p = c .before .before .before .before .before .before .before .before .before .before .before .before .before .before .before .before .before .before .before .before .before .before .pre in let i = c .before .before .before .before .before .before .before .before .before .before .before .before .before .before .before .before .mark-starts .ensures .1 (not-on (c .before .before .before .before .before .before .before .before .before .before .before .before .before .before .before .before .mark-starts .result .0) (c .before .before .before .before .before .before .before .before .before .before .before .before .if1 .left)) in let q = c .before .places .ensures in omega arith)
+    returns
     (λ c κs. search needs)
-    (λ c. c .before .before .before .before .before .before .before .before .before .before .walk-from .kept .1 .1 .1 .1 .0 ∙ c .before .before .before .before .before .before .before .before .before .before .before .before .before .before .before .before .before .before .mark-starts .kept .1 .1 .1 .1 .0)
+    walk-from-requires
+    (λ c κs. search needs)
     (λ c. search needs)
-    (λ c. let a = c .before .before .before .before .before .before .before .before .before .before .before .before .before .before .before .before .before .before .before .before .before .before .before .before .args in let p = c .before .before .before .before .before .before .before .before .before .before .before .before .before .before .before .before .before .before .before .before .before .before .before .before .pre in let s = c .before .before .before .before .before .before .before .before .before .before .before .before .before .before .before .before .before .before .mark-starts .ensures .0 in let e = rw (c .before .before .before .before .before .before .before .before .before .before .before .before .before .body .ensures) at (c .before .before .before .before .before .before .before .before .before .before .walk-from .ensures) in let g = not-on (c .before .before .before .before .before .before .before .before .before .before .before .before .before .before .before .before .before .before .mark-starts .result .0) (c .before .before .before .before .before .before .before .before .before .before .before .before .before .before .if1 .left) in let t = rw (c .before .before .before .places .ensures) at (c .before .tally-body .ensures .0) in survey-judged (now (a .rom)) (a .length) (now (a .seen)) (now (a .work)) (now (a .kinds)) (now (a .sums)) (a .stand) (a .entry) _ _ _ (λ m h k. walked-kept m h (now (a .rom)) (now (a .kinds)) (bodyText (a .length) (a .stand .wide) (a .entry)) (now (a .sums)) _ (now (a .work)) (a .entry) 65 _ _ _ (p .0) (p .1) (omega arith) e (marked-bounded m h (now (a .rom)) (now (a .kinds)) (a .length) (a .stand .wide) (a .entry) (now (a .seen)) _ _ _ s k) .seen) _ _ _ s g _ e (not-on (c .before .before .before .before .before .before .before .before .before .before .walk-from .result .good) (c .before .before .before .before .if2 .left)) _ t (c .before .tally-body .ensures .1) (c .before .before .before .before .before .before .before .before .before .before .before .before .before .before .before .before .before .before .mark-starts .ensures .1 g) (c .judged .ensures .0) (c .judged .ensures .1) (c .judged .ensures .2)))
+    (λ c. search needs)
+    returns-2
+    passes-requires
+    (λ c. search needs)
+    (λ c. search needs)
+    returns-3)

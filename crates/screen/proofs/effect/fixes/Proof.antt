@@ -12,4 +12,12 @@ fixes-spec =
     (λ c. rw (← c .before .family-of .ensures, c .match .keys2))
     (λ c. rw (← c .before .family-of .ensures, c .match .keys3))
     (λ c. rw (← c .before .family-of .ensures, c .match .keys4))
-    (λ c. rw (← c .before .family-of .ensures, ne-eqb _ _ (c .match .rest .0 .0 .0 .1), ne-eqb _ _ (c .match .rest .0 .0 .1), ne-eqb _ _ (c .match .rest .0 .1), ne-eqb _ _ (c .match .rest .1))))
+    (λ c.
+    let r = c .match .rest in
+    rw (
+      ← c .before .family-of .ensures,
+      ne-eqb _ _ (r .0 .0 .0 .1),
+      ne-eqb _ _ (r .0 .0 .1),
+      ne-eqb _ _ (r .0 .1),
+      ne-eqb _ _ (r .1),
+    )))

@@ -1,20 +1,20 @@
 use Prim.Native.Nat.{_+_}
 use mathlib.Core.Path.{_≡_, refl, sym, _∙_}
-use Rattle.cells.specs.Facts.{not-on, not-off}
+use mathlib.Core.Logic.{_≢_}
 use Rattle.screen.specs.Model.{apartOf}
-use Rattle.screen.specs.RoundLaws.{apart-spent, apart-fails, apart-turn}
-use borrow.Author.Needs.{needs}
+use Rattle.screen.specs.RoundLaws.{apart-free, apart-spent, apart-fails, apart-turn}
 use native.Mathlib.Omega.{arith}
+use borrow.Author.Needs.{needs}
 use Rattle.screen.proofs.rounds.apart.Statement.{statement}
 use Rattle.screen.proofs.rounds.apart.Tie as tie
 
 -- what is left comes to what the whole comes to
 abbrev Inv-loop : tie.InvT-loop
-Inv-loop rom text seen far count start place₀ free₀ left₀ place free left =
-    (apartOf rom text seen far left place free ≡ apartOf rom text seen far count start 0) × (place + left ≡ start + count)
+Inv-loop codes rom text seen far count start place₀ free₀ left₀ place free left =
+    (apartOf rom text seen far left place free ≡ apartOf rom text seen far count start 0) × (place + left ≡ start + count) × (free ≢ 0)
 
 abbrev μ-loop : tie.MeasureT-loop
-μ-loop rom text seen far count start place₀ free₀ left₀ place free left = left
+μ-loop codes rom text seen far count start place₀ free₀ left₀ place free left = left
 
 pub apart-spec : {M : Type 1} → statement M
 apart-spec =
@@ -22,12 +22,38 @@ apart-spec =
     (tie.spec
     Inv-loop
     μ-loop
-    (λ c. (refl, refl))
+    (λ c. (apart-free _ _ _ _ _ _ _ (omega arith), refl, c .before .before .pre .2))
     (λ c κs. search needs)
-    (λ c κs. let i = c .before .before .loop .inv .1 in let p = c .before .before .before .before .before .pre in let t = c .before .loop-test .taken in omega arith)
-    (λ c. sym (apart-fails _ _ _ _ _ _ _ _ _ (c .before .before .before .before .loop-test .taken) (c .before .before .before .cell-at .ensures) (c .before .before .passed .ensures) (not-off (c .before .before .passed .result .0) (c .if1 .taken))) ∙ c .before .before .before .before .before .loop .inv .0)
-    (λ c. let i = c .before .before .before .before .before .loop .inv .1 in let p = c .before .before .before .before .before .before .before .before .pre in let t = c .before .before .before .before .loop-test .taken in omega arith)
-    (λ c. let t = c .before .before .before .before .loop-test .taken in omega arith)
-    (λ c. let t = c .before .before .before .before .loop-test .taken in omega arith)
-    (λ c. let i = c .before .before .before .before .before .loop .inv .1 in let t = c .before .before .before .before .loop-test .taken in (apart-turn _ _ _ _ _ _ _ _ _ t (c .before .before .before .cell-at .ensures) (c .before .before .passed .ensures) (not-on (c .before .before .passed .result .0) (c .if1 .left)) ∙ c .before .before .before .before .before .loop .inv .0, omega arith))
+    (λ c κs.
+    let c₁ = c .before in
+    let c₂ = c₁ .before in
+    let c₃ = c₂ .before .before .before in
+    let i = c₂ .loop .inv in
+    let p = c₃ .pre in
+    let n = i .1 in
+    let m = p .1 in
+    let t = c₁ .loop-test .taken in
+    (p .0, omega arith, i .2))
+    (λ c.
+    let c₁ = c .before in
+    let c₂ = c₁ .before in
+    let c₃ = c₂ .before in
+    let c₄ = c₃ .before in
+    sym (apart-fails _ _ _ _ _ _ _ _ _ (c₃ .loop-test .taken) (c₂ .cell-at .ensures) (c₁ .passed .ensures) (c .if1 .taken)) ∙ c₄ .loop .inv .0)
+    (λ c.
+    let c₁ = c .before .before .before in
+    let c₂ = c₁ .before in
+    let c₃ = c₂ .before .before .before in
+    let n = c₂ .loop .inv .1 in let m = c₃ .pre .1 in let t = c₁ .loop-test .taken in omega arith)
+    (λ c. let t = c .before .before .before .loop-test .taken in omega arith)
+    (λ c. let t = c .before .before .before .loop-test .taken in omega arith)
+    (λ c.
+    let c₁ = c .before in
+    let c₂ = c₁ .before in
+    let c₃ = c₂ .before in
+    let c₄ = c₃ .before in
+    let i = c₄ .loop .inv in
+    let n = i .1 in
+    let t = c₃ .loop-test .taken in
+    (apart-turn _ _ _ _ _ _ _ _ _ t (c₂ .cell-at .ensures) (c₁ .passed .ensures) (c .if1 .left) ∙ i .0, omega arith, c .if1 .left))
     (λ c. sym (apart-spent _ _ _ _ _ _ _ (omega arith)) ∙ c .before .loop .inv .0))

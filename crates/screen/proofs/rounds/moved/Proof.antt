@@ -4,6 +4,16 @@ use borrow.Author.Needs.{needs}
 use Rattle.screen.proofs.rounds.moved.Statement.{statement}
 use Rattle.screen.proofs.rounds.moved.Tie as tie
 
+returns : tie.Need-returns
+returns c =
+    let a = c .before .before .before .before .before .args in
+    moved-is (a .stand) (a .token) (a .cell) _ _
+    (c .before .cell-of .ensures ∙ rw (
+      c .before .before .less .ensures,
+      c .before .before .before .before .height-in .ensures .0,
+      c .before .before .before .takes-here .ensures .0,
+    ) refl) (c .widened .ensures)
+
 pub moved-spec : {M : Type 1} → statement M
 moved-spec =
     tie.close
@@ -11,8 +21,6 @@ moved-spec =
     (λ c κs. search needs)
     (λ c κs. search needs)
     (λ c κs. search needs)
-    (λ c. search needs)
-    (λ c. search needs)
-    (λ c. search needs)
     (λ c κs. search needs)
-    (λ c. moved-is (c .before .before .before .before .args .stand) (c .before .before .before .before .args .token) (c .before .before .before .before .args .cell) _ _ (c .before .less .ensures ∙ rw (c .before .before .before .height-in .ensures .0, c .before .before .takes-here .ensures .0) refl) (c .widened .ensures)))
+    (λ c κs. search needs)
+    returns)

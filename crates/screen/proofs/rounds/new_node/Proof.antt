@@ -4,6 +4,10 @@ use borrow.Author.Needs.{needs}
 use Rattle.screen.proofs.rounds.new_node.Statement.{statement}
 use Rattle.screen.proofs.rounds.new_node.Tie as tie
 
+returns-2 : tie.Need-returns-2
+returns-2 c =
+    node-new (c .before .before .before .before .args .stand) (c .before .before .if1 .left) (c .before .before .before .before .pre)
+
 pub new-node-spec : {M : Type 1} → statement M
 new-node-spec =
     tie.close
@@ -12,4 +16,4 @@ new-node-spec =
     (λ c. node-fails _ _ _ (λ b. le-ltb _ _ (c .before .if1 .taken)) (c .refused .ensures))
     (λ c. search needs)
     (λ c. search needs)
-    (λ c. node-new (c .before .before .before .before .args .stand) (c .before .before .if1 .left) (c .before .before .before .before .pre)))
+    returns-2)

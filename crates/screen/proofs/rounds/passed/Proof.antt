@@ -1,6 +1,4 @@
-use mathlib.Core.Path.{sym, _∙_}
-use denote.Ref.{now}
-use Rattle.screen.specs.RoundLaws.{pass-none, pass-early, pass-refused, pass-far, pass-fixes, pass-good}
+use Rattle.screen.specs.RoundLaws.{pass-none, pass-early, pass-past, pass-quick, pass-glance}
 use borrow.Author.Needs.{needs}
 use Rattle.screen.proofs.rounds.passed.Statement.{statement}
 use Rattle.screen.proofs.rounds.passed.Tie as tie
@@ -9,14 +7,20 @@ pub passed-spec : {M : Type 1} → statement M
 passed-spec =
     tie.close
     (tie.spec
-    (λ c. let a = c .before .before .args in pass-none (now (a .rom)) (a .text) (a .far) (a .cell) (a .place) (a .free) (c .if1 .taken))
-    (λ c. let a = c .before .before .before .args in pass-early (now (a .rom)) (a .text) (a .far) (a .cell) (a .place) (a .free) (c .before .if1 .left) (c .if2 .taken))
+    (λ c. pass-none _ _ _ _ _ _ (c .before .before .pre .2) (c .if1 .taken))
+    (λ c. pass-early _ _ _ _ _ _ (c .before .if1 .left) (c .if2 .taken))
+    (λ c. search needs)
+    (λ c. pass-past _ _ _ _ _ _ (c .before .before .before .if1 .left) (c .before .before .if2 .left) (c .if3 .taken))
     (λ c κs. search needs)
-    (λ c. search needs)
-    (λ c. search needs)
-    (λ c. search needs)
-    (λ c. let a = c .before .before .before .before .before .before .before .before .args in pass-far (now (a .rom)) (a .text) (a .far) (a .cell) (a .place) (a .free) (c .before .before .before .before .before .before .if1 .left) (c .before .before .before .before .before .if2 .left) _ (sym (c .before .before .before .before .read-at .ensures) ∙ c .before .before .token .given .1) (c .if3 .taken))
+    (λ c.
+    let c₁ = c .before .before in
+    let c₂ = c₁ .before .before .before in
+    let c₃ = c₂ .before in
+    pass-quick _ _ _ _ _ _ (c₃ .if1 .left) (c₂ .if2 .left) _ (c .if4 .taken) (c₁ .quick-at .ensures .2 (c .if4 .taken)))
     (λ c κs. search needs)
-    (λ c. let a = c .before .before .before .before .before .before .before .before .before .before .args in pass-fixes (now (a .rom)) (a .text) (a .far) (a .cell) (a .place) (a .free) (c .before .before .before .before .before .before .before .before .if1 .left) (c .before .before .before .before .before .before .before .if2 .left) _ (sym (c .before .before .before .before .before .before .read-at .ensures) ∙ c .before .before .before .before .token .given .1) (c .before .before .if3 .left) (sym (c .before .fixes .ensures) ∙ c .if4 .taken))
-    (λ c. let a = c .before .before .before .before .before .before .args in pass-refused (now (a .rom)) (a .text) (a .far) (a .cell) (a .place) (a .free) (c .before .before .before .before .if1 .left) (c .before .before .before .if2 .left) _ (sym (c .before .before .read-at .ensures) ∙ c .enum-told .given .1))
-    (λ c. let a = c .before .before .before .before .before .before .before .before .before .before .args in pass-good (now (a .rom)) (a .text) (a .far) (a .cell) (a .place) (a .free) (c .before .before .before .before .before .before .before .before .if1 .left) (c .before .before .before .before .before .before .before .if2 .left) _ (sym (c .before .before .before .before .before .before .read-at .ensures) ∙ c .before .before .before .before .token .given .1) (c .before .before .if3 .left) (sym (c .before .fixes .ensures) ∙ c .if4 .left)))
+    (λ c κs. search needs)
+    (λ c.
+    let c₁ = c .before in
+    let c₂ = c₁ .before .before .before .before .before .before in
+    let c₃ = c₂ .before in
+    pass-glance _ _ _ _ _ _ (c₃ .if1 .left) (c₂ .if2 .left) _ (c₁ .glance-from .ensures) _ (c .end-seen .ensures)))

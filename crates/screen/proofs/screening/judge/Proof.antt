@@ -1,25 +1,69 @@
-use mathlib.Core.Path.{refl}
-use denote.Ref.{now}
-use Rattle.screen.specs.ScreenLaws.{header-length, zeros-bounded, judge-passes, judge-refuses}
+use borrow.Author.Tests.{le-leb, lt-leb}
 use borrow.Author.Needs.{needs}
-use native.Mathlib.Omega.{arith}
 use Rattle.screen.proofs.screening.judge.Statement.{statement}
 use Rattle.screen.proofs.screening.judge.Tie as tie
+
+judge-least-requires : tie.Need-judge-least-requires
+judge-least-requires c κs =
+    record {
+      header = c .before .before .before .before .before .pre .0;
+      size = c .before .before .program-length .ensures;
+      buffer =
+          c .before .before .before .before .before .pre .1;
+      fits = rw (le-leb _ _ (c .before .if1 .taken));
+    }
+
+judge-small-requires : tie.Need-judge-small-requires
+judge-small-requires c κs =
+    record {
+      header = c .before .before .before .before .before .before .pre .0;
+      size = c .before .before .before .program-length .ensures;
+      buffer = c .before .before .before .before .before .before .pre .1;
+      fits = rw (lt-leb _ _ (c .before .before .if1 .left), le-leb _ _ (c .before .if2 .taken));
+    }
+
+judge-middle-requires : tie.Need-judge-middle-requires
+judge-middle-requires c κs =
+    record {
+      header = c .before .before .before .before .before .before .before .pre .0;
+      size = c .before .before .before .before .program-length .ensures;
+      buffer = c .before .before .before .before .before .before .before .pre .1;
+      fits = rw (
+        lt-leb _ _ (c .before .before .before .if1 .left),
+        lt-leb _ _ (c .before .before .if2 .left),
+        le-leb _ _
+            (c .before .if3 .taken),
+      );
+    }
+
+judge-large-requires : tie.Need-judge-large-requires
+judge-large-requires c κs =
+    record {
+      header = c .before .before .before .before .before .before .before .pre .0;
+      size = c .before .before .before .before .program-length .ensures;
+      buffer = c .before .before .before .before .before .before .before .pre .1;
+      fits = rw (
+        lt-leb _ _ (c .before .before .before .if1 .left),
+        lt-leb _ _ (c .before .before .if2 .left),
+        lt-leb _ _
+            (c .before .if3 .left),
+      );
+    }
 
 pub judge-spec : {M : Type 1} → statement M
 judge-spec =
     tie.close
     (tie.spec
     (λ c κs. search needs)
-    (λ c κs. search needs)
+    judge-least-requires
     (λ c. search needs)
+    (λ c. c .before .before .judge-least .ensures)
+    judge-small-requires
     (λ c. search needs)
+    (λ c. c .before .before .judge-small .ensures)
+    judge-middle-requires
     (λ c. search needs)
-    (λ c κs. let a = c .before .before .before .before .before .before .before .before .args in let p = c .before .before .before .before .before .before .before .before .pre in (rw (c .before .before .before .before .program-length .ensures) (header-length (now (a .rom)) (p .0)), record { start = omega arith; children = omega arith; nodes = omega arith }, omega arith, zeros-bounded 16384))
+    (λ c. c .before .before .judge-middle .ensures)
+    judge-large-requires
     (λ c. search needs)
-    (λ c κs. search needs)
-    (λ c. search needs)
-    (λ c. let a = c .before .before .before .before .before .before .before .before .before .before .before .before .before .before .before .before .before .before .args in judge-passes (now (a .rom)) (now (a .marks)) _ _ _ _ (c .before .before .before .before .before .before .before .before .before .before .before .before .before .before .program-length .ensures) (rw (c .before .before .before .before .before .before .before .before .before .before .before .before .before .before .before .wide-start .ensures) refl) (c .before .before .before .before .before .before .before .before .before .all-rounds .ensures) (c .before .before .before .before .before .if1 .taken) _ (c .before .before .lay-marks .ensures))
-    (λ c κs. search needs)
-    (λ c. search needs)
-    (λ c. let a = c .before .before .before .before .before .before .before .before .before .before .before .before .before .before .before .before .before .args in judge-refuses (now (a .rom)) (now (a .marks)) _ _ _ _ (c .before .before .before .before .before .before .before .before .before .before .before .before .before .program-length .ensures) (rw (c .before .before .before .before .before .before .before .before .before .before .before .before .before .before .wide-start .ensures) refl) (c .before .before .before .before .before .before .before .before .all-rounds .ensures) (c .before .before .before .before .if1 .left) _ (c .before .before .clear-marks .ensures)))
+    (λ c. c .before .before .judge-large .ensures))

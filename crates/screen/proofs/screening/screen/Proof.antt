@@ -6,13 +6,31 @@ use borrow.Author.Needs.{needs}
 use Rattle.screen.proofs.screening.screen.Statement.{statement}
 use Rattle.screen.proofs.screening.screen.Tie as tie
 
+returns : tie.Need-returns
+returns c =
+    let a = c .before .before .before .args in
+    promise-by _ _ _ _ (screen-size (now (a .rom)) (now (a .marks)) (c .if1 .taken))
+
+returns-2 : tie.Need-returns-2
+returns-2 c =
+    let a = c .before .before .before .before .before .args in
+    promise-by _ _ _ _ (screen-header (now (a .rom)) (now (a .marks)) _ (c .before .before .if1 .left) (c .before .check-header .ensures)
+    (c .if2 .taken))
+
+returns-3 : tie.Need-returns-3
+returns-3 c =
+    let a = c .before .before .before .before .before .before .before .before .before .args in
+    let h = sym (c .before .before .before .before .before .check-header .ensures) ∙ c .before .before .before .before .if2 .left in
+    promise-by _ _ _ _ (c .before .before .judge .ensures ∙ screen-judged (now (a .rom)) (now (a .marks))
+    (c .before .before .before .before .before .before .if1 .left) h)
+
 pub screen-spec : {M : Type 1} → statement M
 screen-spec =
     tie.close
     (tie.spec
-    (λ c. let a = c .before .before .before .args in promise-by _ _ _ _ (screen-size (now (a .rom)) (now (a .marks)) (c .if1 .taken)))
+    returns
     (λ c κs. search needs)
-    (λ c. let a = c .before .before .before .before .before .args in promise-by _ _ _ _ (screen-header (now (a .rom)) (now (a .marks)) _ (c .before .before .if1 .left) (c .before .check-header .ensures) (c .if2 .taken)))
+    returns-2
     (λ c κs. search needs)
     (λ c. search needs)
-    (λ c. let a = c .before .before .before .before .before .before .before .before .before .args in promise-by _ _ _ _ (c .before .before .judge .ensures ∙ screen-judged (now (a .rom)) (now (a .marks)) (c .before .before .before .before .before .before .if1 .left) (sym (c .before .before .before .before .before .check-header .ensures) ∙ c .before .before .before .before .if2 .left))))
+    returns-3)

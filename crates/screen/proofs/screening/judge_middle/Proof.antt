@@ -1,0 +1,14 @@
+use Rattle.screen.specs.ScreenLaws.{judging}
+use borrow.Author.Needs.{needs}
+use Rattle.screen.proofs.screening.judge_middle.Statement.{statement}
+use Rattle.screen.proofs.screening.judge_middle.Tie as tie
+
+pub judge-middle-spec : {M : Type 1} → statement M
+judge-middle-spec =
+    tie.close
+    (tie.spec
+    (λ c. search needs)
+    (λ c. search needs)
+    (λ c κs. judging _ _ _ _ (c .before .before .before .before .before .pre))
+    (λ c. search needs)
+    (λ c. c .before .before .before .before .judge-in .ensures))

@@ -1,0 +1,24 @@
+use borrow.Author.Needs.{needs}
+use Rattle.screen.proofs.tally.raised.Statement.{statement}
+use Rattle.screen.proofs.tally.raised.Tie as tie
+
+pub raised-spec : {M : Type 1} → statement M
+raised-spec =
+    tie.close
+    (tie.spec
+    (λ c κs. search needs)
+    (λ c. search needs)
+    (λ c κs. search needs)
+    (λ c κs. search needs)
+    (λ c κs. search needs)
+    (λ c κs. search needs)
+    (λ c κs. search needs)
+    (λ c.
+    simp (
+      c .larger4 .ensures,
+      c .before .larger3 .ensures,
+      c .before .before .larger2 .ensures,
+      c .before .before .before .larger .ensures,
+      c .before .before .before .before .less .ensures,
+      c .before .before .before .before .before .height-in .ensures .0,
+    )))
