@@ -3,7 +3,8 @@
  *     times FILE [ROUNDS]
  *         compares the answers, and prints the medians of the time that each kind takes, and their ratio
  *     times FILE count SIDE JOB KIND MANY
- *         calls one side (library, peer) for one job (screen, run) on so many dumps of one kind, once each: for callgrind
+ *         calls one side (library, peer) for one job (screen, run) on so many dumps of one kind, once each, and prints the answers: for
+ *         callgrind
  *
  * Times are those of the thread. A round calls the library and the peer in turn on each dump; before each call all buffers are cleared by
  * the same memset. A dump's time is the median of its rounds, a kind's the median of its dumps. What the clock takes is taken off. */
@@ -265,7 +266,7 @@ int main(int count, char **words) {
         for (uint32_t k = 0; k < kind_count; k++) {
             for (uint32_t i = 0; strcmp(kinds[k].name, words[5]) == 0 && i < kinds[k].count && i < many; i++) {
                 clear();
-                called(job, side, &kinds[k].dumps[i]);
+                printf("%u\n", called(job, side, &kinds[k].dumps[i]));
             }
         }
         return 0;
