@@ -1,11 +1,7 @@
 // What a program number does, and what a token takes.
 ghost use mathlib.Core.Path.{_≡_};
-ghost use Prim.Native.Nat.{_%_, _+_, _<_};
-ghost use Rattle.cells.specs.Choice.{pick};
-ghost use lib.Dec.{eqb};
-ghost use Rattle.tokens.specs.Family.{define};
-ghost use Rattle.tokens.specs.Code.{codeOf, familyIn, takesIn};
-ghost use Rattle.screen.specs.Effect.{isA, fixes as Effect·fixes};
+ghost use Prim.Native.Nat.{_%_, _<_};
+ghost use Rattle.screen.specs.Effect.{isA};
 ghost use Rattle.screen.specs.Model.{packed, sumAt};
 ghost use Rattle.screen.specs.VisitLaws.{takesSeen, fixesBy};
 use crate::tables::sum_code;
@@ -26,7 +22,8 @@ pub struct Sum {
     pub frames: u32,
 }
 
-// What a token takes and gives, how high it rises over the cells that it leaves alone, and the frames that it opens.
+// What a token takes and gives, how high it rises over the cells that it leaves alone, and the frames that it opens. The definitions go by
+// this; the code has each part from where it stands, in a code or a sum.
 pub struct Effect {
     pub takes: u32,
     pub gives: u32,
