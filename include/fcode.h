@@ -36,9 +36,10 @@ uint32_t fcode_screen(const uint8_t *rom, size_t rom_len, uint8_t *marks, size_t
 uint32_t fcode_run(const uint8_t *rom, size_t rom_len, uint8_t *work, size_t work_len, uint8_t *store, size_t store_len, uint32_t budget,
                    uint32_t *steps);
 
-/* Screens the ROM, runs it if it passes, and writes the listing into `text`: ASCII, a line feed behind each line, zeros
- * behind the text. Gives the text's length. A refusal of the buffers' sizes, the header or the screen is the one line `refused N`, and `work` and `store` are
- * then as they were; `marks` is as fcode_screen leaves it, and as it was where a buffer has the wrong size. With a `text` of another size than
+/* Screens the ROM, runs it if it passes, and writes the listing into `text`: ASCII, a line feed behind each line, and one zero byte behind
+ * the text, so that it can be read as a string; what lies behind that zero is as it was. Gives the text's length, without the zero. A
+ * refusal of the buffers' sizes, the header or the screen is the one line `refused N`, and `work` and `store` are then as they were;
+ * `marks` is as fcode_screen leaves it, and as it was where a buffer has the wrong size. With a `text` of another size than
  * FCODE_TEXT_SIZE the call gives 0 and writes nothing at all. */
 size_t fcode_list(const uint8_t *rom, size_t rom_len, uint8_t *marks, size_t marks_len, uint8_t *work, size_t work_len, uint8_t *store,
                   size_t store_len, uint32_t budget, uint8_t *text, size_t text_len);

@@ -1,6 +1,7 @@
 /* A C program over include/fcode.h: each of the four calls with good ROMs, bad ROMs, buffers of the wrong size and no ROM at all, and
- * the listing of every worked case and of every name that tests/names.py tries. Compared are every answer, every text, every buffer that
- * a refused call must leave as it was, and what stands before and behind a buffer, which no call may touch. */
+ * the listing of every worked case and of every name that tests/names.py tries. Compared are every answer, every text with the one zero
+ * and the untouched bytes behind it, every buffer that a refused call must leave as it was, and what stands before and behind a buffer,
+ * which no call may touch. */
 #include "fcode.h"
 
 #include <stdio.h>
@@ -63,6 +64,14 @@ static int holds(const struct lent *b, const void *bytes, size_t n) {
     return within(b);
 }
 
+/* the text given, one zero behind it, and what lies behind that as it was, to the buffer's end and outside it */
+static int reads(const struct lent *b, const char *words, size_t n) {
+    if (b->size <= n || memcmp(b->bytes + GUARD, words, n) != 0 || b->bytes[GUARD + n] != 0) return 0;
+    for (size_t i = GUARD + n + 1; i < GUARD + b->size; i++)
+        if (b->bytes[i] != filler(i)) return 0;
+    return within(b);
+}
+
 static void lend_all(size_t m, size_t w, size_t s, size_t t) {
     lend(&marks, m);
     lend(&work, w);
@@ -103,7 +112,7 @@ static size_t list(uint32_t budget) {
 }
 
 /* the listing is these lines */
-static int prints(uint32_t budget, const char *lines) { return list(budget) == strlen(lines) && holds(&text, lines, strlen(lines)); }
+static int prints(uint32_t budget, const char *lines) { return list(budget) == strlen(lines) && reads(&text, lines, strlen(lines)); }
 
 /* document 01's scale board, and others of its bench */
 #define SCALE "\x12\x05scale\x02\x01\xA8\x01\x11\x12\x05lanes\x01\x10\x00"
@@ -274,7 +283,7 @@ static void lists(void) {
     EXPECT(untouched(&marks) && untouched(&work) && untouched(&store));
     lend_right();
     EXPECT(fcode_list(NULL, 0, at(&marks), marks.size, at(&work), work.size, at(&store), store.size, 1, at(&text), text.size) == 10);
-    EXPECT(holds(&text, "refused 1\n", 10));
+    EXPECT(reads(&text, "refused 1\n", 10));
 
     /* buffers of the wrong size, each alone, before anything else is said of the ROM */
     for (size_t off = 0; off <= 2; off += 2) {

@@ -59,7 +59,7 @@ pub extern "C" fn fcode_run(
     number_of(end)
 }
 
-// The listing, written into `text`, and its length; 0, and nothing written, where the text has the wrong size.
+// The listing, written into `text` with one zero behind it, and its length; 0, and nothing written, where the text has the wrong size.
 #[no_mangle]
 pub extern "C" fn fcode_list(
     rom: &[u8],

@@ -1,5 +1,6 @@
--- Every listing fits its buffer: at most 32 lines of nodes, a line for each property that is held, and three lines more. A property is printed under one
--- node at most, so that the lines of properties have at most twice the store's bytes and two for each property. Assumes nothing.
+-- Every listing fits its buffer, with a zero behind it: at most 32 lines of nodes, a line for each property that is held, and three lines
+-- more. A property is printed under one node at most, so that the lines of properties have at most twice the store's bytes and two for each
+-- property. Assumes nothing.
 use Prim.Native.Nat.{ℕ, zero, suc, _+_, _*_, _≤_, _<_}
 use native.Mathlib.Omega.{arith}
 use mathlib.Core.Bool.{true, false}
@@ -36,7 +37,7 @@ pub length-refused-line : (n : ℕ) → length (refusedLine n) ≡ 9 + length (d
 unfolding refusedLine lettersOf
 length-refused-line n = let a = length-append (decimalOf n) lineEnd in omega arith
 
-pub refused-fits : (number : ℕ) → length (refusedLine number) ≤ textSize
+pub refused-fits : (number : ℕ) → length (refusedLine number) < textSize
 refused-fits number =
     let a = length-refused-line number in
     let d = length-decimal 10 number in
@@ -145,5 +146,5 @@ text-most t store steps number w =
     let h = closing-fits number in
     omega (arith, f .nodes-most, f .held-most, f .live-most)
 
-pub fits : (t : Tree) (store : List ℕ) (steps number : ℕ) → wholeTree t ≡ true → length (runText t store steps number) ≤ textSize
+pub fits : (t : Tree) (store : List ℕ) (steps number : ℕ) → wholeTree t ≡ true → length (runText t store steps number) < textSize
 fits t store steps number w = let m = text-most t store steps number w in omega arith

@@ -1,13 +1,13 @@
 -- What the proofs need of numbers, lines and texts, and that digits read back: a decimal as its number, hexadecimal ones as their bytes. Assumes nothing.
 use Prim.Native.Nat.{ℕ, zero, suc, _+_, _*_, _-_, _/_, _%_, _^_, _≤_, _<_}
-use native.Mathlib.Nat.{pow-suc, zero-add}
+use native.Mathlib.Nat.{pow-suc}
 use native.Mathlib.Numerals.{add-one}
 use native.Mathlib.Decide.{decLt}
 use native.Mathlib.Omega.{arith}
 use mathlib.Core.Bool.{Bool, true, false}
-use mathlib.Core.List.{List, [], _∷_, _++_, append-nil}
+use mathlib.Core.List.{List, [], _∷_, _++_, append-assoc}
 use mathlib.Core.Path.{_≡_, refl, sym, ap, _∙_}
-use lib.ListN.{length, getD, drop, replicate, length-append, length-replicate, drop-of-length-le}
+use lib.ListN.{length, getD, drop, set, length-append, drop-of-length-le}
 use lib.Seq.{drop-cons}
 use lib.Dec.{ltb, eqb}
 use Rattle.cells.specs.Choice.{pick}
@@ -15,16 +15,15 @@ use borrow.Author.Tests.{lt-ltb, le-ltb}
 use Rattle.cells.specs.Tests.{when-is, pick-is, chosen-below, chosen-from, tests}
 use Rattle.rom.specs.Words.{lettersOf}
 use Rattle.memory.specs.Window.{partOf}
-use Rattle.memory.specs.Writing.{writtenOf, clearedOf}
-use Rattle.memory.specs.Laws.{written-append, written-is, length-written}
+use Rattle.memory.specs.Laws.{written-is}
 use Rattle.tree.specs.Held.{Property, ownerOf, nameSize, valueSize, heldFrom}
 use Rattle.tree.specs.Whole.{parentOf}
 use Rattle.tree.specs.declared.tree.Tree.{Tree}
 use Rattle.lines.specs.Digits.{digit, decimalFrom, decimalOf, hexDigit, hexPair, hexOf}
 use Rattle.lines.specs.Lines.{shown, bytesRead, nodeLine, lineFor, ownLines, nodeLines}
 use Rattle.lines.specs.Printed.{printed, allPrinted}
-use Rattle.lines.specs.Told.{told, filledTo, toldIn}
-use Rattle.lines.specs.Wrote.{Wrote, wrote-whole}
+use Rattle.lines.specs.Told.{told, filled, toldAs}
+use Rattle.lines.specs.Wrote.{Wrote, wrote-one, wrote-then, wrote-whole, length-wrote}
 
 -- a number of one digit, and the last digit of another
 pub decimal-one : (k n : ℕ) → n < 10 → decimalFrom (suc k) n ≡ digit n ∷ []
@@ -221,21 +220,16 @@ module _ (t : Tree) (ps : List Property) where
   unfolding nodeLines
   nodes-none m k e = rw e
 
--- a text from the start, and zeros behind it
-cleared-text : (size : ℕ) (m words : List ℕ) → length m ≡ size → length words ≤ size → clearedOf (writtenOf m 0 words) (length words) ≡ filledTo size words
-cleared-text size m words e h =
-    let n = size - length words in
-    let z : List ℕ = replicate n 0 in
-    let l = length-append words z in
-    let r : length z ≡ n = length-replicate n 0 in
-    let f : length (words ++ z) ≡ size = omega arith in
-    let w = rw (zero-add (length words)) at (written-append m 0 words z) in
-    let d : drop (0 + length (words ++ z)) m ≡ [] = drop-of-length-le m {i = 0 + length (words ++ z)} (omega arith) in
-    rw (length-written m 0 words, e) (sym w ∙ written-is m 0 (words ++ z) (omega arith) ∙ rw d (append-nil (words ++ z)))
-
--- so a text that was written whole, and cleared behind, is told
-pub told-whole : {m n k : List ℕ} {end : ℕ} {words : List ℕ} (size : ℕ) → length m ≡ size → length words ≤ size → Wrote m n 0 end words → k ≡ clearedOf n end
-    → told end k ≡ toldIn size words
-told-whole {m} {words = words} size s f w e =
+-- a text that was written whole from the start, and one zero behind it, is told
+pub told-whole : {m n k : List ℕ} {end : ℕ} {words : List ℕ} → length words < length m → Wrote m n 0 end words → k ≡ set n end 0
+    → told end k ≡ toldAs m words
+told-whole {m} {n} {k} {end} {words} h w e =
     let p = wrote-whole (omega arith) w in
-    rw (e, w .text, p) (ap (λ (t : List ℕ). told (length words) t) (cleared-text size m words s f))
+    let l = length-wrote w in
+    let s : List ℕ = 0 ∷ [] in
+    let v : Wrote n k end (end + 1) s = wrote-one 0 (omega arith) e in
+    let a = length-append words s in
+    let f = written-is m 0 (words ++ s) (omega arith) in
+    let q : 0 + length (words ++ s) ≡ length words + 1 = omega arith in
+    let g : k ≡ filled m words = wrote-then w v .text ∙ (rw q at f) ∙ append-assoc words s (drop (length words + 1) m) in
+    rw (p, g)

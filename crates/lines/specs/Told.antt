@@ -1,9 +1,9 @@
--- What a text leaves in a buffer that is lent for it: the text, zeros behind it, and its length handed back. A buffer of another size is left as it
--- was, and 0 handed back. Assumes nothing.
-use Prim.Native.Nat.{ℕ, _-_}
+-- What a text leaves in a buffer that is lent for it: the text, one zero behind it, what lies behind that as it was, and the text's length
+-- handed back. A buffer of another size is left as it was, and 0 handed back. Assumes nothing.
+use Prim.Native.Nat.{ℕ, _+_}
 use mathlib.Core.Bool.{Bool, not, _||_}
-use mathlib.Core.List.{List, _++_}
-use lib.ListN.{length, replicate}
+use mathlib.Core.List.{List, _∷_, _++_}
+use lib.ListN.{length, drop}
 use lib.Dec.{eqb}
 use Rattle.cells.specs.Choice.{pick}
 use Rattle.rom.specs.Sizes.{storeSize, textSize}
@@ -18,28 +18,22 @@ pub record Told : Type 0 where
 abbrev pub told : ℕ → List ℕ → Told
 told n text = record { length = n; text = text }
 
--- a buffer of so many bytes with a text and zeros behind it
-abbrev pub filledTo : ℕ → List ℕ → List ℕ
-filledTo size words = words ++ replicate (size - length words) 0
+-- a buffer with words at its start and a zero behind them, and the rest of it as it was
+abbrev pub filled : List ℕ → List ℕ → List ℕ
+filled text words = words ++ (0 ∷ drop (length words + 1) text)
 
-abbrev pub toldIn : ℕ → List ℕ → Told
-toldIn size words = told (length words) (filledTo size words)
-
--- that of a listing
-abbrev pub filled : List ℕ → List ℕ
-filled words = filledTo textSize words
-
-abbrev pub toldAs : List ℕ → Told
-toldAs words = toldIn textSize words
+abbrev pub toldAs : List ℕ → List ℕ → Told
+toldAs text words = told (length words) (filled text words)
 
 abbrev pub wrongText : List ℕ → Bool
 wrongText text = not (eqb (length text) textSize)
 
 -- the one line of a refusal
 unfoldable pub refusedTold : List ℕ → ℕ → Told
-refusedTold text number = pick (wrongText text) (told 0 text) (toldAs (refusedLine number))
+refusedTold text number = pick (wrongText text) (told 0 text) (toldAs text (refusedLine number))
 
 -- the listing of a run; a store of another size or a damaged tree has none
 unfoldable pub runTold : List ℕ → List ℕ → Tree → ℕ → ℕ → Told
 runTold text store t steps number =
-    pick (wrongText text || (not (eqb (length store) storeSize) || not (wholeTree t))) (told 0 text) (toldAs (runText t store steps number))
+    pick (wrongText text || (not (eqb (length store) storeSize) || not (wholeTree t))) (told 0 text)
+    (toldAs text (runText t store steps number))

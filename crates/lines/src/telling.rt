@@ -1,4 +1,5 @@
-// The texts: of a ROM that is refused, and of one that passed and was run.
+// The texts: of a ROM that is refused, and of one that passed and was run. One zero stands behind a text, so that C can read it as a
+// string; what lies behind that is as it was.
 ghost use mathlib.Core.Path.{_≡_};
 ghost use Rattle.lines.specs.Told.{told, refusedTold, runTold};
 use crate::lines::closing_line;
@@ -6,7 +7,6 @@ use crate::lines::node_lines;
 use crate::lines::refused_line;
 use crate::lines::steps_line;
 use crate::words::say;
-use memory::clear_from;
 use rom::sizes::STORE_SIZE;
 use rom::sizes::TEXT_SIZE;
 use tree::Tree;
@@ -20,7 +20,7 @@ pub fn refused_text(text: &mut [u8], number: u32) -> usize
         return 0;
     }
     let end = refused_line(text, 0, number);
-    clear_from(text, end as u32);
+    text[end] = 0;
     end
 }
 
@@ -42,6 +42,6 @@ pub fn run_text(text: &mut [u8], store: &[u8], tree: Tree, steps: u32, number: u
     let at = node_lines(text, at, store, tree);
     let at = steps_line(text, at, steps);
     let at = closing_line(text, at, number);
-    clear_from(text, at as u32);
+    text[at] = 0;
     at
 }

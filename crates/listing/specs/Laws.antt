@@ -1,10 +1,10 @@
--- What the listing comes to, by its tests, and that it always fits its buffer. Assumes nothing.
-use Prim.Native.Nat.{ℕ, _-_, _≤_}
+-- What the listing comes to, by its tests, and that it always fits its buffer, with the zero behind it. Assumes nothing.
+use Prim.Native.Nat.{ℕ, _+_, _≤_, _<_}
 use native.Mathlib.Omega.{arith}
 use mathlib.Core.Bool.{true, not}
-use mathlib.Core.List.{List}
+use mathlib.Core.List.{List, _∷_}
 use mathlib.Core.Path.{_≡_, ap, sym, subst, _∙_}
-use lib.ListN.{length, replicate, length-append}
+use lib.ListN.{length, drop, length-append}
 use lib.Dec.{eqb}
 use borrow.Author.Tests.{eq-eqb, ne-eqb}
 use Rattle.cells.specs.Facts.{neither, not-unequal}
@@ -30,12 +30,12 @@ use Rattle.lines.specs.Fits.{fits, refused-fits}
 use Rattle.listing.specs.Listing.{Listed, listed, listedAs, wrongBuffer, startedOf, runWords, ListedRun, judgedAs, listOf}
 
 -- ---- a text in a buffer of the right size
-pub refused-told : (text : List ℕ) (n : ℕ) → length text ≡ textSize → refusedTold text n ≡ toldAs (refusedLine n)
+pub refused-told : (text : List ℕ) (n : ℕ) → length text ≡ textSize → refusedTold text n ≡ toldAs text (refusedLine n)
 unfolding refusedTold
 refused-told text n e = rw (eq-eqb (length text) textSize e)
 
 pub run-told : (text : List ℕ) (o : Outcome) (n : ℕ) → length text ≡ textSize → Left o
-    → runTold text (o .store) (o .state .tree) (o .count) n ≡ toldAs (runText (o .state .tree) (o .store) (o .count) n)
+    → runTold text (o .store) (o .state .tree) (o .count) n ≡ toldAs text (runText (o .state .tree) (o .store) (o .count) n)
 unfolding runTold
 run-told text o n e l = rw (eq-eqb (length text) textSize e, eq-eqb (length (o .store)) storeSize (l .store), l .tree)
 
@@ -52,12 +52,14 @@ module _ (rom work store : List ℕ) (budget : ℕ) (h : headerOf rom ≡ 0) (a 
       → (x : Ran) (v u : List ℕ) → toldRan x v u ≡ startedOf rom (toldStep o w s) budget
       → (m : ℕ) → m ≡ numberOf (x .answer)
       → (text then : List ℕ) (n : ℕ) → length text ≡ textSize → told n then ≡ runTold text u (x .state .tree) (x .count) m
-      → ListedRun ran n v u then
+      → ListedRun ran text n v u then
   listed-run o w s e x v u f m q text then n z g =
       let r : toldRan x v u ≡ ran = f ∙ ap (λ (t : Turn). startedOf rom t budget) e in
       let l : Left (toldRan x v u) = subst Left (sym r) left in
-      let t : told n then ≡ toldAs (runWords (toldRan x v u)) = g ∙ run-told text (toldRan x v u) m z l ∙ ap (λ (j : ℕ). toldAs (runText (x .state .tree) u (x .count) j)) q in
-      let d : told n then ≡ toldAs (runWords ran) = t ∙ ap (λ (y : Outcome). toldAs (runWords y)) r in
+      let t : told n then ≡ toldAs text (runWords (toldRan x v u)) =
+      g ∙ run-told text (toldRan x v u) m z l ∙ ap (λ (j : ℕ). toldAs text (runText (x .state .tree) u (x .count) j)) q
+      in
+      let d : told n then ≡ toldAs text (runWords ran) = t ∙ ap (λ (y : Outcome). toldAs text (runWords y)) r in
       (ap (λ (y : Told). y .length) d, ap (λ (y : Outcome). y .work) r, ap (λ (y : Outcome). y .store) r, ap (λ (y : Told). y .text) d)
 
 -- ---- the whole
@@ -71,32 +73,34 @@ module _ (rom marks work store : List ℕ) (budget : ℕ) (text : List ℕ) wher
     whole = listOf rom marks work store budget text
 
     -- the one line of a refusal, the buffers as they are then
-    as-refused : (why : ℕ) (m : List ℕ) (then : List ℕ) (n : ℕ) → told n then ≡ refusedTold text why → listed n m work store then ≡ listedAs (refusedLine why) m work store
+    as-refused : (why : ℕ) (m : List ℕ) (then : List ℕ) (n : ℕ) → told n then ≡ refusedTold text why
+        → listed n m work store then ≡ listedAs (refusedLine why) m work store text
     as-refused why m then n g =
-        let d : told n then ≡ toldAs (refusedLine why) = g ∙ refused-told text why e in ap (λ (y : Told). listed (y .length) m work store (y .text)) d
+        let d : told n then ≡ toldAs text (refusedLine why) = g ∙ refused-told text why e in
+        ap (λ (y : Told). listed (y .length) m work store (y .text)) d
 
     pub wrong-buffer : wrongBuffer marks work store ≡ true → (then : List ℕ) (n : ℕ) → told n then ≡ refusedTold text 6 → listed n marks work store then ≡ whole
     unfolding listOf
     wrong-buffer w then n g = rw (eq-eqb (length text) textSize e, w) (as-refused 6 marks then n g)
 
     module _ (a : length marks ≡ marksSize) (b : length work ≡ workSize) (c : length store ≡ storeSize) where
-      judged : whole ≡ judgedAs (screenedOf rom marks .verdict) (screenedOf rom marks .marks) rom work store budget
+      judged : whole ≡ judgedAs (screenedOf rom marks .verdict) (screenedOf rom marks .marks) rom work store budget text
       unfolding listOf
       judged = rw (eq-eqb (length text) textSize e, eq-eqb (length marks) marksSize a, eq-eqb (length work) workSize b, eq-eqb (length store) storeSize c)
 
       -- by the screen's promise
-      by-verdict : (v : Verdict) (m : List ℕ) → Promised rom marks v m → whole ≡ judgedAs v m rom work store budget
+      by-verdict : (v : Verdict) (m : List ℕ) → Promised rom marks v m → whole ≡ judgedAs v m rom work store budget text
       by-verdict v m p =
           let k = one-result (promise-kept rom marks) p in
-          judged ∙ ap (λ (y : Verdict). judgedAs y (screenedOf rom marks .marks) rom work store budget) (k .0)
-          ∙ ap (λ (y : List ℕ). judgedAs v y rom work store budget) (k .1)
+          judged ∙ ap (λ (y : Verdict). judgedAs y (screenedOf rom marks .marks) rom work store budget text) (k .0)
+          ∙ ap (λ (y : List ℕ). judgedAs v y rom work store budget text) (k .1)
 
       pub refused : (why : ℕ) (m : List ℕ) → Promised rom marks (Refused why) m → (then : List ℕ) (n : ℕ) → told n then ≡ refusedTold text why
           → listed n m work store then ≡ whole
       refused why m p then n g = as-refused why m then n g ∙ sym (by-verdict (Refused why) m p)
 
       pub passed : (m : List ℕ) → Promised rom marks Passes m → (v u then : List ℕ) (n : ℕ)
-          → ListedRun (startedOf rom (openOf rom work store) budget) n v u then → listed n m v u then ≡ whole
+          → ListedRun (startedOf rom (openOf rom work store) budget) text n v u then → listed n m v u then ≡ whole
       passed m p v u then n l = rw (l .0, l .1, l .2, l .3) (sym (by-verdict Passes m p))
 
 -- ---- which buffer is wrong
@@ -120,11 +124,11 @@ passed-header (passes s h a k) = h
 -- ---- that it always fits: a whole tree is what the run of a passed ROM leaves
 module _ (rom marks work store : List ℕ) (budget : ℕ) (text : List ℕ) where
   judged-fits : length work ≡ workSize → length store ≡ storeSize → (v : Verdict) (m : List ℕ) → Promised rom marks v m
-      → judgedAs v m rom work store budget .size ≤ textSize
+      → judgedAs v m rom work store budget text .size < textSize
   judged-fits b c (Refused why) m p = refused-fits why
   judged-fits b c Passes m p = fits _ _ _ _ (left rom work store budget (passed-header p) b c .tree)
 
-  pub listing-fits : listOf rom marks work store budget text .size ≤ textSize
+  pub listing-fits : listOf rom marks work store budget text .size < textSize
   unfolding listOf
   listing-fits =
       pick-is Fitting (wrongText text) _ _ (λ t. omega arith)
@@ -137,7 +141,7 @@ module _ (rom marks work store : List ℕ) (budget : ℕ) (text : List ℕ) wher
       (promise-kept rom marks)))
     where
       Fitting : Listed → Type 0
-      Fitting l = l .size ≤ textSize
+      Fitting l = l .size < textSize
 
   inside : listOf rom marks work store budget text .size ≤ length (listOf rom marks work store budget text .text)
   unfolding listOf
@@ -149,10 +153,10 @@ module _ (rom marks work store : List ℕ) (budget : ℕ) (text : List ℕ) wher
       Inside : Listed → Type 0
       Inside l = l .size ≤ length (l .text)
 
-      filled-covers : (words : List ℕ) → length words ≤ length (filled words)
-      filled-covers words = let l = length-append words (replicate (textSize - length words) 0) in omega arith
+      filled-covers : (words : List ℕ) → length words ≤ length (filled text words)
+      filled-covers words = let l = length-append words (0 ∷ drop (length words + 1) text) in omega arith
 
-      judged : (v : Verdict) → Inside (judgedAs v (screenedOf rom marks .marks) rom work store budget)
+      judged : (v : Verdict) → Inside (judgedAs v (screenedOf rom marks .marks) rom work store budget text)
       judged Passes = filled-covers (runWords (startedOf rom (openOf rom work store) budget))
       judged (Refused why) = filled-covers (refusedLine why)
 

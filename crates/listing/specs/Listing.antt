@@ -30,9 +30,9 @@ pub record Listed : Type 0 where
 abbrev pub listed : ℕ → List ℕ → List ℕ → List ℕ → List ℕ → Listed
 listed size marks work store text = record { size = size; marks = marks; work = work; store = store; text = text }
 
--- a text in its buffer, zeros behind it
-abbrev pub listedAs : List ℕ → List ℕ → List ℕ → List ℕ → Listed
-listedAs words marks work store = listed (length words) marks work store (filled words)
+-- words in the text's buffer, one zero behind them, and what lies behind that as it was
+abbrev pub listedAs : List ℕ → List ℕ → List ℕ → List ℕ → List ℕ → Listed
+listedAs words marks work store text = listed (length words) marks work store (filled text words)
 
 -- 6: "a lent buffer has the wrong size"
 abbrev pub wrongBuffer : List ℕ → List ℕ → List ℕ → Bool
@@ -45,21 +45,22 @@ startedOf rom opened budget = runOf budget (scene rom (opened .work) (opened .st
 abbrev pub runWords : Outcome → List ℕ
 runWords o = runText (o .state .tree) (o .store) (o .count) (numberOf (o .answer))
 
--- the part of it that the run leaves
-abbrev pub ListedRun : Outcome → ℕ → List ℕ → List ℕ → List ℕ → Type 0
-ListedRun o size work store text = (size ≡ length (runWords o)) × (work ≡ o .work) × (store ≡ o .store) × (text ≡ filled (runWords o))
+-- the part of it that the run leaves, in a text that was as `before` says
+abbrev pub ListedRun : Outcome → List ℕ → ℕ → List ℕ → List ℕ → List ℕ → Type 0
+ListedRun o before size work store text =
+    (size ≡ length (runWords o)) × (work ≡ o .work) × (store ≡ o .store) × (text ≡ filled before (runWords o))
 
-abbrev pub ranAs : List ℕ → Outcome → Listed
-ranAs marks o = listedAs (runWords o) marks (o .work) (o .store)
+abbrev pub ranAs : List ℕ → Outcome → List ℕ → Listed
+ranAs marks o text = listedAs (runWords o) marks (o .work) (o .store) text
 
 -- by the screen's verdict, with the marks that it left
-abbrev pub judgedAs : Verdict → List ℕ → List ℕ → List ℕ → List ℕ → ℕ → Listed
-judgedAs (Refused why) marks rom work store budget = listedAs (refusedLine why) marks work store
-judgedAs Passes marks rom work store budget = ranAs marks (startedOf rom (openOf rom work store) budget)
+abbrev pub judgedAs : Verdict → List ℕ → List ℕ → List ℕ → List ℕ → ℕ → List ℕ → Listed
+judgedAs (Refused why) marks rom work store budget text = listedAs (refusedLine why) marks work store text
+judgedAs Passes marks rom work store budget text = ranAs marks (startedOf rom (openOf rom work store) budget) text
 
 -- a text buffer of the wrong size gets nothing written, here and anywhere else
 unfoldable pub listOf : List ℕ → List ℕ → List ℕ → List ℕ → ℕ → List ℕ → Listed
 listOf rom marks work store budget text =
     pick (wrongText text) (listed 0 marks work store text)
-    (pick (wrongBuffer marks work store) (listedAs (refusedLine 6) marks work store)
-    (judgedAs (screenedOf rom marks .verdict) (screenedOf rom marks .marks) rom work store budget))
+    (pick (wrongBuffer marks work store) (listedAs (refusedLine 6) marks work store text)
+    (judgedAs (screenedOf rom marks .verdict) (screenedOf rom marks .marks) rom work store budget text))

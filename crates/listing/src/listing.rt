@@ -21,7 +21,7 @@ use state::open;
 fn list_run(rom: &[u8], work: &mut [u8], store: &mut [u8], budget: u32, text: &mut [u8]) -> usize
     requires { ⌜ (headerOf (now rom) ≡ 0) × (length (now work) ≡ 16384) × (length (now store) ≡ 16384) × (length (now text) ≡ 65536) ⌝ }
     ensures { λ r. ⌜ ListedRun (startedOf (now (rom .entry)) (openOf (now (rom .entry)) (now (work .entry)) (now (store .entry))) budget)
-        r (now (work .exit)) (now (store .exit)) (now (text .exit)) ⌝ }
+        (now (text .entry)) r (now (work .exit)) (now (store .exit)) (now (text .exit)) ⌝ }
 {
     let opened = open(rom, &mut *work, &mut *store);
     let st = opened.state;
@@ -32,9 +32,9 @@ fn list_run(rom: &[u8], work: &mut [u8], store: &mut [u8], budget: u32, text: &m
     run_text(text, &*store, tree, r.count, number_of(answer))
 }
 
-// Screens a ROM, runs it if it passes, and writes the listing into `text`: its length, zeros behind it. A refused ROM is the one line `refused N`, and
-// work memory and store are then as they were; a marks, work or store buffer of the wrong size is `refused 6`. A text of the wrong size gets 0, and
-// nothing is written anywhere.
+// Screens a ROM, runs it if it passes, and writes the listing into `text`: its length, one zero behind it, and what lies behind that as it
+// was. A refused ROM is the one line `refused N`, and work memory and store are then as they were; a marks, work or store buffer of the
+// wrong size is `refused 6`. A text of the wrong size gets 0, and nothing is written anywhere.
 pub fn list(
     rom: &[u8],
     marks: &mut [u8],

@@ -50,13 +50,15 @@ pub data Shown (rom marks work store : List ℕ) (budget : ℕ) : List ℕ → T
   screen-pass : {after : List ℕ} → Promised rom marks Passes after → runHere rom work store budget .count ≤ budget → Closing (numberOf (runHere rom work store budget .answer))
       → Shown rom marks work store budget (runWords (runHere rom work store budget))
 
--- a buffer that holds such words, and the length that was handed back
-abbrev pub ShownIn : List ℕ → List ℕ → List ℕ → List ℕ → ℕ → Listed → Type 0
-ShownIn rom marks work store budget l = (words : List ℕ) × Shown rom marks work store budget words × (l .size ≡ length words) × (l .text ≡ filled words)
+-- a buffer that holds such words, one zero behind them and the rest as it was, and the length that was handed back
+abbrev pub ShownIn : List ℕ → List ℕ → List ℕ → List ℕ → ℕ → List ℕ → Listed → Type 0
+ShownIn rom marks work store budget text l =
+    (words : List ℕ) × Shown rom marks work store budget words × (l .size ≡ length words) × (l .text ≡ filled text words)
 
 -- of every ROM, every budget and every buffer, if the text's has its size
 abbrev pub PersonSees : Type 0
-PersonSees = (rom marks work store text : List ℕ) (budget : ℕ) → length text ≡ textSize → ShownIn rom marks work store budget (listOf rom marks work store budget text)
+PersonSees = (rom marks work store text : List ℕ) (budget : ℕ) → length text ≡ textSize
+    → ShownIn rom marks work store budget text (listOf rom marks work store budget text)
 
 -- of every ROM that the screen gives 0 for, with any mark buffer
 abbrev pub HostSees : Type 0
@@ -116,20 +118,22 @@ module _ (rom marks work store : List ℕ) (budget : ℕ) (w : length work ≡ w
     closes = (closing (demand-3 .1 seen), counted seen .1)
 
   -- by the screen's verdict
-  shown-judged : (v : Verdict) (after : List ℕ) → Promised rom marks v after → ShownIn rom marks work store budget (judgedAs v after rom work store budget)
-  shown-judged (Refused n) after p = (refusedLine n, refused-rom p, refl, refl)
-  shown-judged Passes after p = let c = closes p in (runWords run, screen-pass p (c .1) (c .0), refl, refl)
+  shown-judged : (v : Verdict) (after text : List ℕ) → Promised rom marks v after
+      → ShownIn rom marks work store budget text (judgedAs v after rom work store budget text)
+  shown-judged (Refused n) after text p = (refusedLine n, refused-rom p, refl, refl)
+  shown-judged Passes after text p = let c = closes p in (runWords run, screen-pass p (c .1) (c .0), refl, refl)
 
 pub person-sees : PersonSees
 unfolding listOf
 person-sees rom marks work store text budget e =
     rw (eq-eqb (length text) textSize e)
-    (pick-is (ShownIn rom marks work store budget) (wrongBuffer marks work store) _ _ (λ b. (refusedLine 6, wrong-buffer b, refl, refl))
+    (pick-is (ShownIn rom marks work store budget text) (wrongBuffer marks work store) _ _
+    (λ b. (refusedLine 6, wrong-buffer b, refl, refl))
     (λ b.
     let c = neither (not (eqb (length marks) marksSize)) (wrongSize work store) b .1 in
     let d = neither (not (eqb (length work) workSize)) (not (eqb (length store) storeSize)) c in
     shown-judged rom marks work store budget (not-unequal (length work) workSize (d .0)) (not-unequal (length store) storeSize (d .1)) (screenedOf rom marks .verdict)
-    (screenedOf rom marks .marks) (promise-kept rom marks)))
+    (screenedOf rom marks .marks) text (promise-kept rom marks)))
 
 -- no verdict but a pass has the number 0
 zero-passes : {rom before after : List ℕ} (v : Verdict) → Promised rom before v after → verdictNumber v ≡ 0 → v ≡ Passes

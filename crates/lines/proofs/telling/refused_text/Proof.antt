@@ -1,10 +1,11 @@
+use mathlib.Core.Path.{refl}
 use native.Mathlib.Omega.{arith}
 use borrow.Author.Needs.{needs}
 use borrow.Author.Tests.{eq-eqb, ne-eqb}
 use Rattle.lines.specs.Told.{refusedTold}
 use Rattle.lines.specs.Fits.{refused-fits}
 use Rattle.lines.specs.Laws.{told-whole}
-use Rattle.lines.specs.Wrote.{wrote-whole}
+use Rattle.lines.specs.Wrote.{wrote-whole, length-wrote}
 use Rattle.lines.proofs.telling.refused_text.Statement.{statement}
 use Rattle.lines.proofs.telling.refused_text.Tie as tie
 
@@ -15,9 +16,15 @@ refused-text-spec =
     (tie.spec
     (λ c. rw (ne-eqb _ _ (c .if1 .taken)))
     (λ c κs. search needs)
-    (λ c. let f = refused-fits (c .before .before .before .before .before .before .before .args .number) in let e = wrote-whole (omega arith) (c .before .before .before .refused-line .ensures) in omega arith)
-    (λ c κs. search needs)
+    (λ c.
+    let w = c .before .before .refused-line .ensures in
+    let s = c .before .before .before .before .if1 .left in
+    let f = refused-fits (c .before .before .before .before .before .before .args .number) in
+    let e = wrote-whole (omega arith) w in
+    let l = length-wrote w in
+    omega arith)
     (λ c. search needs)
     (λ c.
-    let s = c .before .before .before .before .before .before .before .before .if1 .left in
-    rw (eq-eqb _ _ s) (told-whole 65536 s (refused-fits (c .before .before .before .before .before .before .before .before .before .before .args .number)) (c .before .before .before .before .before .before .refused-line .ensures) (c .before .before .clear-from .ensures))))
+    let s = c .before .before .before .before .if1 .left in
+    let f = refused-fits (c .before .before .before .before .before .before .args .number) in
+    rw (eq-eqb _ _ s) (told-whole (omega arith) (c .before .before .refused-line .ensures) refl)))

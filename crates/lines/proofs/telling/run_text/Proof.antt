@@ -1,6 +1,8 @@
+use Prim.Native.Nat.{_<_}
 use mathlib.Core.Bool.{true}
-use mathlib.Core.Path.{_≡_, sym, _∙_}
+use mathlib.Core.Path.{_≡_, refl, sym, _∙_}
 use native.Mathlib.Omega.{arith}
+use lib.ListN.{length}
 use denote.Ref.{now}
 use borrow.Author.Needs.{needs}
 use borrow.Author.Tests.{eq-eqb, ne-eqb, not-true, not-false}
@@ -11,7 +13,7 @@ use Rattle.lines.specs.Lines.{runText}
 use Rattle.lines.specs.Told.{runTold}
 use Rattle.lines.specs.Fits.{fits}
 use Rattle.lines.specs.Laws.{told-whole}
-use Rattle.lines.specs.Wrote.{wrote-then, wrote-whole}
+use Rattle.lines.specs.Wrote.{Wrote, wrote-then, wrote-whole, length-wrote}
 use Rattle.lines.proofs.telling.run_text.Statement.{statement}
 use Rattle.lines.proofs.telling.run_text.Tie as tie
 
@@ -19,8 +21,26 @@ use Rattle.lines.proofs.telling.run_text.Tie as tie
 whole : (c : tie.Else3) → wholeTree (c .before .before .before .before .before .before .args .tree) ≡ true
 whole c = sym (c .before .is-whole .ensures) ∙ not-false _ (c .if3 .left)
 
+-- the text then, which has room for a zero behind it
+listing : (c : tie.After-slice-known5)
+    → Wrote (now (c .before .before .before .before .before .before .before .before .before .before .before .before .before .before .before .before .before .before .before .before .before .before .before .args .text)) (c .before .before .closing-line .last .0) 0 (c .before .before .closing-line .result)
+    (runText (c .before .before .before .before .before .before .before .before .before .before .before .before .before .before .before .before .before .before .before .before .before .before .before .args .tree) (now (c .before .before .before .before .before .before .before .before .before .before .before .before .before .before .before .before .before .before .before .before .before .before .before .args .store)) (c .before .before .before .before .before .before .before .before .before .before .before .before .before .before .before .before .before .before .before .before .before .before .before .args .steps) (c .before .before .before .before .before .before .before .before .before .before .before .before .before .before .before .before .before .before .before .before .before .before .before .args .number))
+unfolding runText lettersOf
+listing c =
+    wrote-then (c .before .before .before .before .before .before .before .before .before .before .before .before .before .before .say .ensures)
+    (wrote-then (c .before .before .before .before .before .before .before .before .before .before .node-lines .ensures) (wrote-then (c .before .before .before .before .before .before .steps-line .ensures) (c .before .before .closing-line .ensures)))
+
+room : (c : tie.After-slice-known5)
+    → length (runText (c .before .before .before .before .before .before .before .before .before .before .before .before .before .before .before .before .before .before .before .before .before .before .before .args .tree) (now (c .before .before .before .before .before .before .before .before .before .before .before .before .before .before .before .before .before .before .before .before .before .before .before .args .store)) (c .before .before .before .before .before .before .before .before .before .before .before .before .before .before .before .before .before .before .before .before .before .before .before .args .steps) (c .before .before .before .before .before .before .before .before .before .before .before .before .before .before .before .before .before .before .before .before .before .before .before .args .number))
+    < length (now (c .before .before .before .before .before .before .before .before .before .before .before .before .before .before .before .before .before .before .before .before .before .before .before .args .text))
+room c =
+    let a = c .before .before .before .before .before .before .before .before .before .before .before .before .before .before .before .before .before .before .before .before .before .before .before .args in
+    let s = c .before .before .before .before .before .before .before .before .before .before .before .before .before .before .before .before .before .before .before .before .if1 .left in
+    let f = fits (a .tree) (now (a .store)) (a .steps) (a .number) (whole (c .before .before .before .before .before .before .before .before .before .before .before .before .before .before .before .before .before)) in
+    omega arith
+
 pub run-text-spec : {M : Type 1} → statement M
-unfolding runTold runText lettersOf
+unfolding runTold
 run-text-spec =
     tie.close
     (tie.spec
@@ -37,23 +57,9 @@ run-text-spec =
     (λ c κs. search needs)
     (λ c κs. search needs)
     (λ c.
-    let a = c .before .before .before .before .before .before .before .before .before .before .before .before .before .before .before .before .before .before .before .before .before .before .before .before .args in
-    let e = c .before .before .before .before .before .before .before .before .before .before .before .before .before .before .before .before .before .before in
-    let f = fits (a .tree) (now (a .store)) (a .steps) (a .number) (whole e) in
-    let s = e .before .before .before .if1 .left in
-    let x =
-    wrote-whole (omega arith)
-    (wrote-then (c .before .before .before .before .before .before .before .before .before .before .before .before .before .before .before .say .ensures) (wrote-then (c .before .before .before .before .before .before .before .before .before .before .before .node-lines .ensures) (wrote-then (c .before .before .before .before .before .before .before .steps-line .ensures) (c .before .before .before .closing-line .ensures))))
-    in
+    let r = room c in
+    let e = wrote-whole (omega arith) (listing c) in
+    let l = length-wrote (listing c) in
     omega arith)
-    (λ c κs. search needs)
-    (λ c. search needs)
-    (λ c.
-    let a = c .before .before .before .before .before .before .before .before .before .before .before .before .before .before .before .before .before .before .before .before .before .before .before .before .before .before .before .args in
-    let e = c .before .before .before .before .before .before .before .before .before .before .before .before .before .before .before .before .before .before .before .before .before in
-    let s = e .before .before .before .if1 .left in
-    rw (eq-eqb _ _ s, eq-eqb _ _ (e .before .before .if2 .left), whole e)
-    (told-whole 65536 s (fits (a .tree) (now (a .store)) (a .steps) (a .number) (whole e))
-    (wrote-then (c .before .before .before .before .before .before .before .before .before .before .before .before .before .before .before .before .before .before .say .ensures)
-    (wrote-then (c .before .before .before .before .before .before .before .before .before .before .before .before .before .before .node-lines .ensures) (wrote-then (c .before .before .before .before .before .before .before .before .before .before .steps-line .ensures) (c .before .before .before .before .before .before .closing-line .ensures))))
-    (c .before .before .clear-from .ensures))))
+    (λ c. let l = length-wrote (listing c) in search needs)
+    (λ c. rw (eq-eqb _ _ (c .before .before .before .before .before .before .before .before .before .before .before .before .before .before .before .before .before .before .before .before .if1 .left), eq-eqb _ _ (c .before .before .before .before .before .before .before .before .before .before .before .before .before .before .before .before .before .before .before .if2 .left), whole (c .before .before .before .before .before .before .before .before .before .before .before .before .before .before .before .before .before)) (told-whole (room c) (listing c) refl)))
