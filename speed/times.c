@@ -25,6 +25,8 @@ uint32_t peer_run(const uint8_t *rom, size_t rom_len, uint8_t *work, size_t work
 #define SIZE 16384
 #define KINDS_MOST 16
 #define ROUNDS_MOST 1001
+/* a dump that the peer takes less than this for, in microseconds, has no ratio of its own: the clock says too little of it */
+#define CLOCK_LEAST 0.1
 
 enum { LIBRARY, PEER, SIDES };
 enum { SCREEN, RUN, JOBS };
@@ -197,7 +199,7 @@ static void show(const struct kind *kind) {
         }
         for (uint32_t i = 0; i < kind->count; i++) {
             const double *t = kind->dumps[i].time[job];
-            double ratio = t[LIBRARY] / t[PEER];
+            double ratio = t[PEER] < CLOCK_LEAST ? 0 : t[LIBRARY] / t[PEER];
             worst = worst < ratio ? ratio : worst;
         }
         printf(" | %10.2f %10.2f %7.2f %8.2f", middle[LIBRARY], middle[PEER], middle[LIBRARY] / middle[PEER], worst);
