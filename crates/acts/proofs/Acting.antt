@@ -8,8 +8,8 @@ use native.Mathlib.Omega.{arith}
 use borrow.Author.Tests.{ltb-true}
 use lib.Dec.{T, eqb, eqb→eq}
 use Rattle.cells.specs.Choice.{find}
-use Rattle.cells.specs.Tests.{find-none, Rest}
-use Rattle.cells.specs.Facts.{is-true, both-hold, follows}
+use Rattle.cells.specs.Laws.Tests.{find-none, Rest}
+use Rattle.cells.specs.Laws.Facts.{is-true, both-hold, follows}
 use Rattle.rom.specs.Bytes.{byteOf}
 use Rattle.tokens.specs.Row.{everywhere, none, string, number, head, namedHead}
 use Rattle.tokens.specs.Table.{ends, lows, highs, doubles, table, isProgram}
@@ -17,10 +17,10 @@ use Rattle.tokens.specs.Family.{text, leave, define, assign, property, titled}
 use Rattle.tokens.specs.Code.{codeOf, familyIn, outOfPlaceIn, formIn}
 use Rattle.tokens.specs.Decode.{isKind, numberOf, tokenOf}
 use Rattle.tokens.specs.Place.{misplacedOf, readOf}
-use Rattle.tokens.specs.Laws.{find-is}
-use Rattle.tokens.specs.Rows.{code-fact}
-use Rattle.tokens.specs.Glance.{glanceOf}
-use Rattle.tokens.specs.GlanceLaws.{glance-refused, glance-misplaced, glance-coded, glance-read, read-plain, read-text, read-number, read-head, read-named}
+use Rattle.tokens.specs.Laws.Tokens.{find-is}
+use Rattle.tokens.specs.Laws.Rows.{code-fact}
+use Rattle.tokens.specs.Joints.Glance.{glanceOf}
+use Rattle.tokens.specs.Laws.Glance.{glance-refused, glance-misplaced, glance-coded, glance-read, read-plain, read-text, read-number, read-head, read-named}
 use Rattle.tokens.specs.Definition.{colon, kindIn, value, variable}
 use Rattle.tokens.specs.declared.decoding.Operand.{Operand}
 use Rattle.tokens.specs.declared.decoding.Operand.the-variants.{Nothing, Text, Number, Definition}
@@ -33,13 +33,13 @@ use Rattle.state.specs.Scene.{Scene, Turn, scene, turn, refuse}
 use Rattle.state.specs.Refusals.{refusalOf}
 use Rattle.state.specs.Effects.{Effect, colons, values, variables, effects, actOf}
 use Rattle.state.specs.Step.{doneOf, readTurn}
-use Rattle.state.specs.Step.{tokenOf as turnOf}
-use Rattle.state.specs.Hot.{hotFamily, Cold}
-use Rattle.state.specs.KeepsToken.{stands, leave-open}
-use Rattle.state.specs.Untouched.{count-kept, records-kept}
+use Rattle.state.specs.Step.{tokenTurn as turnOf}
+use Rattle.state.specs.Joints.Hot.{hotFamily, Cold}
+use Rattle.state.specs.Laws.Keeps.Token.{stands, leave-open}
+use Rattle.state.specs.Laws.Untouched.{count-kept, records-kept}
 use Rattle.state.specs.declared.state.State.{State}
 use Rattle.state.specs.declared.answer.Answer.the-variants.{Refused}
-use Rattle.acts.specs.Acts.{coldFamilies, codeFor, whyOf}
+use Rattle.acts.specs.Joints.Acts.{coldFamilies, codeFor, whyOf}
 
 -- ---- named-token and external-token are new-token but for a name, which is passed over
 module _ (s : Scene) (n : ℕ) (o : Operand) (next : ℕ) where

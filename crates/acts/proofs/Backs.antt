@@ -9,11 +9,11 @@ use lib.Dec.{eqb}
 use Rattle.tokens.specs.Family.{leave}
 use Rattle.tokens.specs.Decode.{tokenOf}
 use Rattle.state.specs.State.{baseOf, moved, movedTo}
-use Rattle.state.specs.Scene.{Turn, turn, scene, told}
+use Rattle.state.specs.Scene.{Turn, turn, scene, handedBack}
 use Rattle.state.specs.Effects.{effects, actOf, gave}
-use Rattle.state.specs.Moves.{stepped, leaveOf}
-use Rattle.state.specs.Apart.{Arrays, joined, backOn, takenOn, handed, answerOf, Takes}
-use Rattle.state.specs.Done.{carried, stopped}
+use Rattle.state.specs.Joints.Moves.{stepped, leaveOf}
+use Rattle.state.specs.Joints.Apart.{Arrays, joined, backOn, takenOn, handed, answerOf, Takes}
+use Rattle.state.specs.Laws.Done.{carried, stopped}
 use Rattle.state.specs.declared.state.State.{State}
 use Rattle.state.specs.declared.apart.Core.{Core}
 use Rattle.state.specs.declared.apart.Told.{Told}
@@ -21,7 +21,7 @@ use Rattle.state.specs.declared.apart.Handed.{Handed}
 use Rattle.state.specs.declared.apart.Taken.{Taken}
 use Rattle.state.specs.declared.answer.Stepped.{Stepped}
 use Rattle.state.specs.declared.answer.Answer.the-variants.{Going}
-use Rattle.acts.specs.Acts.{Quiet}
+use Rattle.acts.specs.Joints.Acts.{Quiet}
 use Rattle.acts.proofs.Pops.{poppedBy, popped-on, first-pop}
 use Rattle.acts.proofs.Cold.{leave-unequal, leave-good}
 
@@ -45,8 +45,8 @@ noArrays =
     }
 
 -- by what it is that was handed back
-pub via : (a b : Stepped) (work store : List ℕ) (t : Turn) → a ≡ b → told b work store ≡ t → told a work store ≡ t
-via a b work store t e f = ap (λ (x : Stepped). told x work store) e ∙ f
+pub via : (a b : Stepped) (work store : List ℕ) (t : Turn) → a ≡ b → handedBack b work store ≡ t → handedBack a work store ≡ t
+via a b work store t e f = ap (λ (x : Stepped). handedBack x work store) e ∙ f
 
 pub back : (a : Arrays) (r : Handed) (t : Told) (k : Core) → r ≡ handed t k → backOn a r ≡ stepped (answerOf t) (joined a k)
 back a r t k e = ap (λ (h : Handed). backOn a h) e

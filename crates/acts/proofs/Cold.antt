@@ -22,7 +22,7 @@ use Rattle.state.specs.Numbers.{seekOf, isHeld, isBody, kindsOf}
 use Rattle.state.specs.declared.state.Numbers.{Numbers}
 use Rattle.state.specs.Scene.{Scene, cellOf}
 use Rattle.state.specs.Refusals.{refusalOf, bad, rounded, titleOf, namedHere, valueHere, titledHere, noRoomFor}
-use Rattle.acts.specs.Acts.{ofCell}
+use Rattle.acts.specs.Joints.Acts.{ofCell}
 
 module _ (s : Scene) (n : ℕ) (o : Operand) (next : ℕ) where
   abbrev height : ℕ

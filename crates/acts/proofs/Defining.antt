@@ -7,14 +7,14 @@ use native.Mathlib.Omega.{arith}
 use borrow.Author.Tests.{lt-ltb, le-ltb, eq-eqb, ne-eqb, eqb-true, eqb-false, ltb-true, ltb-false}
 use lib.Dec.{eqb, ltb, leb, leb→le}
 use lib.ListN.{getD}
-use Rattle.cells.specs.Tests.{pick-is}
-use Rattle.cells.specs.Facts.{holds, both-hold}
+use Rattle.cells.specs.Laws.Tests.{pick-is}
+use Rattle.cells.specs.Laws.Facts.{holds, both-hold}
 use Rattle.tokens.specs.Family.{assign, call, define}
 use Rattle.tokens.specs.Table.{isProgram}
 use Rattle.tokens.specs.Decode.{tokenOf, decodeOf, isKind}
 use Rattle.tokens.specs.Place.{judged, misplacedOf, readOf}
-use Rattle.tokens.specs.Body.{kindOf, numberIn, unknownOf, onward, afterOf, bodyFrom, bodyOf}
-use Rattle.tokens.specs.Laws.{find-is}
+use Rattle.tokens.specs.Body.{kindOf, numberIn, unknownOf, bodyOnward, afterOf, bodyFrom, bodyOf}
+use Rattle.tokens.specs.Laws.Tokens.{find-is}
 use Rattle.tokens.specs.declared.decoding.Operand.{Operand}
 use Rattle.tokens.specs.declared.decoding.Operand.the-variants.{Definition}
 use Rattle.tokens.specs.declared.decoding.Decoded.{Decoded}
@@ -28,23 +28,23 @@ use Rattle.tokens.specs.Definition.{colon, constant, kindIn, newNumber, value, 
 use Rattle.state.specs.State.{moved, movedTo, withNumbers, withWork}
 use Rattle.state.specs.Numbers.{seekFrom, seekOf, isHeld, definedOf, assignedOf}
 use Rattle.state.specs.Numbers.{kindOfByte, kindAt, kindHeld, kindsOf}
-use Rattle.state.specs.Scene.{scene, turn, told}
+use Rattle.state.specs.Scene.{scene, turn, handedBack}
 use Rattle.state.specs.Refusals.{rounded}
 use Rattle.state.specs.Effects.{gave, behindBody, effects, actOf}
-use Rattle.state.specs.Moves.{Popped, stepped, popOf, pushOf, callOf}
+use Rattle.state.specs.Joints.Moves.{Popped, stepped, popOf, pushOf, callOf}
 use Rattle.state.specs.Step.{doneOf}
-use Rattle.acts.specs.Acts.{QuietOf, QuietBy, Defines, Colons, Variables, Fresh, TakesValue}
-use Rattle.state.specs.KeepsTests.{find-at}
-use Rattle.state.specs.KeepsToken.{behind-body}
+use Rattle.acts.specs.Joints.Acts.{QuietOf, QuietBy, Defines, Colons, Variables, Fresh, TakesValue}
+use Rattle.state.specs.Laws.Keeps.Tests.{find-at}
+use Rattle.state.specs.Laws.Keeps.Token.{behind-body}
 use Rattle.state.specs.declared.state.State.{State}
 use Rattle.state.specs.declared.state.Numbers.{Numbers}
 use Rattle.state.specs.declared.answer.Answer.the-variants.{Going, Refused}
 use Rattle.state.specs.declared.answer.Stepped.{Stepped}
 use Rattle.acts.proofs.Cold.{assign-unknown, assign-low, assign-good, call-unknown, call-high, call-value, call-deep, call-body}
 use Rattle.acts.proofs.Cold.{define-held, define-most, colon-stops, colon-good, variable-full, variable-good, value-low, value-good, constant-low, constant-good}
-use Rattle.state.specs.Done.{carried, stopped}
+use Rattle.state.specs.Laws.Done.{carried, stopped}
 use Rattle.acts.proofs.Pops.{cellAt, first-pop, popped-on, still-on, pushed-here}
-use Rattle.state.specs.Seeking.{program-bounds, kind-got}
+use Rattle.state.specs.Laws.Seeking.{program-bounds, kind-got}
 
 -- ---- the kind that the numbers say
 module _ (ns : Numbers) (m : ℕ) where
@@ -116,7 +116,7 @@ module _ (st : State) (o : Operand) (next m at : ℕ) (e : m ≡ numberIn o) (f 
             let c = first-pop st q h b in
             let here = seekOf (st .numbers) (numberIn o) in
             let j : at ≡ here = f ∙ ap (λ (x : ℕ). seekFrom (st .numbers .names) x (st .numbers .count) 0) e in
-            ap (λ (x : Stepped). told x work store) w
+            ap (λ (x : Stepped). handedBack x work store) w
             ∙ ap (λ (x : State). turn Going x work store) y
             ∙ ap (λ (x : State). turn Going (withNumbers (movedTo x next) (assignedOf (x .numbers) at (q .cell))) work store) (c .1)
             ∙ ap (λ (x : State). turn Going (withNumbers x (assignedOf (st .numbers) at (q .cell))) work store) (popped-on st 1 next)
@@ -165,7 +165,7 @@ module _ (st : State) (m next at : ℕ) (f : at ≡ seekOf (st .numbers) m) wher
           wide-at : wide ≡ getD (st .numbers .wides) (seekOf (st .numbers) m) false
           wide-at = j ∙ ap (λ (x : ℕ). getD (st .numbers .wides) x false) f
 
-          by : (x : Bool) → ltb (st .calls .count) 16 ≡ x → told r work store ≡ doneOf (scene rom work store st) (tokenOf m 0x1100_0000 o next)
+          by : (x : Bool) → ltb (st .calls .count) 16 ≡ x → handedBack r work store ≡ doneOf (scene rom work store st) (tokenOf m 0x1100_0000 o next)
           by true c =
               rw (w, c, value-at, wide-at)
               (sym (carried (scene rom work store st) (tokenOf m 0x1100_0000 o next)
@@ -210,7 +210,7 @@ module _ (rom : List ℕ) (size : ℕ) (wide : Bool) (kinds : List ℕ) where
   unfolding readOf
   read-why within p = judged-why within (decodeOf rom size wide p)
 
-  onward-why : (ends unknown : Bool) (p q : ℕ) (go : ℕ → Body) → Why (go q) → Why (onward ends unknown p go q)
+  onward-why : (ends unknown : Bool) (p q : ℕ) (go : ℕ → Body) → Why (go q) → Why (bodyOnward ends unknown p go q)
   onward-why true unknown p q go h = tt
   onward-why false true p q go h = refl
   onward-why false false p q go h = h
@@ -264,7 +264,7 @@ module _ (st : State) (m next : ℕ) (h : st .stack .height ≤ 64) (e : Fresh (
   pub value-low-told : (k : ℕ) (r : Stepped) → TakesValue k → st .stack .height < 1 → r ≡ stepped (Refused 14) st
       → QuietOf define (Definition m k) st next r
   value-low-told k r t l w n rom work store =
-      by-kind k (λ (x : ℕ). told r work store ≡ doneOf (scene rom work store st) (tokenOf n 0x0E15_0000 (Definition m x) next)) t
+      by-kind k (λ (x : ℕ). handedBack r work store ≡ doneOf (scene rom work store st) (tokenOf n 0x0E15_0000 (Definition m x) next)) t
       (rw w (sym (stopped (scene rom work store st) (tokenOf n 0x0E15_0000 (Definition m value) next) 14 refl
       (value-low (scene rom work store st) n (Definition m value) next m (e .0) (e .1) h l))))
       (rw w (sym (stopped (scene rom work store st) (tokenOf n 0x0E15_0000 (Definition m constant) next) 14 refl
@@ -280,7 +280,7 @@ module _ (st : State) (m next : ℕ) (h : st .stack .height ≤ 64) (e : Fresh (
     unfolding actOf effects
     value-told k d r t g w n rom work store =
         let c = first-pop st p l f in
-        ap (λ (x : Stepped). told x work store) w
+        ap (λ (x : Stepped). handedBack x work store) w
         ∙ ap (λ (x : State). turn Going x work store) g
         ∙ ap (λ (x : State). turn Going (withNumbers (movedTo x next) (definedOf (x .numbers) m k (p .cell) (x .wide))) work store) (c .1)
         ∙ ap (λ (x : State). turn Going (withNumbers x (definedOf (st .numbers) m k (p .cell) (st .wide))) work store) (popped-on st 1 next)
@@ -310,7 +310,7 @@ module _ (st : State) (m next at : ℕ) (h : st .stack .height ≤ 64) (e : Fres
       → Variables m work then st next r
   unfolding actOf effects
   variable-told work then d r l a g w rom n store =
-      ap (λ (x : Stepped). told x then store) w
+      ap (λ (x : Stepped). handedBack x then store) w
       ∙ ap (λ (x : State). turn Going (withWork (movedTo x next) (at + 4)) then store) g
       ∙ ap (λ (x : List ℕ). turn Going (withWork (movedTo (withNumbers st (numbered at)) next) (at + 4)) x store) a
       ∙ ap (λ (x : ℕ). turn Going (withWork (movedTo (withNumbers st (numbered x)) next) (x + 4)) (writtenOf work x (bytesOf 0)) store) i

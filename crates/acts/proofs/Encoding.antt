@@ -10,19 +10,19 @@ use Rattle.tokens.specs.Family.{encodeInt, encodeString, join}
 use Rattle.tokens.specs.Decode.{tokenOf}
 use Rattle.memory.specs.Window.{badRange, rangeOf, windowOf, partOf, resolveOf}
 use Rattle.memory.specs.Writing.{writtenOf, bytesOf}
-use Rattle.memory.specs.Laws.{written-append, written-more, written-none, length-resolved, range-rom, resolved-rom, resolved-work, resolved-none}
+use Rattle.memory.specs.Laws.Memory.{written-append, written-more, written-none, length-resolved, range-rom, resolved-rom, resolved-work, resolved-none}
 use Rattle.memory.specs.declared.window.Window.{Window}
 use Rattle.memory.specs.declared.window.Window.the-variants.{Rom, Work, Nowhere}
 use Rattle.state.specs.State.{withWork, moved}
-use Rattle.state.specs.Scene.{scene, turn, told}
+use Rattle.state.specs.Scene.{scene, turn, handedBack}
 use Rattle.state.specs.Effects.{gave, effects, actOf}
-use Rattle.state.specs.Moves.{Popped, stepped, popOf}
-use Rattle.acts.specs.Acts.{Quiet, Writes, WritesFrom, pairOn, encodedOn}
+use Rattle.state.specs.Joints.Moves.{Popped, stepped, popOf}
+use Rattle.acts.specs.Joints.Acts.{Quiet, Writes, WritesFrom, pairOn, encodedOn}
 use Rattle.state.specs.declared.state.State.{State}
 use Rattle.state.specs.declared.answer.Answer.the-variants.{Going, Refused}
 use Rattle.state.specs.declared.answer.Stepped.{Stepped}
 use Rattle.acts.proofs.Cold.{join-apart, join-good, int-good, string-bad, string-full, string-good}
-use Rattle.state.specs.Done.{carried, stopped}
+use Rattle.state.specs.Laws.Done.{carried, stopped}
 use Rattle.acts.proofs.Pops.{poppedBy, cellAt, first-pop, two-pops, four-pops, lowered, paired-on}
 
 -- ---- encode+
@@ -52,9 +52,9 @@ encodedBy st k next count =
     withWork (moved st (gave st k ((0x2000_0000 + st .«work_place») ∷ count ∷ [])) next) (st .«work_place» + count)
 
 encoded-told : (st : State) (k next count : ℕ) (s : State) (r : Stepped) (then store : List ℕ) → s ≡ poppedBy st k → r ≡ stepped Going (encodedOn s next count)
-    → told r then store ≡ turn Going (encodedBy st k next count) then store
+    → handedBack r then store ≡ turn Going (encodedBy st k next count) then store
 encoded-told st k next count s r then store e w =
-    ap (λ (x : Stepped). told x then store) w
+    ap (λ (x : Stepped). handedBack x then store) w
     ∙ ap (λ (x : State). turn Going (encodedOn x next count) then store) e
     ∙ ap (λ (x : State). turn Going (withWork x (st .«work_place» + count)) then store) (paired-on st k next (0x2000_0000 + st .«work_place») count)
 

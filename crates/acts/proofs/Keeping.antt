@@ -14,20 +14,20 @@ use Rattle.tokens.specs.declared.decoding.Token.{Token}
 use Rattle.memory.specs.Window.{badRange, resolveOf}
 use Rattle.tree.specs.Whole.{wholeTree}
 use Rattle.tree.specs.Property.{valueOf, badName, overfull, wouldHold, putRefusal, treePut, storePut, putOf, storeOf}
-use Rattle.tree.specs.Node.{Written, noRoom, outermost, childOf, finishedOf, newDeviceOf, finishDeviceOf, refusedOf}
-use Rattle.tree.specs.Node.{doneOf as treeDone}
+use Rattle.tree.specs.Node.{Written, noRoom, outermost, childOf, finishedOf, newDeviceOf, finishDeviceOf, writeRefused}
+use Rattle.tree.specs.Node.{writeDone as treeDone}
 use Rattle.tree.specs.declared.tree.Tree.{Tree}
 use Rattle.tree.specs.declared.tree.Outcome.{Outcome}
 use Rattle.tree.specs.declared.tree.Outcome.the-variants.{Done, Refused as NotDone}
 use Rattle.state.specs.State.{moved, movedTo, withTree}
-use Rattle.state.specs.Scene.{Scene, scene, turn, told}
+use Rattle.state.specs.Scene.{Scene, scene, turn, handedBack}
 use Rattle.state.specs.Refusals.{refusalOf, titleOf}
-use Rattle.state.specs.Titles.{title-good}
+use Rattle.state.specs.Laws.Titles.{title-good}
 use Rattle.state.specs.Effects.{gave, effects, actOf}
-use Rattle.state.specs.Moves.{Popped, stepped, popOf, restacked}
-use Rattle.state.specs.Apart.{Arrays, joined, backOn, handed}
+use Rattle.state.specs.Joints.Moves.{Popped, stepped, popOf, restacked}
+use Rattle.state.specs.Joints.Apart.{Arrays, joined, backOn, handed}
 use Rattle.state.specs.Step.{doneOf}
-use Rattle.acts.specs.Acts.{Quiet, KeepsFrom, KeepsBy, outcomeOn, keptOn, filedCore, filedOf}
+use Rattle.acts.specs.Joints.Acts.{Quiet, KeepsFrom, KeepsBy, outcomeOn, keptOn, filedCore, filedOf}
 use Rattle.state.specs.declared.state.State.{State}
 use Rattle.state.specs.declared.answer.Answer.the-variants.{Going, Refused}
 use Rattle.state.specs.declared.answer.Stepped.{Stepped}
@@ -35,14 +35,14 @@ use Rattle.state.specs.declared.apart.Core.{Core}
 use Rattle.tree.specs.declared.in_place.Tail.{Tail}
 use Rattle.acts.specs.declared.acted.Acted.{Acted}
 use Rattle.acts.proofs.Cold.{open-full, open-good, close-outermost, close-good, property-bad-name, property-bad-value, property-put, title-bad, title-put}
-use Rattle.state.specs.Done.{carried, stopped}
+use Rattle.state.specs.Laws.Done.{carried, stopped}
 use Rattle.acts.proofs.Pops.{poppedBy, cellAt, two-pops, four-pops, popped-on}
 
 -- ---- what a call in place on the tree leaves: refused, the tree as it was
 never-done : (why : ℕ) → Done ≡ NotDone why → ⊥
 never-done why e = let z : _≡_ {A = ℕ} 0 1 = cc in omega arith
 
-same-tree : (b : Bool) (n : ℕ) (t u : Tree) (why : ℕ) → pick b (refusedOf n t) (treeDone u) .outcome ≡ NotDone why → pick b (refusedOf n t) (treeDone u) .tree ≡ t
+same-tree : (b : Bool) (n : ℕ) (t u : Tree) (why : ℕ) → pick b (writeRefused n t) (treeDone u) .outcome ≡ NotDone why → pick b (writeRefused n t) (treeDone u) .tree ≡ t
 same-tree true n t u why e = refl
 same-tree false n t u why e = absurd (never-done why e)
 
@@ -58,8 +58,8 @@ module _ (w : Written) (why : ℕ) (f : w .outcome ≡ NotDone why) where
   put-same t store name value e =
       by (eqb (putRefusal t store name value) 0) (ap (λ (x : Written). x .outcome) (sym e) ∙ f) (ap (λ (x : Written). x .tree) e)
     where
-      by : (b : Bool) → pick b (treeDone (treePut t store name value)) (refusedOf (putRefusal t store name value) t) .outcome ≡ NotDone why
-          → w .tree ≡ pick b (treeDone (treePut t store name value)) (refusedOf (putRefusal t store name value) t) .tree → w .tree ≡ t
+      by : (b : Bool) → pick b (treeDone (treePut t store name value)) (writeRefused (putRefusal t store name value) t) .outcome ≡ NotDone why
+          → w .tree ≡ pick b (treeDone (treePut t store name value)) (writeRefused (putRefusal t store name value) t) .tree → w .tree ≡ t
       by true a b = absurd (never-done why a)
       by false a b = b
 
@@ -95,16 +95,16 @@ filed-numbers k taken next records tail (NotDone why) r e =
 
 -- ---- nodes
 module _ (st : State) (next : ℕ) (h : st .stack .height ≤ 64) (w : Written) (r : Stepped) (k : r ≡ keptOn st st next w) where
-  given : (v : Written) (work store : List ℕ) → w ≡ v → told r work store ≡ told (keptOn st st next v) work store
-  given v work store e = ap (λ (x : Stepped). told x work store) k ∙ ap (λ (x : Written). told (keptOn st st next x) work store) e
+  given : (v : Written) (work store : List ℕ) → w ≡ v → handedBack r work store ≡ handedBack (keptOn st st next v) work store
+  given v work store e = ap (λ (x : Stepped). handedBack x work store) k ∙ ap (λ (x : Written). handedBack (keptOn st st next x) work store) e
 
   pub open-told : w ≡ newDeviceOf (st .tree) → Quiet newDevice st next r
   unfolding actOf effects
   open-told e o n rom work store = by (noRoom (st .tree)) refl
     where
-      by : (b : Bool) → noRoom (st .tree) ≡ b → told r work store ≡ doneOf (scene rom work store st) (tokenOf n 0x1710_0000 o next)
+      by : (b : Bool) → noRoom (st .tree) ≡ b → handedBack r work store ≡ doneOf (scene rom work store st) (tokenOf n 0x1710_0000 o next)
       by true f =
-          given (refusedOf 20 (st .tree)) work store (e ∙ rw f)
+          given (writeRefused 20 (st .tree)) work store (e ∙ rw f)
           ∙ sym (stopped (scene rom work store st) (tokenOf n 0x1710_0000 o next) 20 refl (open-full (scene rom work store st) n o next h f))
       by false f =
           given (treeDone (childOf (st .tree))) work store (e ∙ rw f)
@@ -114,9 +114,9 @@ module _ (st : State) (next : ℕ) (h : st .stack .height ≤ 64) (w : Written) 
   unfolding actOf effects
   close-told e o n rom work store = by (outermost (st .tree)) refl
     where
-      by : (b : Bool) → outermost (st .tree) ≡ b → told r work store ≡ doneOf (scene rom work store st) (tokenOf n 0x1810_0000 o next)
+      by : (b : Bool) → outermost (st .tree) ≡ b → handedBack r work store ≡ doneOf (scene rom work store st) (tokenOf n 0x1810_0000 o next)
       by true f =
-          given (refusedOf 20 (st .tree)) work store (e ∙ rw f)
+          given (writeRefused 20 (st .tree)) work store (e ∙ rw f)
           ∙ sym (stopped (scene rom work store st) (tokenOf n 0x1810_0000 o next) 20 refl (close-outermost (scene rom work store st) n o next h f))
       by false f =
           given (treeDone (finishedOf (st .tree))) work store (e ∙ rw f)
@@ -129,12 +129,12 @@ module _ (rom work store : List ℕ) (st : State) (t : Token) (next takes : ℕ)
 
   put-told : refusalOf s t ≡ putRefusal (st .tree) store name value
       → actOf s t ≡ turn Going (withTree (moved st (gave st takes []) next) (treePut (st .tree) store name value)) work (storePut (st .tree) store name value)
-      → told (keptOn st (poppedBy st takes) next (putOf (st .tree) store name value)) work (storeOf (st .tree) store name value) ≡ doneOf s t
+      → handedBack (keptOn st (poppedBy st takes) next (putOf (st .tree) store name value)) work (storeOf (st .tree) store name value) ≡ doneOf s t
   unfolding putOf storeOf
   put-told e f = by (eqb (putRefusal (st .tree) store name value) 0) refl
     where
       by : (b : Bool) → eqb (putRefusal (st .tree) store name value) 0 ≡ b
-          → told (keptOn st (poppedBy st takes) next (putOf (st .tree) store name value)) work (storeOf (st .tree) store name value) ≡ doneOf s t
+          → handedBack (keptOn st (poppedBy st takes) next (putOf (st .tree) store name value)) work (storeOf (st .tree) store name value) ≡ doneOf s t
       by true z =
           rw z
           (ap (λ (x : State). turn Going (withTree x (treePut (st .tree) store name value)) work (storePut (st .tree) store name value)) (popped-on st takes next)
@@ -144,12 +144,12 @@ module _ (rom work store : List ℕ) (st : State) (t : Token) (next takes : ℕ)
   pub put-by : (taken : State) (w : Written) (then : List ℕ) (r : Stepped) → refusalOf s t ≡ putRefusal (st .tree) store name value
       → actOf s t ≡ turn Going (withTree (moved st (gave st takes []) next) (treePut (st .tree) store name value)) work (storePut (st .tree) store name value)
       → taken ≡ poppedBy st takes → w ≡ putOf (st .tree) store name value → then ≡ storeOf (st .tree) store name value → r ≡ keptOn st taken next w
-      → told r work then ≡ doneOf s t
+      → handedBack r work then ≡ doneOf s t
   put-by taken w then r e f a b c d =
-      ap (λ (x : Stepped). told x work then) d
-      ∙ ap (λ (x : State). told (keptOn st x next w) work then) a
-      ∙ ap (λ (x : Written). told (keptOn st (poppedBy st takes) next x) work then) b
-      ∙ ap (λ (x : List ℕ). told (keptOn st (poppedBy st takes) next (putOf (st .tree) store name value)) work x) c
+      ap (λ (x : Stepped). handedBack x work then) d
+      ∙ ap (λ (x : State). handedBack (keptOn st x next w) work then) a
+      ∙ ap (λ (x : Written). handedBack (keptOn st (poppedBy st takes) next x) work then) b
+      ∙ ap (λ (x : List ℕ). handedBack (keptOn st (poppedBy st takes) next (putOf (st .tree) store name value)) work x) c
       ∙ put-told e f
 
 -- ---- why it is refused, of a store and a tree that are whole

@@ -19,11 +19,11 @@ use Rattle.state.specs.State.{moved}
 use Rattle.state.specs.Scene.{Scene, scene, turn, refuse, goes, cellOf}
 use Rattle.state.specs.Effects.{gave, effects, actOf}
 use Rattle.state.specs.Step.{doneOf}
-use Rattle.acts.specs.Acts.{ofCell, lookOf, storeWhy, storeThen}
+use Rattle.acts.specs.Joints.Acts.{ofCell, lookOf, storeWhy, storeThen}
 use Rattle.state.specs.declared.state.State.{State}
 use Rattle.state.specs.declared.answer.Answer.the-variants.{Going, Refused}
 use Rattle.acts.proofs.Cold.{fetch-cell, fetch-byte, store-cell, store-byte}
-use Rattle.state.specs.Done.{carried, stopped}
+use Rattle.state.specs.Laws.Done.{carried, stopped}
 
 module _ (rom work store : List ℕ) (st : State) (n : ℕ) (o : Operand) (next : ℕ) (h : st .stack .height ≤ 64) where
   abbrev s : Scene

@@ -8,8 +8,8 @@ use lib.ListN.{getD}
 use Rattle.state.specs.Stacks.{stacks, leftOf, topOf}
 use Rattle.state.specs.State.{moved, movedTo}
 use Rattle.state.specs.Effects.{gave}
-use Rattle.state.specs.Moves.{Popped, stepped, restacked, pushOf, popOf}
-use Rattle.acts.specs.Acts.{pairOn}
+use Rattle.state.specs.Joints.Moves.{Popped, stepped, restacked, pushOf, popOf}
+use Rattle.acts.specs.Joints.Acts.{pairOn}
 use Rattle.state.specs.declared.state.State.{State}
 use Rattle.state.specs.declared.answer.Answer.the-variants.{Going}
 use Rattle.state.specs.declared.answer.Stepped.{Stepped}

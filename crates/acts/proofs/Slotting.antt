@@ -12,15 +12,15 @@ use Rattle.tokens.specs.Table.{isProgram}
 use Rattle.tokens.specs.Family.{assign, call}
 use Rattle.tokens.specs.Body.{numberIn}
 use Rattle.tokens.specs.declared.decoding.Operand.{Operand}
-use Rattle.state.specs.Numbers.{seekOf, isHeld, kindOfByte, kindAt, kindHeld, kindsFrom, putKind, definedOf}
-use Rattle.state.specs.Seeking.{slotsOf, slot-none, slot-some, tablePast, table-defined, kinds-all}
-use Rattle.state.specs.Moves.{stepped}
+use Rattle.state.specs.Numbers.{seekOf, isHeld, kindOfByte, kindAt, kindHeld, kindsFrom, definedOf}
+use Rattle.state.specs.Laws.Seeking.{slotsOf, slot-none, slot-some, tablePast, table-defined, kinds-all, putKind}
+use Rattle.state.specs.Joints.Moves.{stepped}
 use Rattle.state.specs.declared.state.State.{State}
 use Rattle.state.specs.declared.state.Numbers.{Numbers}
 use Rattle.state.specs.declared.answer.Answer.the-variants.{Refused}
 use Rattle.state.specs.declared.answer.Stepped.{Stepped}
-use Rattle.state.specs.Apart.{numbersOn}
-use Rattle.acts.specs.Acts.{QuietOf, QuietBy, Tabled, Tables, slotIn}
+use Rattle.state.specs.Joints.Apart.{numbersOn}
+use Rattle.acts.specs.Joints.Acts.{QuietOf, QuietBy, Tabled, Tables, slotIn}
 use Rattle.acts.proofs.Defining.{enter-outside, enter-none, assign-outside, assign-none}
 
 module _ (slots : List ℕ) (ns : Numbers) (n slot : ℕ) (e : slots ≡ slotsOf ns) (f : slot ≡ slotIn slots n) where

@@ -3,8 +3,8 @@
 ghost use mathlib.Core.Path.{_≡_};
 ghost use Prim.Native.Nat.{_≤_};
 ghost use lib.ListN.{length};
-ghost use Rattle.state.specs.Hot.{Cold};
-ghost use Rattle.acts.specs.Acts.{Fit, Seen, Comes, Kept, everyOn, whyIn};
+ghost use Rattle.state.specs.Joints.Hot.{Cold};
+ghost use Rattle.acts.specs.Joints.Acts.{Fit, GlanceSeen, Comes, ActsKept, everyOn, whyIn};
 use crate::acted::Acted;
 use crate::acted::refuse;
 use crate::acted::with_tail;
@@ -58,9 +58,9 @@ fn act(
     tail: Tail,
     seen: Glance,
 ) -> Acted
-    requires { ⌜ Fit (now rom) core × Seen (now rom) core seen × Cold (now rom) (core .place) × (length (now names) ≡ 256)
+    requires { ⌜ Fit (now rom) core × GlanceSeen (now rom) core seen × Cold (now rom) (core .place) × (length (now names) ≡ 256)
         × (length (now kinds) ≡ 256)
-        × Kept (now slots) (now known) (now names) (now kinds) (now store) (now titles) (now sizes) core tail ⌝ }
+        × ActsKept (now slots) (now known) (now names) (now kinds) (now store) (now titles) (now sizes) core tail ⌝ }
     ensures { λ r. ⌜ Comes (now (rom .entry))
         (everyOn (now (cells .entry)) (now (places .entry)) (now (wides .entry)) (now (bases .entry)) (now (names .entry))
         (now (kinds .entry)) (now (values .entry)) (now (ways .entry))
@@ -70,7 +70,7 @@ fn act(
         (now (values .exit)) (now (ways .exit))
         (now (parents .exit)) (now (owners .exit)) (now (titles .exit)) (now (sizes .exit)))
         (now (work .exit)) (now (store .exit))
-        × Kept (now (slots .exit)) (now (known .exit)) (now (names .exit)) (now (kinds .exit)) (now (store .exit)) (now (titles .exit))
+        × ActsKept (now (slots .exit)) (now (known .exit)) (now (names .exit)) (now (kinds .exit)) (now (store .exit)) (now (titles .exit))
         (now (sizes .exit)) (r .core) (r .tail) ⌝ }
 {
     let number = seen.number;
@@ -202,7 +202,7 @@ fn by_glance(
     tail: Tail,
 ) -> Acted
     requires { ⌜ Fit (now rom) core × Cold (now rom) (core .place) × (length (now names) ≡ 256) × (length (now kinds) ≡ 256)
-        × Kept (now slots) (now known) (now names) (now kinds) (now store) (now titles) (now sizes) core tail ⌝ }
+        × ActsKept (now slots) (now known) (now names) (now kinds) (now store) (now titles) (now sizes) core tail ⌝ }
     ensures { λ r. ⌜ Comes (now (rom .entry))
         (everyOn (now (cells .entry)) (now (places .entry)) (now (wides .entry)) (now (bases .entry)) (now (names .entry))
         (now (kinds .entry)) (now (values .entry)) (now (ways .entry))
@@ -212,7 +212,7 @@ fn by_glance(
         (now (values .exit)) (now (ways .exit))
         (now (parents .exit)) (now (owners .exit)) (now (titles .exit)) (now (sizes .exit)))
         (now (work .exit)) (now (store .exit))
-        × Kept (now (slots .exit)) (now (known .exit)) (now (names .exit)) (now (kinds .exit)) (now (store .exit)) (now (titles .exit))
+        × ActsKept (now (slots .exit)) (now (known .exit)) (now (names .exit)) (now (kinds .exit)) (now (store .exit)) (now (titles .exit))
         (now (sizes .exit)) (r .core) (r .tail) ⌝ }
 {
     let seen = glance_at(rom, core.length, core.wide, core.place);
@@ -270,7 +270,7 @@ pub fn cold_token(
     tail: Tail,
 ) -> Acted
     requires { ⌜ Fit (now rom) core × Cold (now rom) (core .place) × (length (now names) ≡ 256) × (length (now kinds) ≡ 256)
-        × Kept (now slots) (now known) (now names) (now kinds) (now store) (now titles) (now sizes) core tail ⌝ }
+        × ActsKept (now slots) (now known) (now names) (now kinds) (now store) (now titles) (now sizes) core tail ⌝ }
     ensures { λ r. ⌜ Comes (now (rom .entry))
         (everyOn (now (cells .entry)) (now (places .entry)) (now (wides .entry)) (now (bases .entry)) (now (names .entry))
         (now (kinds .entry)) (now (values .entry)) (now (ways .entry))
@@ -280,7 +280,7 @@ pub fn cold_token(
         (now (values .exit)) (now (ways .exit))
         (now (parents .exit)) (now (owners .exit)) (now (titles .exit)) (now (sizes .exit)))
         (now (work .exit)) (now (store .exit))
-        × Kept (now (slots .exit)) (now (known .exit)) (now (names .exit)) (now (kinds .exit)) (now (store .exit)) (now (titles .exit))
+        × ActsKept (now (slots .exit)) (now (known .exit)) (now (names .exit)) (now (kinds .exit)) (now (store .exit)) (now (titles .exit))
         (now (sizes .exit)) (r .core) (r .tail) ⌝ }
 {
     let place = core.place;

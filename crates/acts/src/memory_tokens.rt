@@ -2,8 +2,8 @@
 ghost use mathlib.Core.Path.{_≡_};
 ghost use Prim.Native.Nat.{_≤_};
 ghost use Rattle.tokens.specs.Family.{fetch, store};
-ghost use Rattle.state.specs.Apart.{onStack, Moves, Looks};
-ghost use Rattle.acts.specs.Acts.{ReadsBy, WritesBy, ofCell, lookOf, storeWhy, storeThen};
+ghost use Rattle.state.specs.Joints.Apart.{onStack, Moves, Looks};
+ghost use Rattle.acts.specs.Joints.Acts.{ReadsBy, WritesBy, ofCell, lookOf, storeWhy, storeThen};
 use memory::Fetched;
 use memory::fetch_byte;
 use memory::fetch_cell;

@@ -1,8 +1,8 @@
 // Nodes opened and closed.
 ghost use Prim.Native.Nat.{_≤_};
 ghost use Rattle.tokens.specs.Family.{newDevice, finishDevice};
-ghost use Rattle.state.specs.Apart.{onNodes, Moves, Looks};
-ghost use Rattle.acts.specs.Acts.{Quiet};
+ghost use Rattle.state.specs.Joints.Apart.{onNodes, Moves, Looks};
+ghost use Rattle.acts.specs.Joints.Acts.{Quiet};
 use state::Core;
 use state::Handed;
 use state::go;

@@ -1,7 +1,7 @@
 // Program numbers: entered, and given another value.
 ghost use mathlib.Core.Path.{_≡_};
 ghost use Prim.Native.Nat.{_≤_};
-ghost use Rattle.acts.specs.Acts.{Assigns, Enters, Slotted};
+ghost use Rattle.acts.specs.Joints.Acts.{Assigns, Enters, Slotted};
 use crate::tables::slot_of;
 use rom::sizes::DATA_MOST;
 use state::Core;

@@ -4,8 +4,9 @@ ghost use mathlib.Core.Path.{_≡_};
 ghost use Prim.Native.Nat.{_≤_, _<_, _+_};
 ghost use lib.ListN.{replicate};
 ghost use mathlib.Core.List.{List};
-ghost use Rattle.state.specs.Numbers.{kindOfByte, putKind};
-ghost use Rattle.acts.specs.Acts.{Tables, Tabled, slotIn};
+ghost use Rattle.state.specs.Numbers.{kindOfByte};
+ghost use Rattle.acts.specs.Joints.Acts.{Tables, Tabled, slotIn};
+ghost use Rattle.state.specs.Laws.Seeking.{putKind};
 use tokens::is_program;
 
 fn wide(x: u16) -> usize

@@ -4,9 +4,9 @@ use Prim.Native.Nat.{ℕ}
 use mathlib.Core.List.{List}
 use lib.Dec.{eqb}
 use Rattle.cells.specs.Choice.{pick}
-use Rattle.state.specs.Scene.{numberOf}
+use Rattle.state.specs.Scene.{answerNumber}
 use Rattle.state.specs.Open.{openRefusal, openOf}
-use Rattle.state.specs.Run.{Outcome}
+use Rattle.state.specs.Run.{RunResult}
 use Rattle.listing.specs.Listing.{startedOf}
 
 -- a run that the host asked for: its number, the tokens carried out, and the two memories then
@@ -19,8 +19,8 @@ pub record HostRun : Type 0 where
 abbrev pub hostRun : ℕ → ℕ → List ℕ → List ℕ → HostRun
 hostRun number steps work store = record { number = number; steps = steps; work = work; store = store }
 
-abbrev pub hostRan : Outcome → HostRun
-hostRan o = hostRun (numberOf (o .answer)) (o .count) (o .work) (o .store)
+abbrev pub hostRan : RunResult → HostRun
+hostRan o = hostRun (answerNumber (o .answer)) (o .count) (o .work) (o .store)
 
 -- opened, and run from there; a refused opening carries nothing out and leaves the memories as they were
 unfoldable pub hostRunOf : List ℕ → List ℕ → List ℕ → ℕ → HostRun

@@ -2,8 +2,8 @@
 // total; a null pointer is fine where the count is 0.
 ghost use mathlib.Core.Path.{_≡_};
 ghost use Rattle.rom.specs.Header.{headerOf};
-ghost use Rattle.screen.specs.Screen.{screenedOf, numberOf};
-ghost use Rattle.listing.specs.Listing.{listed, listOf};
+ghost use Rattle.screen.specs.Laws.Found.Screen.{screenedOf, verdictNumber};
+ghost use Rattle.listing.specs.Listing.{listedWith, listOf};
 ghost use Rattle.host.specs.Host.{hostRun, hostRunOf};
 use listing::list;
 use machine::run;
@@ -24,7 +24,7 @@ pub extern "C" fn fcode_check(rom: &[u8]) -> u32
 // The screen: 0 for a ROM that passes, with its marks; else 6, 1 to 5, or 31.
 #[no_mangle]
 pub extern "C" fn fcode_screen(rom: &[u8], marks: &mut [u8]) -> u32
-    ensures { λ r. ⌜ (r ≡ numberOf (screenedOf (now (rom .entry)) (now (marks .entry)) .verdict))
+    ensures { λ r. ⌜ (r ≡ verdictNumber (screenedOf (now (rom .entry)) (now (marks .entry)) .verdict))
         × (now (marks .exit) ≡ screenedOf (now (rom .entry)) (now (marks .entry)) .marks) ⌝ }
 {
     match screen(rom, marks) {
@@ -69,7 +69,7 @@ pub extern "C" fn fcode_list(
     budget: u32,
     text: &mut [u8],
 ) -> usize
-    ensures { λ r. ⌜ listed r (now (marks .exit)) (now (work .exit)) (now (store .exit)) (now (text .exit))
+    ensures { λ r. ⌜ listedWith r (now (marks .exit)) (now (work .exit)) (now (store .exit)) (now (text .exit))
         ≡ listOf (now (rom .entry)) (now (marks .entry)) (now (work .entry)) (now (store .entry)) budget (now (text .entry)) ⌝ }
 {
     list(rom, marks, work, store, budget, text)

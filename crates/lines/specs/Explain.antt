@@ -19,7 +19,7 @@ use Rattle.lines.specs.Digits.{decimalOf, hexPair, hexWord}
 use Rattle.lines.specs.Printed.{textOf, isText}
 use Rattle.tokens.specs.Reader.{endOf}
 use Rattle.lines.specs.Lines.{lineEnd, ownLines}
-use Rattle.lines.specs.TokenLines.{placeOf, lineText, rawLine, pieceText}
+use Rattle.lines.specs.TokenLines.{placeText, lineText, rawLine, pieceText}
 use Rattle.lines.specs.Tally.{tallyOf}
 use Rattle.lines.specs.Verdicts.{verdictOf}
 use Rattle.lines.specs.declared.tally.Tally.{Tally}
@@ -74,8 +74,8 @@ headerLines rom = pick (ltb romMost (length rom)) overLine (sizeLine (length rom
 abbrev pub isTitle : List ℕ → Bool
 isTitle value = leb 2 (length value) && (leb (length value) 32 && isText value)
 
-unfoldable pub titleOf : Tree → List ℕ → ℕ → List ℕ
-titleOf t store k =
+unfoldable pub titleShown : Tree → List ℕ → ℕ → List ℕ
+titleShown t store k =
     pick (isTitle (ownValueOf t store k (lettersOf "name"))) (textOf (ownValueOf t store k (lettersOf "name")))
     (lettersOf "(node " ++ (decimalOf k ++ lettersOf ")"))
 
@@ -83,7 +83,7 @@ titleOf t store k =
 unfoldable pub pathTo : Tree → List ℕ → ℕ → ℕ → List ℕ
 pathTo t store zero k = []
 pathTo t store (suc n) k =
-    elim (eqb k 0) [ true ↦ [] | false ↦ pathTo t store n (parentOf t k) ++ (lettersOf "/" ++ titleOf t store k) ]
+    elim (eqb k 0) [ true ↦ [] | false ↦ pathTo t store n (parentOf t k) ++ (lettersOf "/" ++ titleShown t store k) ]
 
 -- "/scale/hopper"; the root is "/"
 unfoldable pub pathLine : Tree → List ℕ → ℕ → List ℕ
@@ -113,7 +113,7 @@ programLines rom = pick (ltb romMost (length rom)) [] (tallyLines rom (tallyOf r
 
 -- ---- where a run ended: the token that was refused, or the one that is next where the budget is spent
 unfoldable pub endLine : List ℕ → ℕ → List ℕ
-endLine rom p = pick (leb (endOf rom) p) (placeOf p ++ (lettersOf " the program's end" ++ lineEnd)) []
+endLine rom p = pick (leb (endOf rom) p) (placeText p ++ (lettersOf " the program's end" ++ lineEnd)) []
 
 unfoldable pub atLine : List ℕ → Bool → ℕ → List ℕ
 atLine rom wide p = lettersOf "at: " ++ (endLine rom p ++ pieceText rom wide p)

@@ -35,8 +35,8 @@ abbrev pub between : List ℕ → ℕ → ℕ → List ℕ
 between rom from to = partOf rom from (to - from)
 
 -- a place in four digits, its lowest two bytes: a ROM has at most 16,384 bytes
-unfoldable pub placeOf : ℕ → List ℕ
-placeOf p = hexOf (p / 256 % 256 ∷ p % 256 ∷ [])
+unfoldable pub placeText : ℕ → List ℕ
+placeText p = hexOf (p / 256 % 256 ∷ p % 256 ∷ [])
 
 -- where the parts of an operand meet that starts at a place and ends at another: a string's length byte and its bytes; a number and the kind behind it; or
 -- a string, a number and a kind. Any other operand is one part
@@ -69,7 +69,7 @@ allShown (x ∷ xs) = shown x ++ allShown xs
 -- ---- the remarks, each of them empty or behind a space
 -- where a branch leads
 abbrev pub aimRemark : Aim → List ℕ
-aimRemark (Inside to) = lettersOf " to " ++ placeOf to
+aimRemark (Inside to) = lettersOf " to " ++ placeText to
 aimRemark Outside = lettersOf " to no place of the program"
 
 abbrev pub branchRemark : Operand → List ℕ
@@ -105,14 +105,14 @@ pub record Line : Type 0 where
 -- what is written of it, and the bytes that its parts show, one part behind the other
 unfoldable pub lineText : Line → List ℕ
 lineText l =
-    placeOf (l .place) ++ (allShown (l .number) ++ (lettersOf " " ++ (l .word ++ ((allShown (l .rest) ++ l .remark) ++ lineEnd))))
+    placeText (l .place) ++ (allShown (l .number) ++ (lettersOf " " ++ (l .word ++ ((allShown (l .rest) ++ l .remark) ++ lineEnd))))
 
-unfoldable pub joined : List (List ℕ) → List ℕ
-joined [] = []
-joined (x ∷ xs) = x ++ joined xs
+unfoldable pub partsJoined : List (List ℕ) → List ℕ
+partsJoined [] = []
+partsJoined (x ∷ xs) = x ++ partsJoined xs
 
 abbrev pub lineBytes : Line → List ℕ
-lineBytes l = joined (l .number) ++ joined (l .rest)
+lineBytes l = partsJoined (l .number) ++ partsJoined (l .rest)
 
 -- bytes that no token of the list covers
 abbrev pub rawLine : List ℕ → ℕ → ℕ → Line

@@ -3,12 +3,13 @@ ghost use Prim.Native.Nat.{_<_, _≤_};
 ghost use mathlib.Core.Path.{_≡_};
 ghost use mathlib.Core.List.{_++_};
 ghost use lib.ListN.{length};
-ghost use Rattle.tokens.specs.Name.{nameOf, unpacked};
-ghost use Rattle.lines.specs.TokenLines.{placeOf, cutsOf, partsAt, operandParts, allShown};
+ghost use Rattle.tokens.specs.Name.{nameOf};
+ghost use Rattle.lines.specs.TokenLines.{placeText, cutsOf, partsAt, operandParts, allShown};
 ghost use Rattle.lines.specs.TokenLines.{aimRemark, branchRemark, stringRemark, tokenRemark, rawRemark};
 ghost use Rattle.lines.specs.TokenLines.{lineText, rawLine, tokenLine, pieceText, nextOf, wideBehind};
-ghost use Rattle.lines.specs.TokenLaws.{Ordered, OperandLies, TokenLies};
+ghost use Rattle.lines.specs.Laws.Tokens.{Ordered, OperandLies, TokenLies};
 ghost use Rattle.lines.specs.Wrote.{Wrote};
+ghost use Rattle.tokens.specs.Laws.Name.{unpacked};
 use crate::digits::hex_byte;
 use crate::lines::shown;
 use crate::printed::quoted;
@@ -41,7 +42,7 @@ pub struct PieceTold {
 }
 
 pub fn place_digits(text: &mut [u8], at: usize, place: usize) -> usize
-    ensures { λ r. ⌜ Wrote (now (text .entry)) (now (text .exit)) at r (placeOf place) ⌝ }
+    ensures { λ r. ⌜ Wrote (now (text .entry)) (now (text .exit)) at r (placeText place) ⌝ }
 {
     let at = hex_byte(text, at, (place / 256 % 256) as u8);
     hex_byte(text, at, (place % 256) as u8)

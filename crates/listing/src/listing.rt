@@ -3,8 +3,9 @@ ghost use mathlib.Core.Path.{_≡_};
 ghost use Prim.Native.Nat.{_≤_};
 ghost use lib.ListN.{length};
 ghost use Rattle.rom.specs.Header.{headerOf};
-ghost use Rattle.listing.specs.Listing.{ListedRun, listed, startedOf, listOf};
+ghost use Rattle.listing.specs.Listing.{listedWith, startedOf, listOf};
 ghost use Rattle.state.specs.Open.{openOf};
+ghost use Rattle.listing.specs.Laws.Listing.{ListedRun};
 use lines::refused_text;
 use lines::run_text;
 use machine::run;
@@ -43,7 +44,7 @@ pub fn list(
     budget: u32,
     text: &mut [u8],
 ) -> usize
-    ensures { λ r. ⌜ listed r (now (marks .exit)) (now (work .exit)) (now (store .exit)) (now (text .exit))
+    ensures { λ r. ⌜ listedWith r (now (marks .exit)) (now (work .exit)) (now (store .exit)) (now (text .exit))
         ≡ listOf (now (rom .entry)) (now (marks .entry)) (now (work .entry)) (now (store .entry)) budget (now (text .entry)) ⌝ }
     ensures { λ r. ⌜ r ≤ length (now (text .exit)) ⌝ }
 {

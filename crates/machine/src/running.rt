@@ -1,13 +1,13 @@
 // A step and a run. Both test the state, take it apart once, carry tokens out in place, and put it together once.
 ghost use mathlib.Core.Path.{_≡_};
 ghost use Prim.Native.Nat.{_≤_, _<_};
-ghost use Rattle.state.specs.Scene.{scene, told};
-ghost use Rattle.state.specs.Step.{readyOf, tokenOf, stepOf};
+ghost use Rattle.state.specs.Scene.{scene, handedBack};
+ghost use Rattle.state.specs.Step.{readyOf, tokenTurn, stepOf};
 ghost use Rattle.state.specs.Run.{runOf, toldRan, ranOf};
-ghost use Rattle.state.specs.Apart.{joined, arrays};
-ghost use Rattle.state.specs.Sized.{Sized};
-ghost use Rattle.acts.specs.Acts.{Ready};
-ghost use Rattle.machine.specs.Cruised.{cruisedBy, cruisedTo, oneOf};
+ghost use Rattle.state.specs.Joints.Apart.{joined, arrays};
+ghost use Rattle.state.specs.Laws.Sized.{Sized};
+ghost use Rattle.acts.specs.Joints.Acts.{Ready};
+ghost use Rattle.machine.specs.Joints.Cruised.{cruisedBy, cruisedTo, oneOf};
 use acts::cold_token;
 use acts::fill_tables;
 use reckon::Fared;
@@ -296,7 +296,7 @@ fn one(ran: Ran) -> Stepped
 // The token of a state that is ready.
 fn token(rom: &[u8], work: &mut [u8], store: &mut [u8], st: State) -> Stepped
     requires { ⌜ Ready (now rom) (now work) (now store) st × Sized st ⌝ }
-    ensures { λ r. ⌜ told r (now (work .exit)) (now (store .exit)) ≡ tokenOf
+    ensures { λ r. ⌜ handedBack r (now (work .exit)) (now (store .exit)) ≡ tokenTurn
         (scene (now (rom .entry)) (now (work .entry)) (now (store .entry)) st) ⌝ }
 {
     one(tokens(rom, work, store, st, 1))
@@ -304,7 +304,7 @@ fn token(rom: &[u8], work: &mut [u8], store: &mut [u8], st: State) -> Stepped
 
 // One token, or why it is refused; a finished state says so again. A refused step leaves the state, work memory and store as they were.
 pub fn step(rom: &[u8], work: &mut [u8], store: &mut [u8], st: State) -> Stepped
-    ensures { λ r. ⌜ told r (now (work .exit)) (now (store .exit)) ≡ stepOf
+    ensures { λ r. ⌜ handedBack r (now (work .exit)) (now (store .exit)) ≡ stepOf
         (scene (now (rom .entry)) (now (work .entry)) (now (store .entry)) st) ⌝ }
 {
     match ready(rom, &*work, &*store, st) {

@@ -10,7 +10,7 @@ use lib.ListN.{drop-of-length-le}
 use lib.Seq.{drop-cons, drop-set-lt, drop-set-add, take-set-le, take-suc, take-take, take-all, getD-drop}
 use Rattle.memory.specs.Window.{partOf}
 use Rattle.memory.specs.Writing.{writtenOf, movedOf, clearedOf}
-use Rattle.memory.specs.Laws.{written-more, written-none, written-append, written-out, written-take, set-written, length-part}
+use Rattle.memory.specs.Laws.Memory.{written-more, written-none, written-append, written-out, written-take, set-written, length-part}
 
 -- bytes of another memory
 pub laid-more : (m : List ℕ) (at : ℕ) (bs : List ℕ) (i : ℕ) → i < length bs

@@ -9,14 +9,15 @@ use lib.Seq.{set-getD}
 use Rattle.tokens.specs.Table.{ends, lows, highs, doubles, table, rowOf}
 use Rattle.tokens.specs.Code.{codeOf}
 use Rattle.rom.specs.Bytes.{word32Of}
-use Rattle.state.specs.Stacks.{stacks, outcome, leftOf, plainOf}
-use Rattle.tokens.specs.Rows.{results-fit}
-use Rattle.reckon.specs.Reckoned.{Like, OfNone, OfOne, OfTwo, OfThree}
-use Rattle.reckon.specs.Fast.{OnData, Reads, turned}
+use Rattle.state.specs.Stacks.{stacks, leftOf, plainOf}
+use Rattle.tokens.specs.Laws.Rows.{results-fit}
+use Rattle.reckon.specs.Joints.Reckoned.{Like, OfNone, OfOne, OfTwo, OfThree}
+use Rattle.reckon.specs.Joints.Fast.{OnData, Reads, turned}
 use Rattle.reckon.specs.declared.turned.Fared.the-variants.{On, Not}
 use Rattle.reckon.proofs.Made.{literal-made}
 use Rattle.reckon.proofs.Paths.{high, fine, data-fine, none-given}
 use Rattle.reckon.proofs.Given.{none-code, one-code, two-code, three-code, nothing-code}
+use Rattle.state.specs.Joints.Reckoning.{reckonedAs}
 
 -- the cell that has k others above it
 seen : (c : List ℕ) (h k : ℕ) → getD c (h - 1 - k) 0 ≡ getD c (h - (k + 1)) 0
@@ -202,7 +203,7 @@ module _ (rom : List ℕ) (size h b place : ℕ) (c : List ℕ) (t : h ≤ 64) (
       literal-made rom size h b place c t r 15 h c l t
       (λ base k. high 0x10 (word32Of rom (place + 1)) base (stacks c h k b) 0x0101_0001 literal-code (omega arith) (omega arith) (omega arith) (omega arith))
 
-  literal-left : (operand : ℕ) (k : List ℕ) → outcome 0 (stacks (set c h operand) (h + 1) k b) ≡ outcome 0 (plainOf 0x10 operand (stacks c h k b))
+  literal-left : (operand : ℕ) (k : List ℕ) → reckonedAs 0 (stacks (set c h operand) (h + 1) k b) ≡ reckonedAs 0 (plainOf 0x10 operand (stacks c h k b))
   unfolding plainOf leftOf codeOf rowOf table ends lows highs doubles
   literal-left operand k =
       let x : h - 0 ≡ h = omega arith in

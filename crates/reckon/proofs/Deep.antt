@@ -14,8 +14,9 @@ use Rattle.cells.specs.declared.Divided.{Divided}
 use Rattle.cells.specs.declared.Divided.the-variants.{ByZero, Parts}
 use Rattle.tokens.specs.Table.{ends, lows, highs, doubles, table, rowOf}
 use Rattle.tokens.specs.Code.{codeOf}
-use Rattle.state.specs.Stacks.{stacks, outcome, leftOf, cellsFrom, plainOf, turnedOf, divideOf, pickUpOf, rollUpOf, maybeOf}
+use Rattle.state.specs.Stacks.{stacks, leftOf, cellsFrom, plainOf, turnedOf}
 use Rattle.reckon.proofs.Made.{Works}
+use Rattle.state.specs.Joints.Reckoning.{reckonedAs, divideOf, pickUpOf, rollUpOf, maybeOf}
 
 -- ---- what u/mod's answer says
 abbrev undivided : Divided → Bool
@@ -54,7 +55,7 @@ module _ (h b : ℕ) (c : List ℕ) (t : h ≤ 64) where
     divide-zero z = let y : h - 1 - 0 ≡ h - 1 = omega arith in (t, λ k. simp (le-ltb _ _ l, y, z))
 
     divide-left : (k : List ℕ)
-        → outcome 0 (stacks (set (set c (h - 2) (getD c (h - 2) 0 % getD c (h - 1) 0)) (h - 1) (getD c (h - 2) 0 / getD c (h - 1) 0)) h k b) ≡ outcome 0 (plainOf 0x2B 0 (stacks c h k b))
+        → reckonedAs 0 (stacks (set (set c (h - 2) (getD c (h - 2) 0 % getD c (h - 1) 0)) (h - 1) (getD c (h - 2) 0 / getD c (h - 1) 0)) h k b) ≡ reckonedAs 0 (plainOf 0x2B 0 (stacks c h k b))
     unfolding plainOf leftOf codeOf rowOf table ends lows highs doubles
     divide-left k =
         let y : h - 1 - 0 ≡ h - 1 = omega arith in

@@ -7,8 +7,8 @@ use Rattle.tokens.specs.Row.{Seen}
 use Rattle.tokens.specs.Table.{ends, lows, highs, doubles, table, rowOf}
 use Rattle.tokens.specs.Code.{codeOf}
 use Rattle.state.specs.Stacks.{reckonedOf}
-use Rattle.tokens.specs.Rows.{among, coded}
-use Rattle.reckon.specs.Reckoned.{Like, OfNone, OfOne, OfTwo, OfThree}
+use Rattle.tokens.specs.Laws.Rows.{among, coded}
+use Rattle.reckon.specs.Joints.Reckoned.{Like, OfNone, OfOne, OfTwo, OfThree}
 
 module _ (k : ℕ) where
   pub none-by : {n h r : ℕ} (f : ℕ → ℕ) → ((s : Seen) → reckonedOf (rowOf k .results) s ≡ f (s .height) ∷ []) → n ≡ k → r ≡ f h → OfNone n h r

@@ -8,24 +8,24 @@ use native.Mathlib.Omega.{arith}
 use borrow.Author.Tests.{eqb-true, leb-true, lt-ltb}
 use lib.Dec.{T, ltb, leb, eqb, eqb→eq}
 use Rattle.cells.specs.Choice.{pick}
-use Rattle.cells.specs.Tests.{pick-is, tests}
-use Rattle.cells.specs.Facts.{is-false, holds, both-hold, follows, never-true}
+use Rattle.cells.specs.Laws.Tests.{pick-is, tests}
+use Rattle.cells.specs.Laws.Facts.{is-false, holds, both-hold, follows, never-true}
 use Rattle.rom.specs.Bytes.{byteOf}
 use Rattle.tokens.specs.Row.{Row}
 use Rattle.tokens.specs.Table.{ends, lows, highs, doubles, table, rowOf}
 use Rattle.tokens.specs.Code.{packed, codeOf, familyIn, outOfPlaceIn, formIn}
-use Rattle.tokens.specs.Decode.{isDouble, numberOf, behindNumber, behindString, behindOf, operandOf, formed, wholeOf, decodeOf}
+use Rattle.tokens.specs.Decode.{isDouble, numberOf, behindNumber, behindString, behindOf, operandOf, formed, tokenIfWhole, decodeOf}
 use Rattle.tokens.specs.Decode.{tokenOf as tokenMade}
 use Rattle.tokens.specs.Place.{judged, misplacedOf, readOf}
 use Rattle.tokens.specs.declared.decoding.Operand.{Operand}
 use Rattle.tokens.specs.declared.decoding.Decoded.the-variants.{Cut, Whole}
 use Rattle.tokens.specs.declared.read.Read.{Read}
 use Rattle.tokens.specs.declared.read.Read.the-variants.{Refused as Unread, Good}
-use Rattle.tokens.specs.Rows.{rows-pass, among, Beside, none-left}
+use Rattle.tokens.specs.Laws.Rows.{rows-pass, among, Beside, none-left}
 use Rattle.state.specs.State.{isOpen}
 use Rattle.state.specs.Scene.{Scene, refuse}
-use Rattle.state.specs.Step.{readTurn, doneOf, tokenOf}
-use Rattle.state.specs.Hot.{hotFamily}
+use Rattle.state.specs.Step.{readTurn, doneOf, tokenTurn}
+use Rattle.state.specs.Joints.Hot.{hotFamily}
 
 -- ---- what the list says of every hot number
 abbrev fits : ℕ → ℕ → Bool
@@ -77,7 +77,7 @@ module _ (rom : List ℕ) (size : ℕ) (wide within : Bool) (p : ℕ) (n : ℕ) 
   abbrev operandHere : Operand
   operandHere = operandOf rom size wide (p + 1) (formIn (codeOf n))
 
-  hot-decoded : decodeOf rom size wide p ≡ wholeOf size n (codeOf n) operandHere nextOf
+  hot-decoded : decodeOf rom size wide p ≡ tokenIfWhole size n (codeOf n) operandHere nextOf
   unfolding decodeOf
   hot-decoded =
       let s : isDouble (byteOf rom p) ≡ false = rw (← e) (hot-token n hot .single) in
@@ -91,16 +91,16 @@ module _ (rom : List ℕ) (size : ℕ) (wide within : Bool) (p : ℕ) (n : ℕ) 
 
   -- what is read there
   pub hot-read : readOf rom size wide within p ≡ pick (ltb size nextOf) (Unread 10) (Good (tokenMade n (codeOf n) operandHere nextOf))
-  unfolding readOf wholeOf
+  unfolding readOf tokenIfWhole
   hot-read =
       rw (hot-decoded, hot-token n hot .named, form-formed rom size wide (p + 1) (formIn (codeOf n)) (hot-token n hot .form))
       (judged-hot (ltb size nextOf))
 
 -- ---- a turn with such a token: cut off, or done
 pub hot-turn : (s : Scene) (n : ℕ) → n ≡ byteOf (s .rom) (s .state .place) → T (hotFamily (familyIn (codeOf n)))
-    → tokenOf s ≡ pick (ltb (s .state .length) (behindOf (s .rom) (s .state .wide) (s .state .place + 1) (formIn (codeOf n)))) (refuse 10 s)
+    → tokenTurn s ≡ pick (ltb (s .state .length) (behindOf (s .rom) (s .state .wide) (s .state .place + 1) (formIn (codeOf n)))) (refuse 10 s)
     (doneOf s (tokenMade n (codeOf n) (operandOf (s .rom) (s .state .length) (s .state .wide) (s .state .place + 1) (formIn (codeOf n))) (behindOf (s .rom) (s .state .wide) (s .state .place + 1) (formIn (codeOf n)))))
-unfolding tokenOf
+unfolding tokenTurn
 hot-turn s n e hot =
     ap (λ (r : Read). readTurn s r) (hot-read (s .rom) (s .state .length) (s .state .wide) (isOpen (s .state .calls)) (s .state .place) n e hot)
     ∙ by (ltb (s .state .length) (behindOf (s .rom) (s .state .wide) (s .state .place + 1) (formIn (codeOf n))))
@@ -167,8 +167,8 @@ behind-form rom wide p form =
     number : (q : ℕ) → q ≤ behindNumber rom q
     number q = pick-is (λ x. q ≤ q + x) (isDouble (byteOf rom q)) 2 1 (λ t. omega arith) (λ t. omega arith)
 
-pub cut-off : (s : Scene) → s .state .length ≤ s .state .place → tokenOf s ≡ refuse 10 s
-unfolding tokenOf readOf decodeOf wholeOf
+pub cut-off : (s : Scene) → s .state .length ≤ s .state .place → tokenTurn s ≡ refuse 10 s
+unfolding tokenTurn readOf decodeOf tokenIfWhole
 cut-off s l = rw (lt-ltb (s .state .length) _ beyond)
   where
     first : s .state .place < behindNumber (s .rom) (s .state .place)

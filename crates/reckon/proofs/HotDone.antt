@@ -16,14 +16,15 @@ use Rattle.tokens.specs.Decode.{behindOf, operandOf}
 use Rattle.tokens.specs.Decode.{tokenOf as tokenMade}
 use Rattle.tokens.specs.declared.decoding.Operand.{Operand}
 use Rattle.tokens.specs.declared.decoding.Operand.the-variants.{Branch}
-use Rattle.tokens.specs.Rows.{among, plainCodes, plain-coded}
-use Rattle.state.specs.Stacks.{stacks, plainOf, tooLow, tooHigh, backTrouble, Outcome, outcome, reckonOf, divideOf, pickUpOf, pickedOf, rollUpOf, rolledOf, maybeOf, doubledOf}
+use Rattle.tokens.specs.Laws.Rows.{among, plainCodes, plain-coded}
+use Rattle.state.specs.Stacks.{stacks, plainOf, backTrouble, pickedOf, rolledOf, doubledOf}
 use Rattle.state.specs.State.{stacksOf, moved, movedTo, baseOf}
 use Rattle.state.specs.Scene.{Scene, Turn, refuse, goes, cellOf}
 use Rattle.state.specs.Refusals.{refusalOf}
 use Rattle.state.specs.Effects.{actOf, effects, operandIn, gave}
 use Rattle.state.specs.Step.{doneOf}
-use Rattle.state.specs.Done.{carried, stopped}
+use Rattle.state.specs.Laws.Done.{carried, stopped}
+use Rattle.state.specs.Joints.Reckoning.{tooLow, tooHigh, Reckoned, reckonedAs, reckonOf, divideOf, pickUpOf, rollUpOf, maybeOf}
 
 -- what holds of each of a list holds of what is among it
 abbrev Each : (ℕ → Type 0) → List ℕ → Type 0
@@ -39,7 +40,7 @@ each P (j ∷ js) k e t = by (eqb k j) refl t (λ u. each P js k (e .1) u)
     by false q t go = go t
 
 -- the turn that an outcome on the stacks makes
-abbrev pub outcomeTurn : Scene → ℕ → Outcome → Turn
+abbrev pub outcomeTurn : Scene → ℕ → Reckoned → Turn
 outcomeTurn s next o = pick (eqb (o .why) 0) (goes s (moved (s .state) (o .stacks) next)) (refuse (o .why) s)
 
 -- ---- tokens that only reckon
@@ -78,7 +79,7 @@ module _ (s : Scene) (n : ℕ) (o : Operand) (next : ℕ) where
       by : (x y z : Bool) → tooLow (codeOf n) (s .state .stack .height) ≡ x → backTrouble (codeOf n) (s .state .back .height) (baseOf (s .state .calls)) ≡ y
           → tooHigh (codeOf n) (s .state .stack .height) ≡ z
           → doneOf s (tokenMade n (codeOf n) o next)
-          ≡ outcomeTurn s next (pick x (outcome 14 (stacksOf (s .state))) (pick y (outcome 16 (stacksOf (s .state))) (pick z (outcome 15 (stacksOf (s .state))) (outcome 0 (plainOf n (operandIn o) (stacksOf (s .state)))))))
+          ≡ outcomeTurn s next (pick x (reckonedAs 14 (stacksOf (s .state))) (pick y (reckonedAs 16 (stacksOf (s .state))) (pick z (reckonedAs 15 (stacksOf (s .state))) (reckonedAs 0 (plainOf n (operandIn o) (stacksOf (s .state)))))))
       by true y z p q r = stopped s (tokenMade n (codeOf n) o next) 14 refl (plain-refuses (codeOf n) t ∙ rw p)
       by false true z p q r = stopped s (tokenMade n (codeOf n) o next) 16 refl (plain-refuses (codeOf n) t ∙ rw (p, q))
       by false false true p q r = stopped s (tokenMade n (codeOf n) o next) 15 refl (plain-refuses (codeOf n) t ∙ rw (p, q, r))
@@ -159,7 +160,7 @@ module _ (s : Scene) (o : Operand) (next : ℕ) (high : s .state .stack .height 
   divide-done e = by (ltb h 2) (eqb (cellOf s 0) 0) refl refl
     where
       by : (x y : Bool) → ltb h 2 ≡ x → eqb (cellOf s 0) 0 ≡ y → doneOf s (tokenMade 0x2B 0x0700_0022 o next)
-          ≡ outcomeTurn s next (pick x (outcome 14 (stacksOf (s .state))) (pick y (outcome 21 (stacksOf (s .state))) (outcome 0 (plainOf 0x2B 0 (stacksOf (s .state))))))
+          ≡ outcomeTurn s next (pick x (reckonedAs 14 (stacksOf (s .state))) (pick y (reckonedAs 21 (stacksOf (s .state))) (reckonedAs 0 (plainOf 0x2B 0 (stacksOf (s .state))))))
       by true y p q = stopped s (tokenMade 0x2B 0x0700_0022 o next) 14 refl (rw p)
       by false true p q =
           let l : 2 ≤ h = ltb-false h 2 p in
@@ -173,7 +174,7 @@ module _ (s : Scene) (o : Operand) (next : ℕ) (high : s .state .stack .height 
   pick-done n = by (ltb h 1) (ltb h (cellOf s 0 + 2)) refl refl
     where
       by : (x y : Bool) → ltb h 1 ≡ x → ltb h (cellOf s 0 + 2) ≡ y → doneOf s (tokenMade n 0x0800_0011 o next)
-          ≡ outcomeTurn s next (pick (x || y) (outcome 14 (stacksOf (s .state))) (outcome 0 (pickedOf (stacksOf (s .state)))))
+          ≡ outcomeTurn s next (pick (x || y) (reckonedAs 14 (stacksOf (s .state))) (reckonedAs 0 (pickedOf (stacksOf (s .state)))))
       by true y p q = stopped s (tokenMade n 0x0800_0011 o next) 14 refl (rw p)
       by false true p q = stopped s (tokenMade n 0x0800_0011 o next) 14 refl (rw (p, q))
       by false false p q =
@@ -185,7 +186,7 @@ module _ (s : Scene) (o : Operand) (next : ℕ) (high : s .state .stack .height 
   roll-done n = by (ltb h 1) (ltb h (cellOf s 0 + 2)) refl refl
     where
       by : (x y : Bool) → ltb h 1 ≡ x → ltb h (cellOf s 0 + 2) ≡ y → doneOf s (tokenMade n 0x0900_0010 o next)
-          ≡ outcomeTurn s next (pick (x || y) (outcome 14 (stacksOf (s .state))) (outcome 0 (rolledOf (stacksOf (s .state)))))
+          ≡ outcomeTurn s next (pick (x || y) (reckonedAs 14 (stacksOf (s .state))) (reckonedAs 0 (rolledOf (stacksOf (s .state)))))
       by true y p q = stopped s (tokenMade n 0x0900_0010 o next) 14 refl (rw p)
       by false true p q = stopped s (tokenMade n 0x0900_0010 o next) 14 refl (rw (p, q))
       by false false p q =
@@ -197,7 +198,7 @@ module _ (s : Scene) (o : Operand) (next : ℕ) (high : s .state .stack .height 
   maybe-done n = by (ltb h 1) (eqb (cellOf s 0) 0) (ltb 64 (h + 1)) refl refl refl
     where
       by : (x y z : Bool) → ltb h 1 ≡ x → eqb (cellOf s 0) 0 ≡ y → ltb 64 (h + 1) ≡ z → doneOf s (tokenMade n 0x0A00_0011 o next)
-          ≡ outcomeTurn s next (pick x (outcome 14 (stacksOf (s .state))) (pick y (outcome 0 (stacksOf (s .state))) (pick z (outcome 15 (stacksOf (s .state))) (outcome 0 (doubledOf (stacksOf (s .state)))))))
+          ≡ outcomeTurn s next (pick x (reckonedAs 14 (stacksOf (s .state))) (pick y (reckonedAs 0 (stacksOf (s .state))) (pick z (reckonedAs 15 (stacksOf (s .state))) (reckonedAs 0 (doubledOf (stacksOf (s .state)))))))
       by true y z p q r = stopped s (tokenMade n 0x0A00_0011 o next) 14 refl (rw p)
       by false true z p q r =
           let l : 1 ≤ h = ltb-false h 1 p in

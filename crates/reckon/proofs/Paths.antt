@@ -11,33 +11,34 @@ use Rattle.tokens.specs.Family.{plain}
 use Rattle.tokens.specs.Row.{Seen, Result}
 use Rattle.tokens.specs.Table.{rowOf}
 use Rattle.tokens.specs.Code.{codeOf, familyIn, takesIn, givesIn, returnTakesIn, returnGivesIn}
-use Rattle.state.specs.Stacks.{Stacks, stacks, outcome, leftOf, seenOf, reckonedOf, plainOf, reckonOf}
-use Rattle.tokens.specs.Rows.{return-results-fit}
-use Rattle.reckon.specs.Fast.{OnData, turned}
+use Rattle.state.specs.Stacks.{Stacks, stacks, leftOf, seenOf, reckonedOf, plainOf}
+use Rattle.tokens.specs.Laws.Rows.{return-results-fit}
+use Rattle.reckon.specs.Joints.Fast.{OnData, turned}
 use Rattle.reckon.specs.declared.turned.Fared.the-variants.{On, Not}
 use Rattle.reckon.proofs.Made.{data-made}
+use Rattle.state.specs.Joints.Reckoning.{reckonedAs, reckonOf}
 
 module _ (n operand base : ℕ) (s : Stacks) (k : ℕ) (e : codeOf n ≡ k) where
-  pub low : s .height < takesIn k → outcome 14 s ≡ reckonOf n operand s base
+  pub low : s .height < takesIn k → reckonedAs 14 s ≡ reckonOf n operand s base
   unfolding reckonOf
   low h = rw (e, lt-ltb _ _ h)
 
   module _ (l : takesIn k ≤ s .height) where
-    pub back-low : s .returns - base < returnTakesIn k → outcome 16 s ≡ reckonOf n operand s base
+    pub back-low : s .returns - base < returnTakesIn k → reckonedAs 16 s ≡ reckonOf n operand s base
     unfolding reckonOf
     back-low h = rw (e, le-ltb _ _ l, lt-ltb _ _ h)
 
     module _ (m : returnTakesIn k ≤ s .returns - base) where
-      pub back-high : 32 < s .returns - returnTakesIn k + returnGivesIn k → outcome 16 s ≡ reckonOf n operand s base
+      pub back-high : 32 < s .returns - returnTakesIn k + returnGivesIn k → reckonedAs 16 s ≡ reckonOf n operand s base
       unfolding reckonOf
       back-high h = rw (e, le-ltb _ _ l, le-ltb _ _ m, lt-ltb _ _ h)
 
       module _ (b : s .returns - returnTakesIn k + returnGivesIn k ≤ 32) where
-        pub high : 64 < s .height - takesIn k + givesIn k → outcome 15 s ≡ reckonOf n operand s base
+        pub high : 64 < s .height - takesIn k + givesIn k → reckonedAs 15 s ≡ reckonOf n operand s base
         unfolding reckonOf
         high h = rw (e, le-ltb _ _ l, le-ltb _ _ m, le-ltb _ _ b, lt-ltb _ _ h)
 
-        pub fine : s .height - takesIn k + givesIn k ≤ 64 → outcome 0 (plainOf n operand s) ≡ reckonOf n operand s base
+        pub fine : s .height - takesIn k + givesIn k ≤ 64 → reckonedAs 0 (plainOf n operand s) ≡ reckonOf n operand s base
         unfolding reckonOf
         fine h = rw (e, le-ltb _ _ l, le-ltb _ _ m, le-ltb _ _ b, le-ltb _ _ h)
 
@@ -79,6 +80,6 @@ module _ (n h b place k : ℕ) (c : List ℕ) (e : codeOf n ≡ k) (f : Bare k) 
         same : b ≡ b - returnTakesIn k + returnGivesIn k
         same = let z = f .2 in let w = f .3 in omega arith
 
-        shown : (operand : ℕ) (bk : List ℕ) → outcome 0 (stacks (leftOf c (h - takesIn k) vs) (h - takesIn k + givesIn k) bk b)
-            ≡ outcome 0 (plainOf n operand (stacks c h bk b))
+        shown : (operand : ℕ) (bk : List ℕ) → reckonedAs 0 (stacks (leftOf c (h - takesIn k) vs) (h - takesIn k + givesIn k) bk b)
+            ≡ reckonedAs 0 (plainOf n operand (stacks c h bk b))
         shown operand bk = rw (e, q operand bk, none-back n k (seenOf operand (stacks c h bk b)) e (f .0) (f .3), ← same)

@@ -7,11 +7,12 @@ use lib.ListN.{getD, set}
 use lib.Seq.{set-getD}
 use Rattle.tokens.specs.Table.{ends, lows, highs, doubles, table, rowOf}
 use Rattle.tokens.specs.Code.{codeOf}
-use Rattle.state.specs.Stacks.{stacks, outcome, leftOf, plainOf}
-use Rattle.reckon.specs.Fast.{OnBoth, turned}
+use Rattle.state.specs.Stacks.{stacks, leftOf, plainOf}
+use Rattle.reckon.specs.Joints.Fast.{OnBoth, turned}
 use Rattle.reckon.specs.declared.turned.Fared.the-variants.{On, Not}
 use Rattle.reckon.proofs.Made.{both-made}
 use Rattle.reckon.proofs.Paths.{low, back-low, back-high, high, fine}
+use Rattle.state.specs.Joints.Reckoning.{reckonedAs}
 
 module _ (base h b place : ℕ) (c k : List ℕ) (t : h ≤ 64) (r : b ≤ 32) where
   -- >r
@@ -29,7 +30,7 @@ module _ (base h b place : ℕ) (c k : List ℕ) (t : h ≤ 64) (r : b ≤ 32) w
       both-made 0x30 h b place 0x0100_0110 to-code refl refl t r base c k 16 h b c k t r (λ o. o)
       (λ operand. back-high 0x30 operand base (stacks c h k b) 0x0100_0110 to-code l (omega arith) (omega arith))
 
-  to-left : (operand : ℕ) → outcome 0 (stacks c (h - 1) (set k b (getD c (h - 1) 0)) (b + 1)) ≡ outcome 0 (plainOf 0x30 operand (stacks c h k b))
+  to-left : (operand : ℕ) → reckonedAs 0 (stacks c (h - 1) (set k b (getD c (h - 1) 0)) (b + 1)) ≡ reckonedAs 0 (plainOf 0x30 operand (stacks c h k b))
   unfolding plainOf leftOf codeOf rowOf table ends lows highs doubles
   to-left operand =
       let x : h - 1 + 0 ≡ h - 1 = omega arith in
@@ -53,7 +54,7 @@ module _ (base h b place : ℕ) (c k : List ℕ) (t : h ≤ 64) (r : b ≤ 32) w
       both-made 0x31 h b place 0x0100_1001 from-code refl refl t r base c k 16 h b c k t r (λ o. o)
       (λ operand. back-low 0x31 operand base (stacks c h k b) 0x0100_1001 from-code (omega arith) (omega arith))
 
-  from-left : (operand : ℕ) → outcome 0 (stacks (set c h (getD k (b - 1) 0)) (h + 1) k (b - 1)) ≡ outcome 0 (plainOf 0x31 operand (stacks c h k b))
+  from-left : (operand : ℕ) → reckonedAs 0 (stacks (set c h (getD k (b - 1) 0)) (h + 1) k (b - 1)) ≡ reckonedAs 0 (plainOf 0x31 operand (stacks c h k b))
   unfolding plainOf leftOf codeOf rowOf table ends lows highs doubles
   from-left operand =
       let x : h - 0 ≡ h = omega arith in
@@ -71,7 +72,7 @@ module _ (base h b place : ℕ) (c k : List ℕ) (t : h ≤ 64) (r : b ≤ 32) w
       both-made 0x32 h b place 0x0100_1101 copy-code refl refl t r base c k 16 h b c k t r (λ o. o)
       (λ operand. back-low 0x32 operand base (stacks c h k b) 0x0100_1101 copy-code (omega arith) (omega arith))
 
-  copy-left : 1 ≤ b → (operand : ℕ) → outcome 0 (stacks (set c h (getD k (b - 1) 0)) (h + 1) k b) ≡ outcome 0 (plainOf 0x32 operand (stacks c h k b))
+  copy-left : 1 ≤ b → (operand : ℕ) → reckonedAs 0 (stacks (set c h (getD k (b - 1) 0)) (h + 1) k b) ≡ reckonedAs 0 (plainOf 0x32 operand (stacks c h k b))
   unfolding plainOf leftOf codeOf rowOf table ends lows highs doubles
   copy-left l operand =
       let x : h - 0 ≡ h = omega arith in

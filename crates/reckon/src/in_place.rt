@@ -7,8 +7,8 @@ ghost use Prim.Native.Nat.{ℕ, _≤_, _<_, _+_};
 ghost use lib.ListN.{length};
 ghost use Rattle.rom.specs.Bytes.{byteOf, word32Of};
 ghost use Rattle.rom.specs.Branch.{aimOf, placeIn};
-ghost use Rattle.state.specs.Apart.{baseIn};
-ghost use Rattle.reckon.specs.Fast.{behindBranch, Holds, Reads, Fast};
+ghost use Rattle.state.specs.Joints.Apart.{baseIn};
+ghost use Rattle.reckon.specs.Joints.Fast.{behindBranch, HoldsFast, Reads, Fast};
 use crate::reckon::by_one;
 use crate::reckon::by_three;
 use crate::reckon::by_two;
@@ -76,7 +76,7 @@ fn word_at(rom: &[u8], at: usize) -> u32
 
 // 10 b(lit)
 fn literal(rom: &[u8], length: u32, stack: &mut [u32; 64], h: usize, b: usize, place: u32) -> Turned
-    requires { ⌜ (h ≤ 64) × (b ≤ 32) × (place < length) × (length ≤ 16384) × Holds (now rom) length ⌝ }
+    requires { ⌜ (h ≤ 64) × (b ≤ 32) × (place < length) × (length ≤ 16384) × HoldsFast (now rom) length ⌝ }
     ensures { λ r. ⌜ ((wide : Bool) → Reads 0x10 (now (rom .entry)) length wide (now (stack .entry)) h b place r (now (stack .exit))) ⌝ }
 {
     if length < place + 5 {
@@ -151,7 +151,7 @@ pub fn fast(
     place: u32,
 ) -> Turned
     requires { ⌜ (h ≤ 64) × (baseIn (now bases) frames ≤ b) × (b ≤ 32) × (8 ≤ place) × (place ≤ length) × (length ≤ 16384)
-        × Holds (now rom) length ⌝ }
+        × HoldsFast (now rom) length ⌝ }
     ensures { λ r. ⌜ Fast (now (rom .entry)) length wide (baseIn (now (bases .entry)) frames) (now (stack .entry)) h
         (now (back .entry)) b place r (now (stack .exit)) (now (back .exit)) ⌝ }
 {

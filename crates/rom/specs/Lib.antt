@@ -1,9 +1,14 @@
+-- The house sizes of document 01, "What the tool covers":
 pub mod Sizes
+-- What stands in a ROM: its bytes, and numbers of two and of four bytes, big-endian.
 pub mod Bytes
+-- A text as the bytes of its letters.
 pub mod Words
+-- Where a branch leads:
 pub mod Branch
-pub mod BranchLaws
+-- The checksum of document 01:
 pub mod Sum
+-- The header of document 01:
 pub mod Header
-pub mod HeaderLaws
-pub mod Examples
+-- What is only proved: nothing here has to be believed.
+pub mod Laws

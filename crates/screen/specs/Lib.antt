@@ -1,39 +1,10 @@
+-- What a token does to heights, and where it leads: all that the screen asks of a token beside what the list of crate tokens says.
 pub mod Effect
+-- "The reachable tokens are the least set from position 8, or from the first byte of a reachable b(:)'s body, by falling through, by bbranch's destination and by both ways of b?branch; finishing, leaving a body and a token giving 10, 11, 12 (by rule 5's numbers), 18 or 19 have no successor or body.
 pub mod Reach
+-- The height rules of the screen: what an assignment of heights is, in document 01's words, rule by rule.
 pub mod Rules
-pub mod Model
-pub mod Screen
+-- The screen's promise: which answer, and which marks, for every ROM and every mark buffer; it passes a ROM exactly where an assignment exists.
 pub mod Promise
-pub mod ReachLaws
-pub mod TokenFacts
-pub mod Ways
-pub mod InForce
-pub mod CodeLaws
-pub mod Visits
-pub mod Walking
-pub mod Apart
-pub mod Marking
-pub mod Tallying
-pub mod Room
-pub mod Shifting
-pub mod Advancing
-pub mod Rounds
-pub mod Boards
-pub mod Chains
-pub mod Roots
-pub mod Cover
-pub mod AcceptSpots
-pub mod AcceptCells
-pub mod Accept
-pub mod ExactRound
-pub mod ExactBody
-pub mod Exact
-pub mod Agree
-pub mod Laid
-pub mod Exactly
-pub mod VisitLaws
-pub mod WalkLaws
-pub mod BodyLaws
-pub mod KeepLaws
-pub mod RoundLaws
-pub mod ScreenLaws
+-- What is only proved: nothing here has to be believed.
+pub mod Laws

@@ -5,11 +5,11 @@ ghost use mathlib.Core.Logic.{_≢_};
 ghost use Prim.Native.Nat.{suc, _≤_, _<_, _+_, _-_};
 ghost use lib.ListN.{length as len};
 ghost use Rattle.rom.specs.Sizes.{romMost};
-ghost use Rattle.tokens.specs.Quick.{Codes};
-ghost use Rattle.screen.specs.Model.{marked, startsOf, sumOf, passesOf, movedOf, shiftOf, places as Model·places, bodyText};
-ghost use Rattle.screen.specs.VisitLaws.{tallyIn};
-ghost use Rattle.screen.specs.BodyLaws.{Bounded, Low, StandsBy, SurveyIs};
-ghost use Rattle.screen.specs.WalkLaws.{Tables};
+ghost use Rattle.tokens.specs.Joints.Quick.{Codes};
+ghost use Rattle.screen.specs.Laws.Found.Model.{marked, startsOf, sumTold, passesOf, shiftedCell, shiftOf, places as Model·places, bodyText};
+ghost use Rattle.screen.specs.Laws.Code.Visit.{tallyIn};
+ghost use Rattle.screen.specs.Laws.Code.Body.{Bounded, Low, StandsBy, SurveyIs};
+ghost use Rattle.screen.specs.Laws.Code.Walk.{WalkTables};
 use crate::cell::less;
 use crate::effect::Sum;
 use crate::limits::BODY_MOST;
@@ -111,7 +111,7 @@ fn passes(tally: Tally) -> bool
 // The sum of a body, as it is where it is entered at its need.
 pub fn sum_of(tally: Tally) -> Sum
     requires { ⌜ Low (tallyIn tally) ⌝ }
-    ensures { λ r. ⌜ r ≡ sumOf (tallyIn tally) ⌝ }
+    ensures { λ r. ⌜ r ≡ sumTold (tallyIn tally) ⌝ }
 {
     Sum {
         need: tally.need,
@@ -124,7 +124,7 @@ pub fn sum_of(tally: Tally) -> Sum
 
 fn moved_cell(need: u32, cell: u32) -> u32
     requires { ⌜ (need ≤ 1024) × (cell ≤ 0x4000_0000) ⌝ }
-    ensures { λ r. ⌜ r ≡ movedOf need cell ⌝ }
+    ensures { λ r. ⌜ r ≡ shiftedCell need cell ⌝ }
 {
     if cell == 0 {
         return 0;
@@ -190,7 +190,7 @@ pub fn survey_body(
     stand: Stand,
     entry: u32,
 ) -> Survey
-    requires { ⌜ Codes (now codes) × Tables length (now seen) (now work) × (entry ≢ 0) × (entry ≤ length) ⌝ }
+    requires { ⌜ Codes (now codes) × WalkTables length (now seen) (now work) × (entry ≢ 0) × (entry ≤ length) ⌝ }
     ensures { λ r. ⌜ SurveyIs (now (rom .entry)) length (now (kinds .entry)) (now (sums .entry)) (now (seen .entry)) stand entry r
         (now (seen .exit)) ⌝ }
 {

@@ -2,7 +2,7 @@
 // unpacks one but the tally of a body, and the marks, which are the low bytes.
 ghost use mathlib.Core.Path.{_≡_};
 ghost use Prim.Native.Nat.{_-_, _<_, max};
-ghost use Rattle.screen.specs.Model.{cellOf, heightIn};
+ghost use Rattle.screen.specs.Laws.Found.Model.{cellWith, heightIn};
 
 // The data height of a cell.
 pub fn height_in(cell: u32) -> u32
@@ -15,7 +15,7 @@ pub fn height_in(cell: u32) -> u32
 // The cell of two heights.
 pub fn cell_of(height: u32, back: u32) -> u32
     requires { ⌜ (height < 255) × (back < 0x100_0000) ⌝ }
-    ensures { λ r. ⌜ r ≡ cellOf height back ⌝ }
+    ensures { λ r. ⌜ r ≡ cellWith height back ⌝ }
 {
     1 + height + 256 * back
 }

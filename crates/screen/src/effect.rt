@@ -2,8 +2,8 @@
 ghost use mathlib.Core.Path.{_≡_};
 ghost use Prim.Native.Nat.{_%_, _<_};
 ghost use Rattle.screen.specs.Effect.{isA};
-ghost use Rattle.screen.specs.Model.{packed, sumAt};
-ghost use Rattle.screen.specs.VisitLaws.{takesSeen, fixesBy};
+ghost use Rattle.screen.specs.Laws.Found.Model.{packedSum, sumAt};
+ghost use Rattle.screen.specs.Laws.Code.Visit.{takesSeen, fixesBy};
 use crate::tables::sum_code;
 use tokens::Token;
 use tokens::code_of;
@@ -58,7 +58,7 @@ pub fn sum_at(sums: &[u64], number: u32) -> Sum
 // A sum for the table.
 pub fn pack(sum: Sum) -> u64
     requires { ⌜ sum .need < 65536 ⌝ }
-    ensures { λ r. ⌜ r ≡ packed sum ⌝ }
+    ensures { λ r. ⌜ r ≡ packedSum sum ⌝ }
 {
     let need = sum.need as u64;
     let out = sum.out as u64;

@@ -6,15 +6,15 @@ ghost use lib.Dec.{eqb, ltb};
 ghost use Rattle.tokens.specs.Body.{kindOf};
 ghost use Prim.Native.Nat.{suc, _≤_, _<_, _+_};
 ghost use lib.ListN.{set};
-ghost use Rattle.tokens.specs.Quick.{Codes};
+ghost use Rattle.tokens.specs.Joints.Quick.{Codes};
 ghost use Rattle.rom.specs.Sizes.{romMost, numbersMost};
 ghost use Rattle.tokens.specs.Family.{widen};
 ghost use Rattle.screen.specs.Effect.{isA, valueSum};
-ghost use Rattle.screen.specs.Model.{slot, packed, apartOf, outsideText, moved as Model·moved, withCount, board, newNode, closedNode};
-ghost use Rattle.screen.specs.Model.{colonOf, defineOf, advanceOf, roundsOf};
-ghost use Rattle.screen.specs.BodyLaws.{Bounded};
-ghost use Rattle.screen.specs.WalkLaws.{Tables};
-ghost use Rattle.screen.specs.RoundLaws.{EndBy, PassIs, Standing, Defining, NodeIs, TurnIs, RoundIs, AfterIs, PassedIs};
+ghost use Rattle.screen.specs.Laws.Found.Model.{slot, packedSum, apartOf, outsideText, stoodOn as Model·moved, withCount, board, newNode, closedNode};
+ghost use Rattle.screen.specs.Laws.Found.Model.{colonOf, defineOf, advanceOf, roundsOf};
+ghost use Rattle.screen.specs.Laws.Code.Body.{Bounded};
+ghost use Rattle.screen.specs.Laws.Code.Walk.{WalkTables};
+ghost use Rattle.screen.specs.Laws.Code.Round.{EndBy, PassIs, StandFits, DefinesWithin, NodeIs, TurnIs, RoundIs, AfterIs, PassedIs};
 use crate::body::places;
 use crate::body::shift;
 use crate::body::sum_of;
@@ -178,7 +178,7 @@ fn walk_round(
     work: &mut [u16],
     stand: Stand,
 ) -> Round
-    requires { ⌜ Codes (now codes) × Tables length (now seen) (now work) × Standing stand × (stand .cell ≤ 0x1000_0000)
+    requires { ⌜ Codes (now codes) × WalkTables length (now seen) (now work) × StandFits stand × (stand .cell ≤ 0x1000_0000)
         × Bounded 0x1000_0000 (now seen) ⌝ }
     ensures { λ r. ⌜ RoundIs (now (rom .entry)) length (board (now (seen .entry)) (now (kinds .entry)) (now (sums .entry)) stand) r
         (now (seen .exit)) ⌝ }
@@ -260,7 +260,7 @@ fn refused(stand: Stand) -> Turned
 
 // new-device
 fn new_node(stand: Stand) -> Turned
-    requires { ⌜ Standing stand ⌝ }
+    requires { ⌜ StandFits stand ⌝ }
     ensures { λ r. ⌜ NodeIs (λ b. newNode b stand) stand r ⌝ }
 {
     if NODES_MOST <= stand.nodes {
@@ -282,7 +282,7 @@ fn new_node(stand: Stand) -> Turned
 
 // finish-device
 fn close_node(stand: Stand) -> Turned
-    requires { ⌜ Standing stand ⌝ }
+    requires { ⌜ StandFits stand ⌝ }
     ensures { λ r. ⌜ NodeIs (λ b. closedNode b stand) stand r ⌝ }
 {
     if stand.children == 0 {
@@ -306,7 +306,7 @@ fn close_node(stand: Stand) -> Turned
 fn enter(kinds: &mut [u8; 2048], sums: &mut [u64], number: u32, kind: u8, sum: Sum)
     requires { ⌜ (number ≤ 0xFFF) × (sum .need < 65536) ⌝ }
     ensures { λ r. ⌜ (now (kinds .exit) ≡ set (now (kinds .entry)) (slot number) kind)
-        × (now (sums .exit) ≡ set (now (sums .entry)) (slot number) (packed sum)) ⌝ }
+        × (now (sums .exit) ≡ set (now (sums .entry)) (slot number) (packedSum sum)) ⌝ }
 {
     set_kind(kinds, number, kind);
     set_sum(sums, number, pack(sum));
@@ -325,8 +325,8 @@ fn colon(
     number: u32,
     entry: u32,
 ) -> Turned
-    requires { ⌜ Codes (now codes) × Tables length (now seen) (now work) × (entry ≢ 0) × (entry ≤ length) × (number ≤ 0xFFF)
-        × (stand .count < 256) × Standing stand × Bounded 0x1000_0000 (now seen) ⌝ }
+    requires { ⌜ Codes (now codes) × WalkTables length (now seen) (now work) × (entry ≢ 0) × (entry ≤ length) × (number ≤ 0xFFF)
+        × (stand .count < 256) × StandFits stand × Bounded 0x1000_0000 (now seen) ⌝ }
     ensures { λ r. ⌜ ((st : Stand) → TurnIs (colonOf (now (rom .entry)) length (board (now (seen .entry)) (now (kinds .entry)) (now
         (sums .entry)) st) stand number entry) (now (seen .entry)) (stand .cell) r (now (seen .exit)) (now (kinds .exit)) (now
         (sums .exit))) ⌝ }
@@ -391,7 +391,7 @@ fn define(
     stand: Stand,
     token: Token,
 ) -> Turned
-    requires { ⌜ Codes (now codes) × Tables length (now seen) (now work) × Defining length token × Standing stand
+    requires { ⌜ Codes (now codes) × WalkTables length (now seen) (now work) × DefinesWithin length token × StandFits stand
         × Bounded 0x1000_0000 (now seen) ⌝ }
     ensures { λ r. ⌜ ((st : Stand) → st .count ≡ stand .count → TurnIs (defineOf (now (rom .entry)) length (board (now (seen .entry))
         (now (kinds .entry)) (now (sums .entry)) st) stand token) (now (seen .entry)) (stand .cell) r (now (seen .exit)) (now
@@ -437,7 +437,7 @@ fn advance(
     cell: u32,
     token: Token,
 ) -> Turned
-    requires { ⌜ Codes (now codes) × Tables length (now seen) (now work) × Defining length token × Standing stand
+    requires { ⌜ Codes (now codes) × WalkTables length (now seen) (now work) × DefinesWithin length token × StandFits stand
         × Bounded 0x1000_0000 (now seen) ⌝ }
     ensures { λ r. ⌜ TurnIs (advanceOf (now (rom .entry)) length (board (now (seen .entry)) (now (kinds .entry)) (now
         (sums .entry)) stand) cell token) (now (seen .entry)) (cell + 1) r (now (seen .exit)) (now (kinds .exit)) (now (sums .exit)) ⌝ }
@@ -470,7 +470,7 @@ fn next_round(
     stand: Stand,
     far: u32,
 ) -> After
-    requires { ⌜ Codes (now codes) × Tables length (now seen) (now work) × Standing stand × Bounded 0x1000_0000 (now seen) ⌝ }
+    requires { ⌜ Codes (now codes) × WalkTables length (now seen) (now work) × StandFits stand × Bounded 0x1000_0000 (now seen) ⌝ }
     ensures { λ r. ⌜ AfterIs (now (rom .entry)) length (now (seen .entry)) (now (kinds .entry)) (now (sums .entry)) stand far (now
         (seen .exit)) (now (kinds .exit)) (now (sums .exit)) r ⌝ }
 {
@@ -510,7 +510,7 @@ pub fn all_rounds(
     sums: &mut [u64],
     first: Stand,
 ) -> bool
-    requires { ⌜ Codes (now codes) × Tables length (now seen) (now work) × Standing first × (first .cell ≤ 65536)
+    requires { ⌜ Codes (now codes) × WalkTables length (now seen) (now work) × StandFits first × (first .cell ≤ 65536)
         × Bounded 65536 (now seen) ⌝ }
     ensures { λ r. ⌜ PassedIs (roundsOf (now (rom .entry)) length romMost (board (now (seen .entry)) (now (kinds .entry)) (now
         (sums .entry)) first)) r (now (seen .exit)) ⌝ }

@@ -2,7 +2,7 @@
 ghost use mathlib.Core.Path.{_≡_};
 ghost use Prim.Native.Nat.{_≤_, _<_};
 ghost use lib.ListN.{getD, set};
-ghost use Rattle.screen.specs.Model.{slot as Model·slot};
+ghost use Rattle.screen.specs.Laws.Found.Model.{slot as Model·slot};
 
 pub fn cell_at(cells: &[u32], at: u32) -> u32
     ensures { λ r. ⌜ r ≡ getD (now (cells .entry)) at 0 ⌝ }

@@ -1,11 +1,11 @@
 // A token that a walk meets: whether its rules are met there, the heights behind it, and where it leads.
 ghost use mathlib.Core.Path.{_≡_};
 ghost use Prim.Native.Nat.{_<_, _≤_};
-ghost use Rattle.tokens.specs.Quick.{Codes};
+ghost use Rattle.tokens.specs.Joints.Quick.{Codes};
 ghost use Rattle.screen.specs.Effect.{called as Effect·called};
-ghost use Rattle.screen.specs.Model.{badVisit, capOf, ownOf, sumAt, visitOf};
+ghost use Rattle.screen.specs.Laws.Found.Model.{badVisit, capOf, ownOf, sumAt, visitOf};
 ghost use Rattle.cells.specs.Choice.{pick};
-ghost use Rattle.screen.specs.VisitLaws.{visitIn, tallyIn, visitBy, plainEffect, raisedBy, VisitBy, SeenBy};
+ghost use Rattle.screen.specs.Laws.Code.Visit.{visitIn, tallyIn, visitBy, plainEffect, raisedBy, VisitBy, SeenBy};
 use crate::cell::cell_of;
 use crate::cell::height_in;
 use crate::effect::sum_at;

@@ -3,10 +3,10 @@ ghost use mathlib.Core.Path.{_≡_};
 ghost use mathlib.Core.Logic.{_≢_};
 ghost use Prim.Native.Nat.{ℕ, _<_};
 ghost use lib.ListN.{length};
-ghost use Rattle.tokens.specs.Quick.{Codes};
+ghost use Rattle.tokens.specs.Joints.Quick.{Codes};
 ghost use Rattle.rom.specs.Sizes.{romMost};
-ghost use Rattle.screen.specs.Model.{blankOf, noTally, walkOf};
-ghost use Rattle.screen.specs.WalkLaws.{spoiltWay, outWay, pathOf, KeptIs, Fit, Came, CameIf, Settled, WentOn, SetOut, EndIs, WalkIs};
+ghost use Rattle.screen.specs.Laws.Found.Model.{blankOf, noTally, walkSteps};
+ghost use Rattle.screen.specs.Laws.Code.Walk.{spoiltWay, outWay, pathOf, KeptIs, WalkFit, CameTo, CameIf, Settled, WentOn, SetOut, EndsWith, WalkIs};
 use crate::cell::larger;
 use crate::limits::ROM_MOST;
 use crate::limits::UNMET;
@@ -78,8 +78,8 @@ fn kept(work: &mut [u16], place: u32, top: u32) -> u32
 
 // A place is come to with the heights of a cell: it has none yet, and is at hand; or it has these.
 fn put(text: Text, seen: &mut [u32], work: &mut [u16], way: Way, place: u32, cell: u32) -> Way
-    requires { ⌜ Fit text (now seen) (now work) way × (place ≢ 0) × (cell ≢ blankOf (text .within)) ⌝ }
-    ensures { λ r. ⌜ Came text (now (seen .entry)) (now (work .entry)) way place cell r (now (seen .exit)) (now (work .exit)) ⌝ }
+    requires { ⌜ WalkFit text (now seen) (now work) way × (place ≢ 0) × (cell ≢ blankOf (text .within)) ⌝ }
+    ensures { λ r. ⌜ CameTo text (now (seen .entry)) (now (work .entry)) way place cell r (now (seen .exit)) (now (work .exit)) ⌝ }
 {
     if place < text.low {
         return spoilt(way);
@@ -105,7 +105,7 @@ fn put(text: Text, seen: &mut [u32], work: &mut [u16], way: Way, place: u32, cel
 
 // The same, where 0 is no place.
 fn put_if(text: Text, seen: &mut [u32], work: &mut [u16], way: Way, place: u32, cell: u32) -> Way
-    requires { ⌜ Fit text (now seen) (now work) way × (cell ≢ blankOf (text .within)) ⌝ }
+    requires { ⌜ WalkFit text (now seen) (now work) way × (cell ≢ blankOf (text .within)) ⌝ }
     ensures { λ r. ⌜ CameIf text (now (seen .entry)) (now (work .entry)) way place cell r (now (seen .exit)) (now (work .exit)) ⌝ }
 {
     if place == 0 {
@@ -116,7 +116,7 @@ fn put_if(text: Text, seen: &mut [u32], work: &mut [u16], way: Way, place: u32, 
 
 // Where no place is at hand, the last that waits is.
 fn settled(text: Text, seen: &[u32], work: &[u16], way: Way) -> Way
-    requires { ⌜ Fit text (now seen) (now work) way ⌝ }
+    requires { ⌜ WalkFit text (now seen) (now work) way ⌝ }
     ensures { λ r. ⌜ Settled text (now (seen .entry)) (now (work .entry)) way r ⌝ }
 {
     if way.place != 0 {
@@ -138,7 +138,7 @@ fn settled(text: Text, seen: &[u32], work: &[u16], way: Way) -> Way
 
 // The place at hand was visited: it is taken off, and its successors are come to. One of them is gone on with, and only the other waits.
 fn onward(text: Text, seen: &mut [u32], work: &mut [u16], way: Way, visit: Visit) -> Way
-    requires { ⌜ Fit text (now seen) (now work) way × (way .place ≢ 0) × (visit .cell ≢ 0 → visit .cell ≢ blankOf (text .within)) ⌝ }
+    requires { ⌜ WalkFit text (now seen) (now work) way × (way .place ≢ 0) × (visit .cell ≢ 0 → visit .cell ≢ blankOf (text .within)) ⌝ }
     ensures { λ r. ⌜ WentOn text (now (seen .entry)) (now (work .entry)) way visit r (now (seen .exit)) (now (work .exit)) ⌝ }
 {
     let off = Way {
@@ -195,8 +195,8 @@ fn walk_on(
     work: &mut [u16],
     first: Way,
 ) -> Walk
-    requires { ⌜ Codes (now codes) × Fit text (now seen) (now work) first × (first .fine ≢ 0 → first .place ≡ 0 → first .top ≡ 0) ⌝ }
-    ensures { λ r. ⌜ EndIs (walkOf (now (rom .entry)) text (now (kinds .entry)) (now (sums .entry)) romMost (pathOf (now
+    requires { ⌜ Codes (now codes) × WalkFit text (now seen) (now work) first × (first .fine ≢ 0 → first .place ≡ 0 → first .top ≡ 0) ⌝ }
+    ensures { λ r. ⌜ EndsWith (walkSteps (now (rom .entry)) text (now (kinds .entry)) (now (sums .entry)) romMost (pathOf (now
         (seen .entry)) (now (work .entry)) first noTally)) r (now (seen .exit)) ⌝ }
 {
     let mut way = first;

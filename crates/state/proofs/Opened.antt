@@ -8,11 +8,11 @@ use native.Mathlib.Nat.{sub-zero}
 use borrow.Author.Tests.{eq-eqb, ne-eqb}
 use lib.Dec.{eqb}
 use lib.ListN.{length, replicate, length-replicate, drop-of-length-le}
-use Rattle.cells.specs.Facts.{when-true, when-false}
+use Rattle.cells.specs.Laws.Facts.{when-true, when-false}
 use Rattle.rom.specs.Header.{headerOf}
 use Rattle.rom.specs.Sizes.{workSize, storeSize}
 use Rattle.memory.specs.Writing.{clearedOf}
-use Rattle.memory.specs.Laws.{written-is}
+use Rattle.memory.specs.Laws.Memory.{written-is}
 use Rattle.state.specs.Scene.{turn}
 use Rattle.state.specs.Open.{freshState, zeroState, openRefusal, openOf}
 use Rattle.state.specs.declared.answer.Answer.the-variants.{Going, Refused}

@@ -2,13 +2,13 @@
 use Prim.Native.Nat.{ℕ, suc, _+_, _<_, _≤_}
 use mathlib.Core.Path.{_≡_, refl, sym, _∙_, subst}
 use lib.ListN.{getD}
-use Rattle.cells.specs.Facts.{holds}
+use Rattle.cells.specs.Laws.Facts.{holds}
 use Rattle.state.specs.Whole.{entryKept, entryWhole}
 use Rattle.state.specs.declared.state.Numbers.{Numbers}
 use mathlib.Core.Bool.{Bool, true, false, not}
 use native.Mathlib.Omega.{arith}
 use lib.Dec.{T}
-use Rattle.tree.specs.Laws.{every-one}
+use Rattle.tree.specs.Laws.Trees.{every-one}
 use Rattle.tree.specs.Whole.{everyBelow}
 
 pub one-fails : (n : ℕ) (f : ℕ → Bool) (i : ℕ) (b : Bool) → i < n → b ≡ f i → not b ≡ true → false ≡ everyBelow n f

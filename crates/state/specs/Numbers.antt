@@ -1,11 +1,10 @@
 -- The program numbers of a state: "A number or name held twice: the oldest counts." Assumes nothing.
-use Prim.Native.Nat.{ℕ, zero, suc, _+_, _-_}
+use Prim.Native.Nat.{ℕ, zero, suc, _+_}
 use mathlib.Core.Bool.{Bool, true, false}
 use mathlib.Core.List.{List, [], _∷_}
 use lib.ListN.{getD, set}
 use lib.Dec.{ltb, eqb}
 use Rattle.cells.specs.Choice.{pick, find}
-use Rattle.tokens.specs.Table.{isProgram}
 use Rattle.tokens.specs.Definition.{colon, value, constant}
 use Rattle.state.specs.declared.state.Numbers.{Numbers}
 
@@ -63,7 +62,3 @@ assignedOf ns i v =
       wides = ns .wides;
       count = ns .count;
     }
-
--- for the code's own steps: a kind put down among those of all program numbers
-abbrev pub putKind : List ℕ → ℕ → ℕ → List ℕ
-putKind kinds n kind = pick (isProgram n) (set kinds (n - 0x800) kind) kinds

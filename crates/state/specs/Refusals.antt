@@ -78,8 +78,8 @@ leadsOut (Branch bits aim) = outside aim
 leadsOut (Number n) = false
 leadsOut (Definition n k) = false
 
-abbrev pub astray : Scene → Token → Bool
-astray s t =
+abbrev pub goesAstray : Scene → Token → Bool
+goesAstray s t =
     asked always t (λ s t. leadsOut (t .operand)) s || asked choice t (λ s t. eqb (cellOf s 0) 0 && leadsOut (t .operand)) s
 
 -- ---- 16: "return stack above 32, below its frame's base, or not at the base on leaving a body (a finish asks nothing of it)"
@@ -192,7 +192,7 @@ refusals s t =
     (13, taken s t) ∷
     (bodyRefusal s t, not (eqb (bodyRefusal s t) 0)) ∷
     (14, low s t) ∷
-    (19, astray s t) ∷
+    (19, goesAstray s t) ∷
     (16, backWrong s t) ∷
     (15, high s t) ∷
     (17, tooManyFrames s t) ∷

@@ -1,7 +1,7 @@
 // A state taken apart: its numbers are one small struct that goes by value, and its arrays are lent to who changes them. A token's function
 // takes the numbers and hands them back with an answer; what it does not change it is not lent.
 ghost use mathlib.Core.Path.{_≡_};
-ghost use Rattle.state.specs.Apart.{coreOf, handed};
+ghost use Rattle.state.specs.Joints.Apart.{coreOf, handed};
 ghost use Rattle.state.specs.declared.apart.Told.the-variants.{On, Not};
 use crate::state::State;
 

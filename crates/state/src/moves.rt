@@ -3,8 +3,8 @@
 ghost use mathlib.Core.Path.{_≡_};
 ghost use mathlib.Core.Bool.{false};
 ghost use lib.ListN.{getD};
-ghost use Rattle.state.specs.Moves.{pushOf, callOf, leaveOf, stepped};
-ghost use Rattle.state.specs.Apart.{onStack, onCalls, Moves, Looks, Takes, baseIn};
+ghost use Rattle.state.specs.Joints.Moves.{pushOf, callOf, leaveOf, stepped};
+ghost use Rattle.state.specs.Joints.Apart.{onStack, onCalls, Moves, Looks, Takes, baseIn};
 ghost use Rattle.state.specs.declared.answer.Answer.the-variants.{Refused, Going};
 use crate::answer::Answer;
 use crate::answer::Stepped;

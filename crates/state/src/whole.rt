@@ -3,7 +3,7 @@ ghost use mathlib.Core.Path.{_≡_};
 ghost use mathlib.Core.Bool.{Bool};
 ghost use mathlib.Core.List.{List};
 ghost use Prim.Native.Nat.{_<_};
-ghost use Rattle.state.specs.Apart.{numbersOn};
+ghost use Rattle.state.specs.Joints.Apart.{numbersOn};
 ghost use Rattle.state.specs.Whole.{isPlace, nextBase, frameWhole, callsWhole, entryKept, numbersWhole, heightsKept, wholeOf};
 use crate::moves::base_at;
 use crate::moves::entry;

@@ -7,11 +7,11 @@ use mathlib.Core.List.{List, [], _∷_}
 use lib.ListN.{drop}
 use lib.Dec.{T, eqb, eqb→eq}
 use Rattle.cells.specs.Choice.{find}
-use Rattle.cells.specs.Tests.{Rest, find-none}
+use Rattle.cells.specs.Laws.Tests.{Rest, find-none}
 use Rattle.rom.specs.Words.{lettersOf}
 use Rattle.tokens.specs.Row.{Row}
 use Rattle.tokens.specs.Table.{ends, lows, highs, doubles, table, rowOf, isProgram, program, notListed}
-use Rattle.tokens.specs.Rows.{found, among, Beside, none-left}
+use Rattle.tokens.specs.Laws.Rows.{found, among, Beside, none-left}
 use Rattle.tokens.specs.Name.{nameOf, packedFrom, frontOf, restOf}
 
 a-program : (n : ℕ) → isProgram n ≡ true → rowOf n ≡ program

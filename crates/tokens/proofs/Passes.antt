@@ -7,8 +7,8 @@ use native.Mathlib.Omega.{arith}
 use borrow.Author.Tests.{eq-eqb, ne-eqb, leb-true}
 use lib.Dec.{T, eqb, ltb, leb, eqb→eq, ltb→lt}
 use Rattle.cells.specs.Choice.{pick}
-use Rattle.cells.specs.Tests.{neqb→ne}
-use Rattle.cells.specs.Facts.{holds, fails, both-hold, and-first, and-second, four-hold, is-false}
+use Rattle.cells.specs.Laws.Tests.{neqb→ne}
+use Rattle.cells.specs.Laws.Facts.{holds, fails, both-hold, and-first, and-second, four-hold, is-false}
 use Rattle.rom.specs.Bytes.{byteOf}
 use Rattle.tokens.specs.Family.{call, assign}
 use Rattle.tokens.specs.Row.{none}
@@ -16,11 +16,12 @@ use Rattle.tokens.specs.Table.{ends, lows, highs, doubles, table, rowOf,
 use Rattle.tokens.specs.Code.{packed, codeOf, familyIn, formIn}
 use Rattle.tokens.specs.Decode.{isDouble, numberOf, behindNumber, behindString, behindOf}
 use Rattle.tokens.specs.Place.{misplacedOf}
-use Rattle.tokens.specs.Body.{kindOf, beyond, passes, passedOf, frequent}
-use Rattle.tokens.specs.Rows.{found, among, Beside, none-left}
-use Rattle.tokens.specs.GlanceLaws.{double-plain}
+use Rattle.tokens.specs.Body.{kindOf}
+use Rattle.tokens.specs.Laws.Rows.{found, among, Beside, none-left}
+use Rattle.tokens.specs.Laws.Glance.{double-plain}
 use Rattle.tokens.proofs.Codes.{listed, a-program}
 use Rattle.tokens.proofs.Ranges.{bounds}
+use Rattle.tokens.specs.Joints.Body.{beyond, passes, passedOf, frequent}
 
 -- ---- a test of so many numbers from one on
 abbrev everyFrom : (ℕ → Bool) → ℕ → ℕ → Bool

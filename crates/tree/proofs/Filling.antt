@@ -7,8 +7,8 @@ use mathlib.Core.Path.{_≡_, refl, _∙_}
 use mathlib.Core.WellFounded.{WellFounded, InvImage·wf}
 use lib.ListN.{length, take, set, length-set}
 use lib.WfN.{Nat·lt-wfRel}
-use Rattle.tree.specs.Rows.{rowOf, rowsFrom, rowsOf}
-use Rattle.tree.specs.RowLaws.{column-none, column-set, column-all}
+use Rattle.tree.specs.Rows.{nodeRow, rowsFrom, rowsOf}
+use Rattle.tree.specs.Laws.Rows.{column-none, column-set, column-all}
 use Rattle.tree.specs.declared.tree.Tree.{Tree}
 use Rattle.tree.specs.declared.rows.Row.{Row}
 
@@ -43,12 +43,12 @@ module _ (tree : Tree) where
     pub sums : u .k + 1 + left ≡ 32
     sums = omega (arith, u .sum, e)
 
-    pub sets : (r : Row) → r ≡ rowOf tree (u .k) → take (u .k + 1) (set (u .rows) (u .k) r) ≡ rowsFrom tree (u .k + 1) 0
+    pub sets : (r : Row) → r ≡ nodeRow tree (u .k) → take (u .k + 1) (set (u .rows) (u .k) r) ≡ rowsFrom tree (u .k + 1) 0
     sets r is =
         let within : u .k < length (u .rows) = omega (arith, below, u .size) in
         rw is (column-set (λ x. x) tree (u .rows) (u .k) within (u .written))
 
-    abbrev pub one-more : (r : Row) → r ≡ rowOf tree (u .k) → Filled
+    abbrev pub one-more : (r : Row) → r ≡ nodeRow tree (u .k) → Filled
     one-more r is = record {
       k = u .k + 1;
       left = left;

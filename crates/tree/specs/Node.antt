@@ -73,14 +73,14 @@ pub record Written : Type 0 where
   pub tree : Tree
 
 -- refused: the tree as it was
-abbrev pub refusedOf : ℕ → Tree → Written
-refusedOf why t = record { outcome = Refused why; tree = t }
+abbrev pub writeRefused : ℕ → Tree → Written
+writeRefused why t = record { outcome = Refused why; tree = t }
 
-abbrev pub doneOf : Tree → Written
-doneOf t = record { outcome = Done; tree = t }
+abbrev pub writeDone : Tree → Written
+writeDone t = record { outcome = Done; tree = t }
 
 abbrev pub newDeviceOf : Tree → Written
-newDeviceOf t = pick (noRoom t) (refusedOf 20 t) (doneOf (childOf t))
+newDeviceOf t = pick (noRoom t) (writeRefused 20 t) (writeDone (childOf t))
 
 abbrev pub finishDeviceOf : Tree → Written
-finishDeviceOf t = pick (outermost t) (refusedOf 20 t) (doneOf (finishedOf t))
+finishDeviceOf t = pick (outermost t) (writeRefused 20 t) (writeDone (finishedOf t))

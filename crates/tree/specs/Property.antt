@@ -13,7 +13,7 @@ use Rattle.rom.specs.Sizes.{propertiesMost, storeSize}
 use Rattle.rom.specs.Words.{lettersOf}
 use Rattle.tree.specs.Held.{Property, heldOf, laidOut, matches, indexOf}
 use Rattle.tree.specs.Whole.{nameMost, wholeTree}
-use Rattle.tree.specs.Node.{Written, doneOf, refusedOf}
+use Rattle.tree.specs.Node.{Written, writeDone, writeRefused}
 use Rattle.tree.specs.declared.tree.Tree.{Tree}
 
 -- a value, with the null that device-name and its like add
@@ -85,7 +85,7 @@ storePut t store name value = storeWith (wouldHold t store name value)
 -- what the call gives, and the store then: both as they were where it is refused
 unfoldable pub putOf : Tree → List ℕ → List ℕ → List ℕ → Written
 putOf t store name value =
-    pick (eqb (putRefusal t store name value) 0) (doneOf (treePut t store name value)) (refusedOf (putRefusal t store name value) t)
+    pick (eqb (putRefusal t store name value) 0) (writeDone (treePut t store name value)) (writeRefused (putRefusal t store name value) t)
 
 unfoldable pub storeOf : Tree → List ℕ → List ℕ → List ℕ → List ℕ
 storeOf t store name value = pick (eqb (putRefusal t store name value) 0) (storePut t store name value) store

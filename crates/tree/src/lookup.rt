@@ -6,9 +6,9 @@ ghost use lib.ListN.{length, drop};
 ghost use lib.Dec.{eqb};
 ghost use Rattle.tree.specs.Held.{liveOf};
 ghost use Rattle.tree.specs.Whole.{parentOf};
-ghost use Rattle.tree.specs.Path.{splitOf, anyEmpty, malformed as Path·malformed, lessNull, isCalled, childNamed, downFrom, placeOf, findNodeOf, findPropertyOf, propertyValueOf};
+ghost use Rattle.tree.specs.Path.{splitOf, anyEmpty, malformed as Path·malformed, lessNull, isCalled, childNamed, downFrom, namedPlace, findNodeOf, findPropertyOf, propertyValueOf};
 ghost use Rattle.tree.specs.Path.{ownValueOf};
-ghost use Rattle.tree.specs.PathLaws.{endOf, childSought};
+ghost use Rattle.tree.specs.Laws.Path.{partEnd, childSought};
 use crate::property::find;
 use crate::property::name_size;
 use crate::property::same_bytes;
@@ -34,7 +34,7 @@ pub enum ValueSought {
 // Where the part that starts at a place ends: at the next slash, or with the path.
 fn part_end(path: &[u8], at: usize) -> usize
     requires { ⌜ at ≤ length (now path) ⌝ }
-    ensures { λ r. ⌜ (r ≡ at + endOf (drop at (now (path .entry)))) × (r ≤ length (now (path .entry))) ⌝ }
+    ensures { λ r. ⌜ (r ≡ at + partEnd (drop at (now (path .entry)))) × (r ≤ length (now (path .entry))) ⌝ }
 {
     let mut end = at;
     while end < path.len() {
@@ -83,7 +83,7 @@ fn malformed(path: &[u8]) -> bool
 // Where a node's property has its value, the oldest of that name.
 fn place_of(store: &[u8], tree: Tree, node: u32, name: &[u8]) -> ValueSought
     requires { ⌜ (tree .held ≤ 128) × (liveOf tree ≤ length (now store)) ⌝ }
-    ensures { λ r. ⌜ r ≡ placeOf tree (now (store .entry)) node (now (name .entry)) ⌝ }
+    ensures { λ r. ⌜ r ≡ namedPlace tree (now (store .entry)) node (now (name .entry)) ⌝ }
 {
     let found = find(store, tree, node, name);
     let index = found.index;

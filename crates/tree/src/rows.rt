@@ -2,7 +2,7 @@
 ghost use mathlib.Core.Path.{_≡_};
 ghost use Prim.Native.Nat.{_≤_, _<_};
 ghost use lib.ListN.{length};
-ghost use Rattle.tree.specs.Rows.{countFrom, rowOf, tableRefusal, rowsRefusal, rowsThen, parentsOf, countsOf, rowsOf};
+ghost use Rattle.tree.specs.Rows.{countFrom, nodeRow, tableRefusal, rowsRefusal, rowsThen, parentsOf, countsOf, rowsOf};
 use crate::node::parent;
 use crate::tree::Tree;
 use crate::tree::is_whole;
@@ -33,7 +33,7 @@ fn count_of(owners: &[u32; PROPERTIES_MOST], held: usize, node: u32) -> u32
 // A node's row; a row of no node is zero.
 fn row_of(tree: Tree, k: usize) -> Row
     requires { ⌜ (k < 32) × (tree .held ≤ 128) ⌝ }
-    ensures { λ r. ⌜ r ≡ rowOf tree k ⌝ }
+    ensures { λ r. ⌜ r ≡ nodeRow tree k ⌝ }
 {
     if tree.nodes <= k {
         return Row {

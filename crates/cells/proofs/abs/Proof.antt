@@ -1,6 +1,6 @@
 use mathlib.Core.Path.{_∙_, sym}
 use borrow.Author.Needs.{needs}
-use Rattle.cells.specs.Laws.{abs-low, abs-high}
+use Rattle.cells.specs.Laws.Cells.{abs-low, abs-high}
 use Rattle.cells.proofs.abs.Statement.{statement}
 use Rattle.cells.proofs.abs.Tie as tie
 

@@ -1,5 +1,5 @@
 use borrow.Author.Needs.{needs}
-use Rattle.cells.specs.Laws.{ashift-low, ashift-high}
+use Rattle.cells.specs.Laws.Cells.{ashift-low, ashift-high}
 use Rattle.cells.proofs.ashift.Statement.{statement}
 use Rattle.cells.proofs.ashift.Tie as tie
 

@@ -1,8 +1,8 @@
 use Prim.Native.Nat.{_+_, _≤_}
 use Rattle.acts.proofs.Backs.{noArrays}
 use Rattle.acts.proofs.Defining.{colon-stops-told, colon-told, colon-end}
-use Rattle.state.specs.Apart.{joined, onNumbers}
-use Rattle.state.specs.Moves.{stepped}
+use Rattle.state.specs.Joints.Apart.{joined, onNumbers}
+use Rattle.state.specs.Joints.Moves.{stepped}
 use Rattle.state.specs.State.{movedTo}
 use Rattle.state.specs.declared.answer.Answer.the-variants.{Going}
 use Rattle.state.specs.declared.state.State.{State}

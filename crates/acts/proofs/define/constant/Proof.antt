@@ -1,8 +1,8 @@
 use Prim.Native.Nat.{ℕ}
 use Rattle.acts.proofs.Backs.{held-still}
 use Rattle.acts.proofs.Defining.{value-low-told, value-told}
-use Rattle.acts.specs.Acts.{Fresh, Definable}
-use Rattle.state.specs.Apart.{numbersOn, joined, onStack, onNumbers, takenOn}
+use Rattle.acts.specs.Joints.Acts.{Fresh, Definable}
+use Rattle.state.specs.Joints.Apart.{numbersOn, joined, onStack, onNumbers, takenOn}
 use denote.Ref.{now}
 use mathlib.Core.Path.{refl, sym, subst}
 use borrow.Author.Needs.{needs}

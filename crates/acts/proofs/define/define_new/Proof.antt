@@ -1,5 +1,5 @@
 use Rattle.acts.proofs.Defining.{value-kinds, constant-left}
-use Rattle.state.specs.Apart.{onStack}
+use Rattle.state.specs.Joints.Apart.{onStack}
 use denote.Ref.{now}
 use borrow.Author.Needs.{needs}
 use Rattle.acts.proofs.define.define_new.Statement.{statement}

@@ -1,5 +1,5 @@
 use Rattle.acts.proofs.Defining.{variable-full-told, variable-told}
-use Rattle.state.specs.Apart.{joined, onNumbers}
+use Rattle.state.specs.Joints.Apart.{joined, onNumbers}
 use denote.Ref.{now}
 use mathlib.Core.Path.{refl}
 use borrow.Author.Needs.{needs}

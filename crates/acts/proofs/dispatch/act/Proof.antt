@@ -2,14 +2,14 @@ use Prim.Native.Nat.{ℕ}
 use Rattle.acts.proofs.Acting.{plain-turn, text-turn, text-form, assign-turn, define-turn, define-fits, frames-open, none-other, records-still}
 use Rattle.acts.proofs.Backs.{noArrays}
 use Rattle.acts.proofs.Coming.{quiet-comes, plain-comes}
-use Rattle.acts.specs.Acts.{everyOn, Tables, coldFamilies}
-use Rattle.cells.specs.Tests.{Rest}
+use Rattle.acts.specs.Joints.Acts.{everyOn, Tables, coldFamilies}
+use Rattle.cells.specs.Laws.Tests.{Rest}
 use Rattle.rom.specs.Bytes.{byteOf}
-use Rattle.state.specs.Apart.{Arrays, joined}
+use Rattle.state.specs.Joints.Apart.{Arrays, joined}
 use Rattle.tokens.specs.Code.{formIn, familyIn}
-use Rattle.tokens.specs.GlanceLaws.{glance-ahead, text-fits}
+use Rattle.tokens.specs.Laws.Glance.{glance-ahead, text-fits}
 use Rattle.tokens.specs.declared.decoding.Operand.the-variants.{Nothing}
-use Rattle.tree.specs.Apart.{Tallied}
+use Rattle.tree.specs.Joints.Apart.{Tallied}
 use denote.Ref.{now}
 use mathlib.Core.Bool.{true}
 use mathlib.Core.List.{[]}

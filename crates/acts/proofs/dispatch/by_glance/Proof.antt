@@ -1,6 +1,6 @@
 use Rattle.acts.proofs.Acting.{unread-turn, misplaced-turn}
-use Rattle.acts.specs.Acts.{everyOn}
-use Rattle.state.specs.Apart.{joined}
+use Rattle.acts.specs.Joints.Acts.{everyOn}
+use Rattle.state.specs.Joints.Apart.{joined}
 use denote.Ref.{now}
 use mathlib.Core.Path.{refl, sym, ap, _∙_}
 use borrow.Author.Needs.{needs}

@@ -1,13 +1,13 @@
 use Prim.Native.Nat.{ℕ, _+_, _*_, _<_}
 use Rattle.acts.proofs.Acting.{unread-turn, misplaced-turn}
 use Rattle.acts.proofs.Coming.{plain-comes, glance-early, seen-early, seen-call, cut-early}
-use Rattle.acts.specs.Acts.{codeFor, everyOn}
+use Rattle.acts.specs.Joints.Acts.{codeFor, everyOn}
 use Rattle.rom.specs.Bytes.{byteOf}
-use Rattle.state.specs.Apart.{Arrays, joined}
+use Rattle.state.specs.Joints.Apart.{Arrays, joined}
 use Rattle.tokens.specs.Code.{codeOf}
 use Rattle.tokens.specs.Family.{fetch, store, leave, call}
-use Rattle.tokens.specs.Glance.{seenAs, nothingSeen}
-use Rattle.tokens.specs.GlanceForms.{past-end}
+use Rattle.tokens.specs.Joints.Glance.{seenAs, nothingSeen}
+use Rattle.tokens.specs.Laws.GlanceForms.{past-end}
 use Rattle.tokens.specs.Place.{misplacedOf}
 use Rattle.tokens.specs.Table.{ends, lows, highs, doubles, table, rowOf}
 use Rattle.tokens.specs.declared.decoding.Operand.the-variants.{Nothing}

@@ -1,8 +1,8 @@
 use Rattle.acts.proofs.Backs.{noArrays}
 use Rattle.acts.proofs.Cold.{int-low, int-high, int-full}
 use Rattle.acts.proofs.Encoding.{int-told, int-room}
-use Rattle.state.specs.Apart.{onStack, joined, takenOn}
-use Rattle.state.specs.Done.{stopped}
+use Rattle.state.specs.Joints.Apart.{onStack, joined, takenOn}
+use Rattle.state.specs.Laws.Done.{stopped}
 use denote.Ref.{now}
 use mathlib.Core.Path.{refl, sym}
 use borrow.Author.Needs.{needs}

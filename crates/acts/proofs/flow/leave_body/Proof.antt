@@ -1,5 +1,5 @@
 use Rattle.acts.proofs.Backs.{via, leaves}
-use Rattle.state.specs.Apart.{onCalls, joined}
+use Rattle.state.specs.Joints.Apart.{onCalls, joined}
 use denote.Ref.{now}
 use mathlib.Core.Path.{refl}
 use borrow.Author.Needs.{needs}

@@ -1,5 +1,5 @@
 use Rattle.acts.proofs.Pops.{paired}
-use Rattle.state.specs.Apart.{onStack, joined}
+use Rattle.state.specs.Joints.Apart.{onStack, joined}
 use denote.Ref.{now}
 use borrow.Author.Needs.{needs}
 use Rattle.acts.proofs.flow.pair.Statement.{statement}

@@ -1,6 +1,6 @@
 use Rattle.acts.proofs.Backs.{via}
 use Rattle.acts.proofs.Cold.{text-high, text-good}
-use Rattle.state.specs.Done.{carried, stopped}
+use Rattle.state.specs.Laws.Done.{carried, stopped}
 use Rattle.state.specs.Effects.{effects, actOf}
 use mathlib.Core.Path.{refl, sym}
 use borrow.Author.Needs.{needs}

@@ -2,8 +2,8 @@ use Rattle.acts.proofs.Backs.{via}
 use Rattle.acts.proofs.Cold.{fetch-low}
 use Rattle.acts.proofs.Memories.{fetch-refused, fetch-good}
 use Rattle.acts.proofs.Pops.{first-pop, pushed-on}
-use Rattle.state.specs.Apart.{onStack, joined, takenOn}
-use Rattle.state.specs.Done.{stopped}
+use Rattle.state.specs.Joints.Apart.{onStack, joined, takenOn}
+use Rattle.state.specs.Laws.Done.{stopped}
 use denote.Ref.{now}
 use mathlib.Core.Path.{refl, sym}
 use native.Mathlib.Omega.{arith}

@@ -2,8 +2,8 @@ use Rattle.acts.proofs.Backs.{lowered-on}
 use Rattle.acts.proofs.Cold.{store-low}
 use Rattle.acts.proofs.Memories.{store-refused, store-good}
 use Rattle.acts.proofs.Pops.{two-pops}
-use Rattle.state.specs.Apart.{onStack, joined, takenOn}
-use Rattle.state.specs.Done.{stopped}
+use Rattle.state.specs.Joints.Apart.{onStack, joined, takenOn}
+use Rattle.state.specs.Laws.Done.{stopped}
 use denote.Ref.{now}
 use mathlib.Core.Path.{refl, sym}
 use borrow.Author.Needs.{needs}

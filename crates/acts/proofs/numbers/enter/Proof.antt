@@ -1,8 +1,8 @@
 use Rattle.acts.proofs.Backs.{back}
 use Rattle.acts.proofs.Defining.{enter-body, enter-high, enter-value}
 use Rattle.acts.proofs.Slotting.{held-there, enter-unheld}
-use Rattle.acts.specs.Acts.{onProgram}
-use Rattle.state.specs.Apart.{joined}
+use Rattle.acts.specs.Joints.Acts.{onProgram}
+use Rattle.state.specs.Joints.Apart.{joined}
 use denote.Ref.{now}
 use mathlib.Core.Path.{sym, _∙_}
 use borrow.Author.Needs.{needs}

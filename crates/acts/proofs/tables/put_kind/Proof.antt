@@ -1,6 +1,6 @@
 use mathlib.Core.Path.{sym, _∙_}
 use native.Mathlib.Omega.{arith}
-use Rattle.state.specs.Seeking.{program-bounds}
+use Rattle.state.specs.Laws.Seeking.{program-bounds}
 use borrow.Author.Needs.{needs}
 use Rattle.acts.proofs.tables.put_kind.Statement.{statement}
 use Rattle.acts.proofs.tables.put_kind.Tie as tie

@@ -1,5 +1,5 @@
 use borrow.Author.Needs.{needs}
-use Rattle.cells.specs.Laws.{signed-lt}
+use Rattle.cells.specs.Laws.Cells.{signed-lt}
 use Rattle.cells.proofs.order.below.Statement.{statement}
 use Rattle.cells.proofs.order.below.Tie as tie
 

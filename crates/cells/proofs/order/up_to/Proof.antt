@@ -1,5 +1,5 @@
 use borrow.Author.Needs.{needs}
-use Rattle.cells.specs.Laws.{signed-le}
+use Rattle.cells.specs.Laws.Cells.{signed-le}
 use Rattle.cells.proofs.order.up_to.Statement.{statement}
 use Rattle.cells.proofs.order.up_to.Tie as tie
 

@@ -3,7 +3,7 @@ use mathlib.Core.Path.{_≡_, _∙_}
 use lib.ListN.{length, drop}
 use denote.Ref.{now}
 use Rattle.lamp.specs.Budget.{stepsFrom, budgetOf}
-use Rattle.lamp.specs.BudgetLaws.{digit-low, digit-high, too-many, digit-more, digits-end, budget-none, budget-some}
+use Rattle.lamp.specs.Laws.Budget.{digit-low, digit-high, too-many, digit-more, digits-end, budget-none, budget-some}
 use borrow.Author.Needs.{needs}
 use Rattle.lamp.proofs.budget.budget_of.Statement.{statement}
 use Rattle.lamp.proofs.budget.budget_of.Tie as tie

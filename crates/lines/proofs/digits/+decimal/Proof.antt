@@ -3,14 +3,14 @@ use native.Mathlib.Omega.{arith}
 use borrow.Author.Needs.{needs}
 use borrow.Fn.Kinds.{In}
 use borrow.Fn.PlainCycle.{Measures, is, falls, and}
-use Rattle.lines.specs.Laws.{decimal-one, decimal-more}
-use Rattle.lines.specs.Wrote.{wrote-then}
+use Rattle.lines.specs.Laws.Texts.{decimal-one, decimal-more}
 use Rattle.lines.proofs.digits.decimal.Reads as decimal
 use Rattle.lines.proofs.digits.decimal.Kinds as decimal-kinds
 use Rattle.lines.proofs.digits.+decimal.Lts-decimal as decimal-lts
 use Rattle.lines.proofs.words.letter.Reads as letter-reads
 use Rattle.lines.proofs.digits.+decimal.{statement}
 use Rattle.lines.proofs.digits.+decimal.Tie.{close}
+use Rattle.lines.specs.Laws.Wrote.{wrote-then}
 
 -- the number itself: a tenth of it is less
 abbrev μ-decimal : Measures 1 decimal-kinds.ps ℕ

@@ -3,9 +3,9 @@ use lib.ListN.{length, getD, drop}
 use denote.Ref.{now}
 use borrow.Author.Needs.{needs}
 use Rattle.lines.specs.Digits.{hexPair, hexOf}
-use Rattle.lines.specs.Laws.{hex-more, hex-none}
-use Rattle.lines.specs.Wrote.{Ahead, ahead-all, ahead-on, ahead-none}
+use Rattle.lines.specs.Laws.Texts.{hex-more, hex-none}
 use Rattle.lines.proofs.digits.hex.Statement.{statement}
+use Rattle.lines.specs.Laws.Wrote.{Ahead, ahead-all, ahead-on, ahead-none}
 use Rattle.lines.proofs.digits.hex.Tie as tie
 
 abbrev Inv-loop : tie.InvT-loop

@@ -1,6 +1,6 @@
 use borrow.Author.Needs.{needs}
-use Rattle.lines.specs.Wrote.{wrote-then}
 use Rattle.lines.proofs.digits.hex_byte.Statement.{statement}
+use Rattle.lines.specs.Laws.Wrote.{wrote-then}
 use Rattle.lines.proofs.digits.hex_byte.Tie as tie
 
 pub hex-byte-spec : {M : Type 1} → statement M

@@ -1,7 +1,7 @@
 use borrow.Author.Needs.{needs}
 use Rattle.lines.specs.Digits.{hexWord}
-use Rattle.lines.specs.Wrote.{wrote-none, wrote-then}
 use Rattle.lines.proofs.digits.hex_word.Statement.{statement}
+use Rattle.lines.specs.Laws.Wrote.{wrote-none, wrote-then}
 use Rattle.lines.proofs.digits.hex_word.Tie as tie
 
 pub hex-word-spec : {M : Type 1} → statement M

@@ -5,8 +5,7 @@ use borrow.Author.Needs.{needs}
 use borrow.Fn.Kinds.{In}
 use borrow.Fn.PlainCycle.{Measures, is, falls, and}
 use Rattle.rom.specs.Words.{lettersOf}
-use Rattle.lines.specs.ExplainLaws.{path-none, path-root, path-more}
-use Rattle.lines.specs.Wrote.{wrote-none, wrote-then}
+use Rattle.lines.specs.Laws.Explain.{path-none, path-root, path-more}
 use Rattle.lines.proofs.explain.path_to.Reads as path-to
 use Rattle.lines.proofs.explain.path_to.Kinds as path-to-kinds
 use Rattle.lines.proofs.explain.+path_to.Lts-path_to as path-to-lts
@@ -15,6 +14,7 @@ use Rattle.lines.proofs.explain.title.Reads as title-reads
 use Rattle.lines.proofs.words.letter.Reads as letter-reads
 use Rattle.lines.proofs.explain.+path_to.{statement}
 use Rattle.lines.proofs.explain.+path_to.Tie.{close}
+use Rattle.lines.specs.Laws.Wrote.{wrote-none, wrote-then}
 
 -- how deep the node may lie: its parent may lie one less
 abbrev μ-path-to : Measures 2 path-to-kinds.ps ℕ

@@ -1,7 +1,7 @@
 use borrow.Author.Needs.{needs}
 use Rattle.rom.specs.Words.{lettersOf}
-use Rattle.lines.specs.Wrote.{wrote-then}
 use Rattle.lines.proofs.explain.anyway_line.Statement.{statement}
+use Rattle.lines.specs.Laws.Wrote.{wrote-then}
 use Rattle.lines.proofs.explain.anyway_line.Tie as tie
 
 pub anyway-line-spec : {M : Type 1} → statement M

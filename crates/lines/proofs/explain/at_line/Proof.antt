@@ -1,8 +1,8 @@
 use Rattle.lines.specs.Explain.{atLine}
 use borrow.Author.Needs.{needs}
 use Rattle.rom.specs.Words.{lettersOf}
-use Rattle.lines.specs.Wrote.{wrote-then}
 use Rattle.lines.proofs.explain.at_line.Statement.{statement}
+use Rattle.lines.specs.Laws.Wrote.{wrote-then}
 use Rattle.lines.proofs.explain.at_line.Tie as tie
 
 pub at-line-spec : {M : Type 1} → statement M

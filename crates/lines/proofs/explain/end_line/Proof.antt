@@ -2,8 +2,8 @@ use borrow.Author.Tests.{lt-leb, le-leb}
 use Rattle.lines.specs.Explain.{endLine}
 use borrow.Author.Needs.{needs}
 use Rattle.rom.specs.Words.{lettersOf}
-use Rattle.lines.specs.Wrote.{wrote-none, wrote-then}
 use Rattle.lines.proofs.explain.end_line.Statement.{statement}
+use Rattle.lines.specs.Laws.Wrote.{wrote-none, wrote-then}
 use Rattle.lines.proofs.explain.end_line.Tie as tie
 
 pub end-line-spec : {M : Type 1} → statement M

@@ -1,7 +1,7 @@
 use Rattle.lines.specs.Explain.{fieldLines}
 use borrow.Author.Needs.{needs}
-use Rattle.lines.specs.Wrote.{wrote-then}
 use Rattle.lines.proofs.explain.field_lines.Statement.{statement}
+use Rattle.lines.specs.Laws.Wrote.{wrote-then}
 use Rattle.lines.proofs.explain.field_lines.Tie as tie
 
 pub field-lines-spec : {M : Type 1} → statement M

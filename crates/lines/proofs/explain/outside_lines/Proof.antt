@@ -1,8 +1,8 @@
 use Rattle.lines.specs.Explain.{outsideLines}
 use borrow.Author.Needs.{needs}
 use Rattle.rom.specs.Words.{lettersOf}
-use Rattle.lines.specs.Wrote.{wrote-then}
 use Rattle.lines.proofs.explain.outside_lines.Statement.{statement}
+use Rattle.lines.specs.Laws.Wrote.{wrote-then}
 use Rattle.lines.proofs.explain.outside_lines.Tie as tie
 
 pub outside-lines-spec : {M : Type 1} → statement M

@@ -2,8 +2,8 @@ use mathlib.Core.Path.{_≡_, sym}
 use native.Mathlib.Omega.{arith}
 use lib.ListN.{length, List·getD-eq-default}
 use borrow.Author.Needs.{needs}
-use Rattle.lines.specs.Wrote.{wrote-none}
 use Rattle.lines.proofs.explain.parent_of.Statement.{statement}
+use Rattle.lines.specs.Laws.Wrote.{wrote-none}
 use Rattle.lines.proofs.explain.parent_of.Tie as tie
 
 pub parent-of-spec : {M : Type 1} → statement M

@@ -2,11 +2,11 @@ use native.Mathlib.Omega.{arith}
 use denote.Ref.{now}
 use borrow.Author.Tests.{lt-ltb, le-ltb}
 use Rattle.lines.specs.Explain.{programLines}
-use Rattle.lines.specs.TallyLaws.{tally-lies}
-use Rattle.lines.specs.TokenLaws.{end-inside}
+use Rattle.lines.specs.Laws.Tally.{tally-lies}
+use Rattle.lines.specs.Laws.Tokens.{end-inside}
 use borrow.Author.Needs.{needs}
-use Rattle.lines.specs.Wrote.{wrote-none}
 use Rattle.lines.proofs.explain.program_lines.Statement.{statement}
+use Rattle.lines.specs.Laws.Wrote.{wrote-none}
 use Rattle.lines.proofs.explain.program_lines.Tie as tie
 
 pub program-lines-spec : {M : Type 1} → statement M

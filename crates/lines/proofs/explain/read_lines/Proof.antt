@@ -3,11 +3,11 @@ use mathlib.Core.Path.{_≡_, sym, _∙_}
 use native.Mathlib.Omega.{arith}
 use borrow.Author.Tests.{eq-eqb, ne-eqb, not-true, not-false}
 use Rattle.tree.specs.Whole.{wholeTree}
-use Rattle.tree.specs.Laws.{whole-facts}
+use Rattle.tree.specs.Laws.Trees.{whole-facts}
 use Rattle.lines.specs.Explain.{readLines}
 use borrow.Author.Needs.{needs}
-use Rattle.lines.specs.Wrote.{wrote-none}
 use Rattle.lines.proofs.explain.read_lines.Statement.{statement}
+use Rattle.lines.specs.Laws.Wrote.{wrote-none}
 use Rattle.lines.proofs.explain.read_lines.Tie as tie
 
 whole : (c : tie.Else2) → wholeTree (c .before .before .before .before .before .args .tree) ≡ true

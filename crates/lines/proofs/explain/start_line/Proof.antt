@@ -1,8 +1,8 @@
 use Rattle.lines.specs.Explain.{startLine}
 use borrow.Author.Needs.{needs}
 use Rattle.rom.specs.Words.{lettersOf}
-use Rattle.lines.specs.Wrote.{wrote-then}
 use Rattle.lines.proofs.explain.start_line.Statement.{statement}
+use Rattle.lines.specs.Laws.Wrote.{wrote-then}
 use Rattle.lines.proofs.explain.start_line.Tie as tie
 
 pub start-line-spec : {M : Type 1} → statement M

@@ -1,8 +1,8 @@
 use Rattle.lines.specs.Explain.{sumLine}
 use borrow.Author.Needs.{needs}
 use Rattle.rom.specs.Words.{lettersOf}
-use Rattle.lines.specs.Wrote.{wrote-then}
 use Rattle.lines.proofs.explain.sum_line.Statement.{statement}
+use Rattle.lines.specs.Laws.Wrote.{wrote-then}
 use Rattle.lines.proofs.explain.sum_line.Tie as tie
 
 pub sum-line-spec : {M : Type 1} → statement M

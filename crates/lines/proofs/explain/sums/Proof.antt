@@ -1,7 +1,7 @@
 use mathlib.Core.Path.{sym, _∙_}
 use borrow.Author.Needs.{needs}
-use Rattle.lines.specs.Wrote.{wrote-none}
 use Rattle.lines.proofs.explain.sums.Statement.{statement}
+use Rattle.lines.specs.Laws.Wrote.{wrote-none}
 use Rattle.lines.proofs.explain.sums.Tie as tie
 
 pub sums-spec : {M : Type 1} → statement M

@@ -1,13 +1,13 @@
 use mathlib.Core.Path.{sym, _∙_}
-use Rattle.lines.specs.Explain.{titleOf}
+use Rattle.lines.specs.Explain.{titleShown}
 use borrow.Author.Needs.{needs}
 use Rattle.rom.specs.Words.{lettersOf}
-use Rattle.lines.specs.Wrote.{wrote-then}
 use Rattle.lines.proofs.explain.title.Statement.{statement}
+use Rattle.lines.specs.Laws.Wrote.{wrote-then}
 use Rattle.lines.proofs.explain.title.Tie as tie
 
 pub title-spec : {M : Type 1} → statement M
-unfolding titleOf lettersOf
+unfolding titleShown lettersOf
 title-spec =
     tie.close
     (tie.spec

@@ -1,6 +1,6 @@
 use mathlib.Core.Path.{refl, sym, _∙_}
 use borrow.Author.Needs.{needs}
-use Rattle.cells.specs.Facts.{not-off, not-on}
+use Rattle.cells.specs.Laws.Facts.{not-off, not-on}
 use Rattle.rom.specs.Words.{lettersOf}
 use Rattle.lines.specs.Fields.{eachAs, field}
 use Rattle.lines.proofs.fields.text_field.Statement.{statement}

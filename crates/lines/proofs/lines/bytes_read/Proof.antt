@@ -1,9 +1,9 @@
 use borrow.Author.Needs.{needs}
 use denote.Ref.{now}
 use Rattle.rom.specs.Words.{lettersOf}
-use Rattle.lines.specs.Laws.{read-none, read-some}
-use Rattle.lines.specs.Wrote.{wrote-none, wrote-then}
+use Rattle.lines.specs.Laws.Texts.{read-none, read-some}
 use Rattle.lines.proofs.lines.bytes_read.Statement.{statement}
+use Rattle.lines.specs.Laws.Wrote.{wrote-none, wrote-then}
 use Rattle.lines.proofs.lines.bytes_read.Tie as tie
 
 pub bytes-read-spec : {M : Type 1} → statement M

@@ -8,9 +8,9 @@ use borrow.Author.Needs.{needs}
 use Rattle.tree.specs.Held.{heldOf}
 use Rattle.tree.specs.Whole.{parentOf}
 use Rattle.lines.specs.Lines.{nodeLine, ownLines, nodeLines}
-use Rattle.lines.specs.Laws.{nodes-more, nodes-none}
-use Rattle.lines.specs.Wrote.{Ahead, ahead-all, ahead-on, ahead-none}
+use Rattle.lines.specs.Laws.Texts.{nodes-more, nodes-none}
 use Rattle.lines.proofs.lines.node_lines.Statement.{statement}
+use Rattle.lines.specs.Laws.Wrote.{Ahead, ahead-all, ahead-on, ahead-none}
 use Rattle.lines.proofs.lines.node_lines.Tie as tie
 
 abbrev Inv-loop : tie.InvT-loop

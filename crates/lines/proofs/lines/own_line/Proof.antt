@@ -1,8 +1,8 @@
 use native.Mathlib.Omega.{arith}
 use borrow.Author.Needs.{needs}
 use borrow.Author.Tests.{eq-eqb, ne-eqb}
-use Rattle.lines.specs.Wrote.{wrote-none}
 use Rattle.lines.proofs.lines.own_line.Statement.{statement}
+use Rattle.lines.specs.Laws.Wrote.{wrote-none}
 use Rattle.lines.proofs.lines.own_line.Tie as tie
 
 pub own-line-spec : {M : Type 1} → statement M

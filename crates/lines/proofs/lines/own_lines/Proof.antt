@@ -4,11 +4,11 @@ use native.Mathlib.Omega.{arith}
 use denote.Ref.{now}
 use borrow.Author.Needs.{needs}
 use Rattle.tree.specs.Held.{nameSize, valueSize, heldFrom, heldOf, liveFrom, liveOf}
-use Rattle.tree.specs.Laws.{live-more}
+use Rattle.tree.specs.Laws.Trees.{live-more}
 use Rattle.lines.specs.Lines.{ownLines}
-use Rattle.lines.specs.Laws.{ownLine, line-at, own-more, own-none}
-use Rattle.lines.specs.Wrote.{Ahead, ahead-all, ahead-on, ahead-none}
+use Rattle.lines.specs.Laws.Texts.{ownLine, line-at, own-more, own-none}
 use Rattle.lines.proofs.lines.own_lines.Statement.{statement}
+use Rattle.lines.specs.Laws.Wrote.{Ahead, ahead-all, ahead-on, ahead-none}
 use Rattle.lines.proofs.lines.own_lines.Tie as tie
 
 abbrev Inv-loop : tie.InvT-loop

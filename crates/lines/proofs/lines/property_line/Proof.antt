@@ -2,9 +2,9 @@ use native.Mathlib.Omega.{arith}
 use denote.Ref.{now}
 use borrow.Author.Needs.{needs}
 use Rattle.lines.specs.Lines.{propertyLine}
-use Rattle.lines.specs.Fits.{length-property-line}
-use Rattle.lines.specs.Wrote.{wrote-then}
+use Rattle.lines.specs.Laws.Fits.{length-property-line}
 use Rattle.lines.proofs.lines.property_line.Statement.{statement}
+use Rattle.lines.specs.Laws.Wrote.{wrote-then}
 use Rattle.lines.proofs.lines.property_line.Tie as tie
 
 pub property-line-spec : {M : Type 1} → statement M

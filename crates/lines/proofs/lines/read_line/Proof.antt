@@ -1,8 +1,8 @@
 use borrow.Author.Needs.{needs}
 use Rattle.rom.specs.Words.{lettersOf}
 use Rattle.lines.specs.Lines.{readLine}
-use Rattle.lines.specs.Wrote.{wrote-none, wrote-then}
 use Rattle.lines.proofs.lines.read_line.Statement.{statement}
+use Rattle.lines.specs.Laws.Wrote.{wrote-none, wrote-then}
 use Rattle.lines.proofs.lines.read_line.Tie as tie
 
 pub read-line-spec : {M : Type 1} → statement M

@@ -2,9 +2,9 @@ use borrow.Author.Needs.{needs}
 use native.Mathlib.Omega.{arith}
 use Rattle.rom.specs.Words.{lettersOf}
 use Rattle.lines.specs.Lines.{refusedLine}
-use Rattle.lines.specs.Fits.{length-refused-line}
-use Rattle.lines.specs.Wrote.{wrote-then}
+use Rattle.lines.specs.Laws.Fits.{length-refused-line}
 use Rattle.lines.proofs.lines.refused_line.Statement.{statement}
+use Rattle.lines.specs.Laws.Wrote.{wrote-then}
 use Rattle.lines.proofs.lines.refused_line.Tie as tie
 
 pub refused-line-spec : {M : Type 1} → statement M

@@ -3,9 +3,9 @@ use mathlib.Core.Path.{ap}
 use lib.ListN.{length}
 use denote.Ref.{now}
 use borrow.Author.Needs.{needs}
-use Rattle.lines.specs.Laws.{shown-none, shown-some}
-use Rattle.lines.specs.Wrote.{wrote-none, wrote-then}
+use Rattle.lines.specs.Laws.Texts.{shown-none, shown-some}
 use Rattle.lines.proofs.lines.shown.Statement.{statement}
+use Rattle.lines.specs.Laws.Wrote.{wrote-none, wrote-then}
 use Rattle.lines.proofs.lines.shown.Tie as tie
 
 pub shown-spec : {M : Type 1} → statement M

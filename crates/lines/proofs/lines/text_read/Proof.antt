@@ -1,8 +1,8 @@
 use mathlib.Core.Path.{sym, _∙_}
-use Rattle.cells.specs.Facts.{not-off, not-on}
+use Rattle.cells.specs.Laws.Facts.{not-off, not-on}
 use borrow.Author.Needs.{needs}
-use Rattle.lines.specs.Wrote.{wrote-none}
 use Rattle.lines.proofs.lines.text_read.Statement.{statement}
+use Rattle.lines.specs.Laws.Wrote.{wrote-none}
 use Rattle.lines.proofs.lines.text_read.Tie as tie
 
 pub text-read-spec : {M : Type 1} → statement M

@@ -1,9 +1,9 @@
 use mathlib.Core.Path.{refl}
-use Rattle.cells.specs.Tests.{find-none}
+use Rattle.cells.specs.Laws.Tests.{find-none}
 use Rattle.rom.specs.Words.{lettersOf}
 use Rattle.lines.specs.Numbers.{other}
-use Rattle.lines.specs.Wrote.{wrote-none, length-wrote}
 use Rattle.lines.proofs.numbers.other_words.Statement.{statement}
+use Rattle.lines.specs.Laws.Wrote.{wrote-none, length-wrote}
 use Rattle.lines.proofs.numbers.other_words.Tie as tie
 
 pub other-words-spec : {M : Type 1} → statement M

@@ -1,6 +1,6 @@
-use Rattle.lines.specs.NumberLaws.{words-opening, words-naming, words-moving, words-running, words-other}
-use Rattle.lines.specs.Wrote.{length-wrote}
+use Rattle.lines.specs.Laws.Numbers.{words-opening, words-naming, words-moving, words-running, words-other}
 use Rattle.lines.proofs.numbers.words_of.Statement.{statement}
+use Rattle.lines.specs.Laws.Wrote.{length-wrote}
 use Rattle.lines.proofs.numbers.words_of.Tie as tie
 
 pub words-of-spec : {M : Type 1} → statement M

@@ -3,14 +3,14 @@ use mathlib.Core.Path.{_≡_}
 use borrow.Author.Needs.{needs}
 use borrow.Fn.Kinds.{In}
 use borrow.Fn.PlainCycle.{Measures, is, falls, and}
-use Rattle.tokens.specs.NameLaws.{unpacked-none, unpacked-more}
-use Rattle.lines.specs.Wrote.{wrote-none, wrote-then}
+use Rattle.tokens.specs.Laws.Name.{unpacked-none, unpacked-more}
 use Rattle.lines.proofs.pieces.letters.Reads as letters
 use Rattle.lines.proofs.pieces.letters.Kinds as letters-kinds
 use Rattle.lines.proofs.pieces.+letters.Lts-letters as letters-lts
 use Rattle.lines.proofs.words.letter.Reads as letter-reads
 use Rattle.lines.proofs.pieces.+letters.{statement}
 use Rattle.lines.proofs.pieces.+letters.Tie.{close}
+use Rattle.lines.specs.Laws.Wrote.{wrote-none, wrote-then}
 
 -- the number itself: without its last letter it is less
 abbrev μ-letters : Measures 1 letters-kinds.ps ℕ

@@ -9,8 +9,8 @@ use Rattle.tokens.proofs.decoding.Operand.{the-type}
 use Rattle.tokens.specs.declared.decoding.Operand.{Operand}
 use Rattle.tokens.specs.declared.decoding.Operand.the-variants.{Nothing, Literal, Text, Branch, Number, Definition}
 use Rattle.lines.specs.TokenLines.{branchRemark}
-use Rattle.lines.specs.Wrote.{wrote-none}
 use Rattle.lines.proofs.pieces.branch_remark.Statement.{statement}
+use Rattle.lines.specs.Laws.Wrote.{wrote-none}
 use Rattle.lines.proofs.pieces.branch_remark.Tie as tie
 
 -- any other operand has none

@@ -1,7 +1,7 @@
 use borrow.Author.Needs.{needs}
-use Rattle.tokens.specs.NameLaws.{name-unpacked}
-use Rattle.lines.specs.Wrote.{wrote-then}
+use Rattle.tokens.specs.Laws.Name.{name-unpacked}
 use Rattle.lines.proofs.pieces.name.Statement.{statement}
+use Rattle.lines.specs.Laws.Wrote.{wrote-then}
 use Rattle.lines.proofs.pieces.name.Tie as tie
 
 pub name-spec : {M : Type 1} → statement M

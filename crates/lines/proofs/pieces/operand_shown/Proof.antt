@@ -1,7 +1,7 @@
 use borrow.Author.Needs.{needs}
-use Rattle.lines.specs.TokenLaws.{second-inside}
-use Rattle.lines.specs.Wrote.{wrote-then}
+use Rattle.lines.specs.Laws.Tokens.{second-inside}
 use Rattle.lines.proofs.pieces.operand_shown.Statement.{statement}
+use Rattle.lines.specs.Laws.Wrote.{wrote-then}
 use Rattle.lines.proofs.pieces.operand_shown.Tie as tie
 
 pub operand-shown-spec : {M : Type 1} → statement M

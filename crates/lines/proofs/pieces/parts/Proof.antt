@@ -1,7 +1,7 @@
 use borrow.Author.Needs.{needs}
 use Rattle.lines.specs.TokenLines.{allShown}
-use Rattle.lines.specs.Wrote.{wrote-none, wrote-then}
 use Rattle.lines.proofs.pieces.parts.Statement.{statement}
+use Rattle.lines.specs.Laws.Wrote.{wrote-none, wrote-then}
 use Rattle.lines.proofs.pieces.parts.Tie as tie
 
 pub parts-spec : {M : Type 1} → statement M

@@ -5,9 +5,9 @@ use denote.Ref.{now}
 use borrow.Author.Needs.{needs}
 use borrow.Author.Tests.{lt-ltb, le-ltb}
 use Rattle.lines.specs.TokenLines.{pieceText, nextOf, wideBehind}
-use Rattle.lines.specs.TokenLaws.{raw-lies, listed-lies}
-use Rattle.lines.specs.Wrote.{wrote-none}
+use Rattle.lines.specs.Laws.Tokens.{raw-lies, listed-lies}
 use Rattle.lines.proofs.pieces.piece_line.Statement.{statement}
+use Rattle.lines.specs.Laws.Wrote.{wrote-none}
 use Rattle.lines.proofs.pieces.piece_line.Tie as tie
 
 pub piece-line-spec : {M : Type 1} → statement M

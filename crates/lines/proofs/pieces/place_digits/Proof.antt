@@ -1,12 +1,12 @@
 use borrow.Author.Needs.{needs}
 use Rattle.lines.specs.Digits.{hexOf}
-use Rattle.lines.specs.TokenLines.{placeOf}
-use Rattle.lines.specs.Wrote.{wrote-then}
+use Rattle.lines.specs.TokenLines.{placeText}
 use Rattle.lines.proofs.pieces.place_digits.Statement.{statement}
+use Rattle.lines.specs.Laws.Wrote.{wrote-then}
 use Rattle.lines.proofs.pieces.place_digits.Tie as tie
 
 pub place-digits-spec : {M : Type 1} → statement M
-unfolding placeOf hexOf
+unfolding placeText hexOf
 place-digits-spec =
     tie.close
     (tie.spec

@@ -1,8 +1,8 @@
 use borrow.Author.Needs.{needs}
 use Rattle.rom.specs.Words.{lettersOf}
 use Rattle.lines.specs.TokenLines.{allShown, lineText}
-use Rattle.lines.specs.Wrote.{wrote-none, wrote-then}
 use Rattle.lines.proofs.pieces.raw_line.Statement.{statement}
+use Rattle.lines.specs.Laws.Wrote.{wrote-none, wrote-then}
 use Rattle.lines.proofs.pieces.raw_line.Tie as tie
 
 pub raw-line-spec : {M : Type 1} → statement M

@@ -4,8 +4,8 @@ use borrow.Author.Needs.{needs}
 use borrow.Author.Tests.{lt-ltb, le-ltb}
 use Rattle.rom.specs.Words.{lettersOf}
 use Rattle.tokens.specs.Reader.{endOf}
-use Rattle.lines.specs.Wrote.{wrote-none}
 use Rattle.lines.proofs.pieces.raw_remark.Statement.{statement}
+use Rattle.lines.specs.Laws.Wrote.{wrote-none}
 use Rattle.lines.proofs.pieces.raw_remark.Tie as tie
 
 pub raw-remark-spec : {M : Type 1} → statement M

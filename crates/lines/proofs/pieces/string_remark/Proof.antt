@@ -1,8 +1,8 @@
 use mathlib.Core.Logic.{⊎-elim, inl, inr}
 use borrow.Author.Needs.{needs}
 use borrow.Author.Tests.{ne-eqb}
-use Rattle.lines.specs.Wrote.{wrote-none}
 use Rattle.lines.proofs.pieces.string_remark.Statement.{statement}
+use Rattle.lines.specs.Laws.Wrote.{wrote-none}
 use Rattle.lines.proofs.pieces.string_remark.Tie as tie
 
 pub string-remark-spec : {M : Type 1} → statement M

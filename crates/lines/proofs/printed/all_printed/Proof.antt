@@ -2,9 +2,9 @@ use Prim.Native.Nat.{_-_, _≤_}
 use mathlib.Core.Path.{_≡_, refl, sym, _∙_}
 use lib.ListN.{length, drop}
 use denote.Ref.{now}
-use Rattle.cells.specs.Facts.{not-off, not-on}
+use Rattle.cells.specs.Laws.Facts.{not-off, not-on}
 use Rattle.lines.specs.Printed.{allPrinted}
-use Rattle.lines.specs.Laws.{printed-more, printed-stops, printed-end}
+use Rattle.lines.specs.Laws.Texts.{printed-more, printed-stops, printed-end}
 use borrow.Author.Needs.{needs}
 use Rattle.lines.proofs.printed.all_printed.Statement.{statement}
 use Rattle.lines.proofs.printed.all_printed.Tie as tie

@@ -4,9 +4,9 @@ use native.Mathlib.Omega.{arith}
 use denote.Ref.{now}
 use borrow.Author.Needs.{needs}
 use Rattle.tokens.specs.Reader.{endOf}
-use Rattle.tokens.specs.ReaderLaws.{piece-end, walkAt}
+use Rattle.tokens.specs.Laws.Reader.{piece-end, walkAt}
 use Rattle.lines.specs.Tally.{tallyFrom, tallyOf}
-use Rattle.lines.specs.TallyLaws.{raw-ahead, token-ahead, tally-end, tally-raw, tally-token}
+use Rattle.lines.specs.Laws.Tally.{raw-ahead, token-ahead, tally-end, tally-raw, tally-token}
 use Rattle.lines.proofs.tally.tally_of.Statement.{statement}
 use Rattle.lines.proofs.tally.tally_of.Tie as tie
 

@@ -3,10 +3,10 @@ use native.Mathlib.Omega.{arith}
 use borrow.Author.Needs.{needs}
 use borrow.Author.Tests.{eq-eqb, ne-eqb}
 use Rattle.lines.specs.Told.{refusedTold}
-use Rattle.lines.specs.Fits.{refused-fits}
-use Rattle.lines.specs.Laws.{told-whole}
-use Rattle.lines.specs.Wrote.{wrote-whole, length-wrote}
+use Rattle.lines.specs.Laws.Fits.{refused-fits}
+use Rattle.lines.specs.Laws.Texts.{told-whole}
 use Rattle.lines.proofs.telling.refused_text.Statement.{statement}
+use Rattle.lines.specs.Laws.Wrote.{wrote-whole, length-wrote}
 use Rattle.lines.proofs.telling.refused_text.Tie as tie
 
 pub refused-text-spec : {M : Type 1} → statement M

@@ -8,13 +8,14 @@ use borrow.Author.Needs.{needs}
 use borrow.Author.Tests.{eq-eqb, ne-eqb, not-true, not-false}
 use Rattle.rom.specs.Words.{lettersOf}
 use Rattle.tree.specs.Whole.{wholeTree}
-use Rattle.tree.specs.Laws.{whole-facts}
+use Rattle.tree.specs.Laws.Trees.{whole-facts}
 use Rattle.lines.specs.Lines.{runText}
 use Rattle.lines.specs.Told.{runTold}
-use Rattle.lines.specs.Fits.{fits}
-use Rattle.lines.specs.Laws.{told-whole}
-use Rattle.lines.specs.Wrote.{Wrote, wrote-then, wrote-whole, length-wrote}
+use Rattle.lines.specs.Laws.Fits.{fits}
+use Rattle.lines.specs.Laws.Texts.{told-whole}
+use Rattle.lines.specs.Wrote.{Wrote}
 use Rattle.lines.proofs.telling.run_text.Statement.{statement}
+use Rattle.lines.specs.Laws.Wrote.{wrote-then, wrote-whole, length-wrote}
 use Rattle.lines.proofs.telling.run_text.Tie as tie
 
 -- what is known where the tests have been passed

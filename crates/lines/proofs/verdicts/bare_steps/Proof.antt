@@ -1,8 +1,8 @@
 use borrow.Author.Needs.{needs}
-use Rattle.cells.specs.Facts.{not-off, not-on}
+use Rattle.cells.specs.Laws.Facts.{not-off, not-on}
 use Rattle.lines.specs.Verdicts.{bareSteps}
-use Rattle.lines.specs.Wrote.{wrote-none}
 use Rattle.lines.proofs.verdicts.bare_steps.Statement.{statement}
+use Rattle.lines.specs.Laws.Wrote.{wrote-none}
 use Rattle.lines.proofs.verdicts.bare_steps.Tie as tie
 
 pub bare-steps-spec : {M : Type 1} → statement M

@@ -1,5 +1,5 @@
 use denote.Ref.{now}
-use Rattle.listing.specs.Laws.{wrong-text, wrong-buffer, wrong-marks, wrong-work, wrong-store, refused, passed, judged-as, passed-header, and-inside}
+use Rattle.listing.specs.Laws.Listing.{wrong-text, wrong-buffer, wrong-marks, wrong-work, wrong-store, refused, passed, judged-as, passed-header, and-inside}
 use borrow.Author.Needs.{needs}
 use Rattle.listing.proofs.listing.list.Statement.{statement}
 use Rattle.listing.proofs.listing.list.Tie as tie

@@ -1,5 +1,5 @@
 use denote.Ref.{now}
-use Rattle.listing.specs.Laws.{listed-run}
+use Rattle.listing.specs.Laws.Listing.{listed-run}
 use borrow.Author.Needs.{needs}
 use Rattle.listing.proofs.listing.list_run.Statement.{statement}
 use Rattle.listing.proofs.listing.list_run.Tie as tie

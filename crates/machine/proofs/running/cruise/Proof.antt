@@ -1,12 +1,12 @@
 use Prim.Native.Nat.{ℕ, _≤_, _<_, _-_}
-use Rattle.acts.specs.Acts.{Kept}
+use Rattle.acts.specs.Joints.Acts.{ActsKept}
 use Rattle.machine.proofs.Turns.{Going-on, fit, hot-fit, hot-goes, hot-left, hot-refused, turnedTo, tree-whole, begun, came, ends-spent, turn-ends, turn-rooted, turn-goes}
-use Rattle.state.specs.Apart.{arrays, joined, answerOf}
-use Rattle.state.specs.KeepsWhole.{ready-facts}
+use Rattle.state.specs.Joints.Apart.{arrays, joined, answerOf}
+use Rattle.state.specs.Laws.Keeps.Whole.{ready-facts}
 use Rattle.state.specs.Run.{runFrom}
 use Rattle.state.specs.Scene.{scene}
 use Rattle.state.specs.declared.answer.Answer.the-variants.{Finished, Refused}
-use Rattle.tree.specs.InPlace.{tallied-first}
+use Rattle.tree.specs.Laws.InPlace.{tallied-first}
 use borrow.Author.Needs.{needs}
 use denote.Ref.{now}
 use lib.ListN.{length}
@@ -20,7 +20,7 @@ abbrev Inv-loop : tie.InvT-loop
 Inv-loop rom work₀ store₀ cells₀ back₀ places₀ wides₀ bases₀ names₀ kinds₀ values₀ ways₀ parents₀ owners₀ titles₀ sizes₀ budget slots₀ known₀ tail₀ core₀ n₀ work store cells back places wides bases names kinds values ways parents owners titles sizes slots known tail core n =
     ((n ≤ budget) × (length work ≡ length work₀) × (length store ≡ length store₀))
     × (Going-on budget (runFrom budget 0 (scene rom work₀ store₀ (joined (arrays cells₀ back₀ places₀ wides₀ bases₀ names₀ kinds₀ values₀ ways₀ parents₀ owners₀ titles₀ sizes₀) core₀))) n (scene rom work store (joined (arrays cells back places wides bases names kinds values ways parents owners titles sizes) core)))
-    × Kept slots known names kinds store titles sizes core tail
+    × ActsKept slots known names kinds store titles sizes core tail
 
 abbrev μ-loop : tie.MeasureT-loop
 μ-loop rom work₀ store₀ cells₀ back₀ places₀ wides₀ bases₀ names₀ kinds₀ values₀ ways₀ parents₀ owners₀ titles₀ sizes₀ budget slots₀ known₀ tail₀ core₀ n₀ work store cells back places wides bases names kinds values ways parents owners titles sizes slots known tail core n = budget - n

@@ -1,5 +1,5 @@
 use borrow.Author.Tests.{lt-ltb, le-ltb, eq-eqb, ne-eqb}
-use Rattle.cells.specs.Facts.{not-on, not-off}
+use Rattle.cells.specs.Laws.Facts.{not-on, not-off}
 use Rattle.state.specs.Step.{readyOf}
 use borrow.Author.Needs.{needs}
 use Rattle.machine.proofs.running.ready.Statement.{statement}

@@ -1,7 +1,7 @@
 use denote.Ref.{now}
 use mathlib.Core.Path.{sym, _∙_}
 use Rattle.state.specs.Scene.{scene}
-use Rattle.state.specs.KeepsWhole.{not-going, not-finished}
+use Rattle.state.specs.Laws.Keeps.Whole.{not-going, not-finished}
 use Rattle.state.specs.declared.answer.Answer.the-variants.{Finished, Refused, Spent}
 use Rattle.machine.proofs.Turns.{run-known, not-spent}
 use borrow.Author.Needs.{needs}

@@ -1,4 +1,4 @@
-use Rattle.state.specs.Laws.{step-going, finished-stays, step-refused, step-spent}
+use Rattle.state.specs.Laws.Steps.{step-going, finished-stays, step-refused, step-spent}
 use Rattle.state.specs.Scene.{scene}
 use denote.Ref.{now}
 use mathlib.Core.Path.{sym, _∙_}

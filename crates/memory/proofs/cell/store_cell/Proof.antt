@@ -5,7 +5,7 @@ use denote.Ref.{now}
 use borrow.Author.Needs.{needs}
 use borrow.Author.Tests.{not-true, not-false}
 use Rattle.memory.specs.Window.{workBase}
-use Rattle.memory.specs.Laws.{lies-within}
+use Rattle.memory.specs.Laws.Memory.{lies-within}
 use Rattle.memory.proofs.Accesses.{cell-outside, cell-uneven, cell-inside}
 use Rattle.memory.proofs.cell.store_cell.Statement.{statement}
 use Rattle.memory.proofs.cell.store_cell.Tie as tie

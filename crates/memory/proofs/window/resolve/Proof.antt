@@ -5,7 +5,7 @@ use lib.ListN.{length}
 use denote.Ref.{now}
 use borrow.Author.Needs.{needs}
 use Rattle.memory.specs.Window.{rangeOf}
-use Rattle.memory.specs.Laws.{range-rom, range-work, resolved-rom, resolved-work, resolved-none}
+use Rattle.memory.specs.Laws.Memory.{range-rom, range-work, resolved-rom, resolved-work, resolved-none}
 use Rattle.memory.proofs.window.resolve.Statement.{statement}
 use Rattle.memory.proofs.window.resolve.Tie as tie
 

@@ -2,7 +2,7 @@ use mathlib.Core.Path.{sym, _∙_}
 use native.Mathlib.Omega.{arith}
 use borrow.Author.Needs.{needs}
 use Rattle.memory.specs.Window.{romBase, workBase}
-use Rattle.memory.specs.Laws.{lies-within, in-rom, in-work, in-none}
+use Rattle.memory.specs.Laws.Memory.{lies-within, in-rom, in-work, in-none}
 use Rattle.memory.proofs.window.window_of.Statement.{statement}
 use Rattle.memory.proofs.window.window_of.Tie as tie
 

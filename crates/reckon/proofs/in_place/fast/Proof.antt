@@ -2,7 +2,7 @@ use Rattle.reckon.proofs.Hot.{hotNumbers, none-hot}
 use Rattle.reckon.proofs.Made.{within, cut-made, left-made}
 use Rattle.tokens.specs.Code.{codeOf}
 use Rattle.tokens.specs.Table.{ends, lows, highs, doubles, table, rowOf}
-use Rattle.state.specs.Apart.{baseIn}
+use Rattle.state.specs.Joints.Apart.{baseIn}
 use denote.Ref.{now}
 use mathlib.Core.Path.{refl, sym, _∙_}
 use borrow.Author.Needs.{needs}

@@ -2,7 +2,7 @@ use mathlib.Core.Path.{refl}
 use Rattle.cells.specs.Arithmetic.{invertOf, negateOf, absOf, halfOf, uHalfOf, doubleOf}
 use Rattle.cells.specs.Comparison.{zeroEqualOf, zeroUnequalOf, zeroLessOf, zeroAtMostOf, zeroGreaterOf, zeroAtLeastOf}
 use Rattle.tokens.specs.Table.{ends, lows, highs, doubles, table, rowOf}
-use Rattle.tokens.specs.Rows.{none-left}
+use Rattle.tokens.specs.Laws.Rows.{none-left}
 use Rattle.reckon.proofs.Given.{one-by, ones, one-coded}
 use borrow.Author.Needs.{needs}
 use Rattle.reckon.proofs.reckon.one.Statement.{statement}

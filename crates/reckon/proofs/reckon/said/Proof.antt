@@ -1,6 +1,6 @@
 use mathlib.Core.Path.{refl}
 use Rattle.tokens.specs.Table.{ends, lows, highs, doubles, table, rowOf}
-use Rattle.tokens.specs.Rows.{none-left}
+use Rattle.tokens.specs.Laws.Rows.{none-left}
 use Rattle.reckon.proofs.Given.{none-by, nones, none-coded}
 use borrow.Author.Needs.{needs}
 use Rattle.reckon.proofs.reckon.said.Statement.{statement}

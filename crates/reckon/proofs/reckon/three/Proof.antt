@@ -1,7 +1,7 @@
 use mathlib.Core.Path.{refl}
 use Rattle.cells.specs.Comparison.{betweenOf, withinOf}
 use Rattle.tokens.specs.Table.{ends, lows, highs, doubles, table, rowOf}
-use Rattle.tokens.specs.Rows.{none-left}
+use Rattle.tokens.specs.Laws.Rows.{none-left}
 use Rattle.reckon.proofs.Given.{three-by, threes, three-coded}
 use borrow.Author.Needs.{needs}
 use Rattle.reckon.proofs.reckon.three.Statement.{statement}

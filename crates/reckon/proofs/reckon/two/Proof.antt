@@ -2,7 +2,7 @@ use mathlib.Core.Path.{refl}
 use Rattle.cells.specs.Arithmetic.{plusOf, minusOf, timesOf, andOf, orOf, xorOf, lshiftOf, rshiftOf, ashiftOf, minOf, maxOf}
 use Rattle.cells.specs.Comparison.{lessOf, greaterOf, equalOf, unequalOf, uGreaterOf, uAtMostOf, uLessOf, uAtLeastOf, atLeastOf, atMostOf}
 use Rattle.tokens.specs.Table.{ends, lows, highs, doubles, table, rowOf}
-use Rattle.tokens.specs.Rows.{none-left}
+use Rattle.tokens.specs.Laws.Rows.{none-left}
 use Rattle.reckon.proofs.Given.{two-by, twos, two-coded}
 use borrow.Author.Needs.{needs}
 use Rattle.reckon.proofs.reckon.two.Statement.{statement}

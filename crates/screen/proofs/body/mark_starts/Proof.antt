@@ -2,9 +2,9 @@ use Prim.Native.Nat.{_-_}
 use mathlib.Core.Path.{_≡_, refl, sym, _∙_}
 use denote.Ref.{now}
 use lib.ListN.{length as len, length-set}
-use Rattle.cells.specs.Facts.{not-on, not-off}
-use Rattle.screen.specs.BodyLaws.{off-on, quick-ahead, stood-ahead, Marking, marking-first, marking-past, marking-stops}
-use Rattle.screen.specs.BodyLaws.{marking-quick, marking-ends, marking-goes}
+use Rattle.cells.specs.Laws.Facts.{not-on, not-off}
+use Rattle.screen.specs.Laws.Code.Body.{off-on, quick-ahead, stood-ahead, Marking, marking-first, marking-past, marking-stops}
+use Rattle.screen.specs.Laws.Code.Body.{marking-quick, marking-ends, marking-goes}
 use native.Mathlib.Omega.{arith}
 use borrow.Author.Needs.{needs}
 use Rattle.screen.proofs.body.mark_starts.Statement.{statement}

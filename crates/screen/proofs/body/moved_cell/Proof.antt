@@ -1,7 +1,7 @@
 use mathlib.Core.Path.{sym, _∙_}
-use Rattle.cells.specs.Facts.{when-true, when-false}
-use Rattle.screen.specs.Model.{isMet}
-use Rattle.screen.specs.BodyLaws.{met, unmet-none, unmet-blank}
+use Rattle.cells.specs.Laws.Facts.{when-true, when-false}
+use Rattle.screen.specs.Laws.Found.Model.{isMet}
+use Rattle.screen.specs.Laws.Code.Body.{met, unmet-none, unmet-blank}
 use borrow.Author.Needs.{needs}
 use Rattle.screen.proofs.body.moved_cell.Statement.{statement}
 use Rattle.screen.proofs.body.moved_cell.Tie as tie

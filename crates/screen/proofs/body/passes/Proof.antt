@@ -1,5 +1,5 @@
 use borrow.Author.Tests.{eq-eqb, ne-eqb}
-use Rattle.screen.specs.Model.{passesOf}
+use Rattle.screen.specs.Laws.Found.Model.{passesOf}
 use borrow.Author.Needs.{needs}
 use Rattle.screen.proofs.body.passes.Statement.{statement}
 use Rattle.screen.proofs.body.passes.Tie as tie

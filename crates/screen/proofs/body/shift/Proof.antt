@@ -1,8 +1,8 @@
 use Prim.Native.Nat.{_-_}
 use mathlib.Core.Path.{_≡_, refl}
 use lib.ListN.{length, length-set}
-use Rattle.screen.specs.Model.{shiftOf}
-use Rattle.screen.specs.BodyLaws.{Shifting, shifting-first, shifting-done, shifting-turn}
+use Rattle.screen.specs.Laws.Found.Model.{shiftOf}
+use Rattle.screen.specs.Laws.Code.Body.{Shifting, shifting-first, shifting-done, shifting-turn}
 use native.Mathlib.Omega.{arith}
 use borrow.Author.Needs.{needs}
 use Rattle.screen.proofs.body.shift.Statement.{statement}

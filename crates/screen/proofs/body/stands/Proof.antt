@@ -1,5 +1,5 @@
 use mathlib.Core.Path.{refl, sym, _∙_}
-use Rattle.screen.specs.BodyLaws.{stands-misplaced, stands-unlisted, stands-call, stands-assign, stands-branch, stands-other}
+use Rattle.screen.specs.Laws.Code.Body.{stands-misplaced, stands-unlisted, stands-call, stands-assign, stands-branch, stands-other}
 use borrow.Author.Needs.{needs}
 use Rattle.screen.proofs.body.stands.Statement.{statement}
 use Rattle.screen.proofs.body.stands.Tie as tie

@@ -1,9 +1,9 @@
 use mathlib.Core.Path.{refl}
 use denote.Ref.{now}
-use Rattle.cells.specs.Facts.{not-on, not-off}
-use Rattle.screen.specs.Model.{bodyText}
-use Rattle.screen.specs.BodyLaws.{survey-unmarked, survey-lost, survey-judged}
-use Rattle.screen.specs.KeepLaws.{marked-bounded, walked-kept, walked-low}
+use Rattle.cells.specs.Laws.Facts.{not-on, not-off}
+use Rattle.screen.specs.Laws.Found.Model.{bodyText}
+use Rattle.screen.specs.Laws.Code.Body.{survey-unmarked, survey-lost, survey-judged}
+use Rattle.screen.specs.Laws.Code.Keep.{marked-bounded, walked-kept, walked-low}
 use native.Mathlib.Omega.{arith}
 use borrow.Author.Needs.{needs}
 use Rattle.screen.proofs.body.survey_body.Statement.{statement}

@@ -1,4 +1,4 @@
-use Rattle.screen.specs.Model.{sumAt}
+use Rattle.screen.specs.Laws.Found.Model.{sumAt}
 use borrow.Author.Needs.{needs}
 use Rattle.screen.proofs.effect.sum_at.Statement.{statement}
 use Rattle.screen.proofs.effect.sum_at.Tie as tie

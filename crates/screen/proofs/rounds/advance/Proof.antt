@@ -1,6 +1,6 @@
 use mathlib.Core.Path.{sym, _∙_, refl}
 use denote.Ref.{now}
-use Rattle.screen.specs.RoundLaws.{moved-standing, advance-define, advance-new, advance-wide, advance-close}
+use Rattle.screen.specs.Laws.Code.Round.{moved-standing, advance-define, advance-new, advance-wide, advance-close}
 use native.Mathlib.Omega.{arith}
 use borrow.Author.Needs.{needs}
 use Rattle.screen.proofs.rounds.advance.Statement.{statement}

@@ -1,8 +1,8 @@
 use Prim.Native.Nat.{_+_}
 use mathlib.Core.Path.{_≡_, refl, sym, _∙_}
 use mathlib.Core.Logic.{_≢_}
-use Rattle.screen.specs.Model.{apartOf}
-use Rattle.screen.specs.RoundLaws.{apart-free, apart-spent, apart-fails, apart-turn}
+use Rattle.screen.specs.Laws.Found.Model.{apartOf}
+use Rattle.screen.specs.Laws.Code.Round.{apart-free, apart-spent, apart-fails, apart-turn}
 use native.Mathlib.Omega.{arith}
 use borrow.Author.Needs.{needs}
 use Rattle.screen.proofs.rounds.apart.Statement.{statement}

@@ -1,5 +1,5 @@
 use borrow.Author.Tests.{eq-eqb}
-use Rattle.screen.specs.RoundLaws.{node-fails, node-closed}
+use Rattle.screen.specs.Laws.Code.Round.{node-fails, node-closed}
 use borrow.Author.Needs.{needs}
 use Rattle.screen.proofs.rounds.close_node.Statement.{statement}
 use Rattle.screen.proofs.rounds.close_node.Tie as tie

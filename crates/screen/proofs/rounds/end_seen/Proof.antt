@@ -1,5 +1,5 @@
 use mathlib.Core.Path.{sym, _∙_}
-use Rattle.screen.specs.RoundLaws.{end-none, end-misplaced, end-far, end-fixed, end-other}
+use Rattle.screen.specs.Laws.Code.Round.{end-none, end-misplaced, end-far, end-fixed, end-other}
 use borrow.Author.Needs.{needs}
 use Rattle.screen.proofs.rounds.end_seen.Statement.{statement}
 use Rattle.screen.proofs.rounds.end_seen.Tie as tie

@@ -1,5 +1,5 @@
 use mathlib.Core.Path.{refl, _∙_}
-use Rattle.screen.specs.RoundLaws.{moved-is}
+use Rattle.screen.specs.Laws.Code.Round.{moved-is}
 use borrow.Author.Needs.{needs}
 use Rattle.screen.proofs.rounds.moved.Statement.{statement}
 use Rattle.screen.proofs.rounds.moved.Tie as tie

@@ -1,5 +1,5 @@
 use borrow.Author.Tests.{le-ltb}
-use Rattle.screen.specs.RoundLaws.{node-fails, node-new}
+use Rattle.screen.specs.Laws.Code.Round.{node-fails, node-new}
 use borrow.Author.Needs.{needs}
 use Rattle.screen.proofs.rounds.new_node.Statement.{statement}
 use Rattle.screen.proofs.rounds.new_node.Tie as tie

@@ -1,8 +1,8 @@
 use mathlib.Core.Path.{sym, _∙_, refl}
 use mathlib.Core.Bool.{false}
 use denote.Ref.{now}
-use Rattle.cells.specs.Facts.{not-on, not-off}
-use Rattle.screen.specs.RoundLaws.{defining, behind-refused, behind-ends, behind-fails, behind-goes}
+use Rattle.cells.specs.Laws.Facts.{not-on, not-off}
+use Rattle.screen.specs.Laws.Code.Round.{defining, behind-refused, behind-ends, behind-fails, behind-goes}
 use borrow.Author.Needs.{needs}
 use Rattle.screen.proofs.rounds.next_round.Statement.{statement}
 use Rattle.screen.proofs.rounds.next_round.Tie as tie

@@ -1,4 +1,4 @@
-use Rattle.screen.specs.RoundLaws.{pass-none, pass-early, pass-past, pass-quick, pass-glance}
+use Rattle.screen.specs.Laws.Code.Round.{pass-none, pass-early, pass-past, pass-quick, pass-glance}
 use borrow.Author.Needs.{needs}
 use Rattle.screen.proofs.rounds.passed.Statement.{statement}
 use Rattle.screen.proofs.rounds.passed.Tie as tie

@@ -2,7 +2,7 @@ use Prim.Native.Nat.{ℕ, _-_}
 use mathlib.Core.Path.{_≡_, refl}
 use denote.Ref.{now}
 use lib.ListN.{length, length-set}
-use Rattle.screen.specs.ScreenLaws.{Filled, filled-none, filled-more, filled-zeros}
+use Rattle.screen.specs.Laws.Code.Screen.{Filled, filled-none, filled-more, filled-zeros}
 use native.Mathlib.Omega.{arith}
 use borrow.Author.Needs.{needs}
 use Rattle.screen.proofs.screening.clear_marks.Statement.{statement}

@@ -1,6 +1,6 @@
 use mathlib.Core.Path.{refl}
 use denote.Ref.{now}
-use Rattle.screen.specs.ScreenLaws.{judging-tables, judging-low, judge-passes, judge-refuses}
+use Rattle.screen.specs.Laws.Code.Screen.{judging-tables, judging-low, judge-passes, judge-refuses}
 use native.Mathlib.Omega.{arith}
 use borrow.Author.Needs.{needs}
 use Rattle.screen.proofs.screening.judge_in.Statement.{statement}

@@ -1,7 +1,7 @@
 use mathlib.Core.Path.{sym, _∙_}
 use denote.Ref.{now}
-use Rattle.screen.specs.ScreenLaws.{screen-size, screen-header, screen-judged}
-use Rattle.screen.specs.Exactly.{promise-by}
+use Rattle.screen.specs.Laws.Code.Screen.{screen-size, screen-header, screen-judged}
+use Rattle.screen.specs.Laws.Exact.Exactly.{promise-by}
 use borrow.Author.Needs.{needs}
 use Rattle.screen.proofs.screening.screen.Statement.{statement}
 use Rattle.screen.proofs.screening.screen.Tie as tie

@@ -1,5 +1,5 @@
 use native.Mathlib.Omega.{arith}
-use Rattle.screen.specs.CodeLaws.{sum-small}
+use Rattle.screen.specs.Laws.Code.Codes.{sum-small}
 use borrow.Author.Needs.{needs}
 use Rattle.screen.proofs.tally.called.Statement.{statement}
 use Rattle.screen.proofs.tally.called.Tie as tie

@@ -1,6 +1,6 @@
 use mathlib.Core.Path.{ap}
 use native.Mathlib.Numerals.{add-one}
-use Rattle.screen.specs.Model.{Tally}
+use Rattle.screen.specs.Laws.Found.Model.{Tally}
 use borrow.Author.Needs.{needs}
 use Rattle.screen.proofs.tally.ended.Statement.{statement}
 use Rattle.screen.proofs.tally.ended.Tie as tie

@@ -1,7 +1,7 @@
 use mathlib.Core.Path.{sym, _∙_}
 use denote.Ref.{now}
-use Rattle.cells.specs.Facts.{not-on, not-off}
-use Rattle.screen.specs.VisitLaws.{tallyIn, told-outside, told-call, told-end, told-plain}
+use Rattle.cells.specs.Laws.Facts.{not-on, not-off}
+use Rattle.screen.specs.Laws.Code.Visit.{tallyIn, told-outside, told-call, told-end, told-plain}
 use borrow.Author.Needs.{needs}
 use Rattle.screen.proofs.tally.told.Statement.{statement}
 use Rattle.screen.proofs.tally.told.Tie as tie

@@ -1,7 +1,7 @@
 use mathlib.Core.Path.{_∙_}
 use native.Mathlib.Omega.{arith}
-use Rattle.screen.specs.CodeLaws.{sum-small}
-use Rattle.screen.specs.VisitLaws.{unfit-visit, fit-visit}
+use Rattle.screen.specs.Laws.Code.Codes.{sum-small}
+use Rattle.screen.specs.Laws.Code.Visit.{unfit-visit, fit-visit}
 use borrow.Author.Needs.{needs}
 use Rattle.screen.proofs.visiting.called.Statement.{statement}
 use Rattle.screen.proofs.visiting.called.Tie as tie

@@ -1,7 +1,7 @@
 use mathlib.Core.Path.{refl, sym, ap, _∙_}
 use denote.Ref.{now}
-use Rattle.screen.specs.Model.{Visit}
-use Rattle.screen.specs.VisitLaws.{tallyIn, quick-seen}
+use Rattle.screen.specs.Laws.Found.Model.{Visit}
+use Rattle.screen.specs.Laws.Code.Visit.{tallyIn, quick-seen}
 use borrow.Author.Needs.{needs}
 use Rattle.screen.proofs.visiting.visit_at.Statement.{statement}
 use Rattle.screen.proofs.visiting.visit_at.Tie as tie

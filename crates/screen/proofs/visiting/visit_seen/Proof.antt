@@ -4,10 +4,10 @@ use borrow.Author.Tests.{eq-eqb, ne-eqb}
 use denote.Ref.{now}
 use native.Mathlib.Omega.{arith}
 use Rattle.tokens.specs.Code.{familyIn}
-use Rattle.screen.specs.Model.{backIn}
-use Rattle.screen.specs.VisitLaws.{fixesBy, special}
-use Rattle.screen.specs.VisitLaws.{misplaced-seen, unlisted-seen, quiet-seen, forbidden-seen, finished-seen, left-seen, assigned-seen}
-use Rattle.screen.specs.VisitLaws.{jumped-seen, chosen-seen, called-seen}
+use Rattle.screen.specs.Laws.Found.Model.{backIn}
+use Rattle.screen.specs.Laws.Code.Visit.{fixesBy, special}
+use Rattle.screen.specs.Laws.Code.Visit.{misplaced-seen, unlisted-seen, quiet-seen, forbidden-seen, finished-seen, left-seen, assigned-seen}
+use Rattle.screen.specs.Laws.Code.Visit.{jumped-seen, chosen-seen, called-seen}
 use borrow.Author.Needs.{needs}
 use Rattle.screen.proofs.visiting.visit_seen.Statement.{statement}
 use Rattle.screen.proofs.visiting.visit_seen.Tie as tie

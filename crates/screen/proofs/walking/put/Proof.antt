@@ -1,5 +1,5 @@
 use mathlib.Core.Path.{refl, sym, _∙_}
-use Rattle.screen.specs.WalkLaws.{came-low, came-past, came-room, came-new, came-same, came-clash}
+use Rattle.screen.specs.Laws.Code.Walk.{came-low, came-past, came-room, came-new, came-same, came-clash}
 use borrow.Author.Needs.{needs}
 use Rattle.screen.proofs.walking.put.Statement.{statement}
 use Rattle.screen.proofs.walking.put.Tie as tie

@@ -1,4 +1,4 @@
-use Rattle.screen.specs.WalkLaws.{came-none, came-if}
+use Rattle.screen.specs.Laws.Code.Walk.{came-none, came-if}
 use borrow.Author.Needs.{needs}
 use Rattle.screen.proofs.walking.put_if.Statement.{statement}
 use Rattle.screen.proofs.walking.put_if.Tie as tie

@@ -1,5 +1,5 @@
 use denote.Ref.{now}
-use Rattle.screen.specs.WalkLaws.{out-fit, end-so, from-so}
+use Rattle.screen.specs.Laws.Code.Walk.{out-fit, end-so, from-so}
 use borrow.Author.Needs.{needs}
 use Rattle.screen.proofs.walking.walk_from.Statement.{statement}
 use Rattle.screen.proofs.walking.walk_from.Tie as tie

@@ -1,4 +1,4 @@
-use Rattle.state.specs.Moves.{leaveOf}
+use Rattle.state.specs.Joints.Moves.{leaveOf}
 use borrow.Author.Tests.{eq-eqb, ne-eqb, lt-ltb}
 use native.Mathlib.Omega.{arith}
 use borrow.Author.Needs.{needs}

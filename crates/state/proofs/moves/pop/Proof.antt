@@ -1,4 +1,4 @@
-use Rattle.state.specs.Moves.{popOf}
+use Rattle.state.specs.Joints.Moves.{popOf}
 use borrow.Author.Tests.{eq-eqb, ne-eqb}
 use native.Mathlib.Nat.{sub-zero}
 use borrow.Author.Needs.{needs}

@@ -5,7 +5,7 @@ use mathlib.Core.List.{[]}
 use native.Mathlib.Omega.{arith}
 use borrow.Author.Tests.{lt-leb, le-leb}
 use Rattle.tree.specs.Whole.{everyBelow}
-use Rattle.state.specs.Apart.{numbersOn}
+use Rattle.state.specs.Joints.Apart.{numbersOn}
 use Rattle.state.specs.Whole.{entryWhole, numbersWhole}
 use Rattle.state.proofs.Wholes.{one-fails, one-more, none-yet, all-hold, same-entry}
 use borrow.Author.Needs.{needs}

@@ -1,6 +1,6 @@
 use borrow.Author.Tests.{eq-eqb, ne-eqb}
 use borrow.Author.Needs.{needs}
-use Rattle.cells.specs.Facts.{not-on, not-off}
+use Rattle.cells.specs.Laws.Facts.{not-on, not-off}
 use Rattle.state.proofs.whole.is_entry.Statement.{statement}
 use Rattle.state.proofs.whole.is_entry.Tie as tie
 

@@ -1,5 +1,5 @@
 use borrow.Author.Needs.{needs}
-use Rattle.cells.specs.Facts.{not-on, not-off}
+use Rattle.cells.specs.Laws.Facts.{not-on, not-off}
 use Rattle.state.proofs.whole.is_frame.Statement.{statement}
 use Rattle.state.proofs.whole.is_frame.Tie as tie
 

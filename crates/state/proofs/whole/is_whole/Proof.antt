@@ -1,4 +1,4 @@
-use Rattle.cells.specs.Facts.{not-on, not-off}
+use Rattle.cells.specs.Laws.Facts.{not-on, not-off}
 use Rattle.state.specs.Whole.{wholeOf}
 use borrow.Author.Needs.{needs}
 use Rattle.state.proofs.whole.is_whole.Statement.{statement}

@@ -1,7 +1,7 @@
 use mathlib.Core.Path.{sym}
 use denote.Ref.{now}
 use borrow.Author.Needs.{needs}
-use Rattle.cells.specs.Tests.{find-none}
+use Rattle.cells.specs.Laws.Tests.{find-none}
 use Rattle.tokens.specs.Decode.{behinds, behindOf}
 use Rattle.tokens.proofs.decoding.behind.Statement.{statement}
 use Rattle.tokens.proofs.decoding.behind.Tie as tie

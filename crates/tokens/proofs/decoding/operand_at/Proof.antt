@@ -1,7 +1,7 @@
 use mathlib.Core.Path.{sym}
 use denote.Ref.{now}
 use borrow.Author.Needs.{needs}
-use Rattle.cells.specs.Tests.{find-none}
+use Rattle.cells.specs.Laws.Tests.{find-none}
 use Rattle.tokens.specs.Decode.{operands, operandOf}
 use Rattle.tokens.specs.declared.decoding.Operand.the-variants.{Nothing}
 use Rattle.tokens.proofs.decoding.operand_at.Statement.{statement}

@@ -1,6 +1,6 @@
-use Rattle.tokens.specs.GlanceForms.{of-two, not-listed, of-none}
+use Rattle.tokens.specs.Laws.GlanceForms.{of-two, not-listed, of-none}
 use Rattle.tokens.proofs.Ranges.{bounds}
-use Rattle.tokens.specs.GlanceLaws.{double-plain}
+use Rattle.tokens.specs.Laws.Glance.{double-plain}
 use denote.Ref.{now}
 use mathlib.Core.Path.{_∙_}
 use native.Mathlib.Omega.{arith}

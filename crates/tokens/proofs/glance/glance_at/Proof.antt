@@ -1,4 +1,4 @@
-use Rattle.tokens.specs.GlanceForms.{past-end}
+use Rattle.tokens.specs.Laws.GlanceForms.{past-end}
 use denote.Ref.{now}
 use mathlib.Core.Path.{_∙_}
 use borrow.Author.Needs.{needs}

@@ -1,5 +1,5 @@
 use Prim.Native.Nat.{_+_}
-use Rattle.tokens.specs.GlanceForms.{has-second, has-none, of-one, not-listed, of-none, in-time}
+use Rattle.tokens.specs.Laws.GlanceForms.{has-second, has-none, of-one, not-listed, of-none, in-time}
 use denote.Ref.{now}
 use mathlib.Core.Path.{_∙_}
 use native.Mathlib.Omega.{arith}

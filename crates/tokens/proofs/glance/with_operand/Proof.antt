@@ -1,5 +1,5 @@
-use Rattle.cells.specs.Tests.{find-none}
-use Rattle.tokens.specs.GlanceForms.{of-literal, of-string, of-branch, of-number, of-head, of-named, of-other}
+use Rattle.cells.specs.Laws.Tests.{find-none}
+use Rattle.tokens.specs.Laws.GlanceForms.{of-literal, of-string, of-branch, of-number, of-head, of-named, of-other}
 use Rattle.tokens.specs.Decode.{behinds, behindOf, operands, operandOf}
 use Rattle.tokens.specs.declared.decoding.Operand.the-variants.{Nothing}
 use denote.Ref.{now}

@@ -1,4 +1,4 @@
-use Rattle.tokens.specs.Quick.{Codes}
+use Rattle.tokens.specs.Joints.Quick.{Codes}
 use Rattle.tokens.proofs.Quicks.{quick-one, quick-literal}
 use denote.Ref.{now}
 use mathlib.Core.Path.{refl}

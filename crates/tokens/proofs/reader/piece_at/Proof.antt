@@ -1,7 +1,7 @@
 use mathlib.Core.Path.{sym, ap, _∙_}
 use denote.Ref.{now}
 use borrow.Author.Needs.{needs}
-use Rattle.tokens.specs.ReaderLaws.{is-end, is-piece, formed-as}
+use Rattle.tokens.specs.Laws.Reader.{is-end, is-piece, formed-as}
 use Rattle.tokens.specs.declared.reader.Piece.the-variants.{Raw}
 use Rattle.tokens.proofs.reader.piece_at.Statement.{statement}
 use Rattle.tokens.proofs.reader.piece_at.Tie as tie

@@ -1,7 +1,7 @@
-use Rattle.tree.specs.InPlace.{all-held, store-full, added}
-use Rattle.tree.specs.Laws.{length-value}
+use Rattle.tree.specs.Laws.InPlace.{all-held, store-full, added}
+use Rattle.tree.specs.Laws.Trees.{length-value}
 use Rattle.tree.specs.Property.{valueOf}
-use Rattle.tree.specs.Puts.{name-facts}
+use Rattle.tree.specs.Laws.Puts.{name-facts}
 use denote.Ref.{now}
 use native.Mathlib.Omega.{arith}
 use borrow.Author.Needs.{needs}

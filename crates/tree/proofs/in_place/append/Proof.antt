@@ -1,5 +1,5 @@
-use Rattle.tree.specs.CleanLaws.{appended-so}
-use Rattle.tree.specs.Laws.{length-value}
+use Rattle.tree.specs.Laws.Clean.{appended-so}
+use Rattle.tree.specs.Laws.Trees.{length-value}
 use Rattle.tree.specs.Property.{valueOf}
 use denote.Ref.{now}
 use mathlib.Core.Path.{sym, _∙_}

@@ -1,6 +1,6 @@
 use Prim.Native.Nat.{_-_}
-use Rattle.tree.specs.CleanLaws.{zeros-more, zeros-none}
-use Rattle.tree.specs.Steps.{zeroedOf}
+use Rattle.tree.specs.Laws.Clean.{zeros-more, zeros-none}
+use Rattle.tree.specs.Joints.Steps.{zeroedOf}
 use lib.ListN.{length, length-set}
 use mathlib.Core.Path.{_≡_, refl, sym, _∙_}
 use native.Mathlib.Omega.{arith}

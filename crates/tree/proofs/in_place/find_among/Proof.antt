@@ -1,8 +1,7 @@
 use Prim.Native.Nat.{_+_, _-_, _≤_}
-use Rattle.tree.specs.Apart.{onRecords}
-use Rattle.tree.specs.Held.{liveAmong, matches, propertyAt}
-use Rattle.tree.specs.Laws.{live-more, found-here, found-next, found-none}
-use Rattle.tree.specs.Steps.{foundFrom}
+use Rattle.tree.specs.Joints.Apart.{onRecords}
+use Rattle.tree.specs.Held.{liveAmong, matches, propertyAt, foundFrom}
+use Rattle.tree.specs.Laws.Trees.{live-more, found-here, found-next, found-none}
 use Rattle.tree.specs.declared.tree.Tree.{Tree}
 use denote.Ref.{now}
 use mathlib.Core.Path.{_≡_, refl, sym, _∙_}

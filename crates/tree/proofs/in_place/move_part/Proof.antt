@@ -1,6 +1,6 @@
 use Prim.Native.Nat.{ℕ}
 use Rattle.memory.specs.Writing.{movedOf}
-use Rattle.tree.specs.CleanLaws.{moved-nowhere}
+use Rattle.tree.specs.Laws.Clean.{moved-nowhere}
 use denote.Ref.{now}
 use mathlib.Core.Path.{_≡_, sym, subst}
 use borrow.Author.Needs.{needs}

@@ -1,6 +1,6 @@
 use Rattle.cells.specs.Choice.{pick}
-use Rattle.tree.specs.InPlace.{among-them, bad-name, large-value, inside, value-grows, changed}
-use Rattle.tree.specs.Laws.{length-value}
+use Rattle.tree.specs.Laws.InPlace.{among-them, bad-name, large-value, inside, value-grows, changed}
+use Rattle.tree.specs.Laws.Trees.{length-value}
 use Rattle.tree.specs.Property.{valueOf}
 use Rattle.tree.specs.declared.property.Found.{Found}
 use denote.Ref.{now}

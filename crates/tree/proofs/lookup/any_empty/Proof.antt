@@ -3,7 +3,7 @@ use mathlib.Core.Path.{_≡_, refl, sym, _∙_}
 use lib.ListN.{length, drop}
 use denote.Ref.{now}
 use Rattle.tree.specs.Path.{splitOf, anyEmpty}
-use Rattle.tree.specs.PathLaws.{empty-here, empty-last, empty-more}
+use Rattle.tree.specs.Laws.Path.{empty-here, empty-last, empty-more}
 use borrow.Author.Needs.{needs}
 use Rattle.tree.proofs.lookup.any_empty.Statement.{statement}
 use Rattle.tree.proofs.lookup.any_empty.Tie as tie

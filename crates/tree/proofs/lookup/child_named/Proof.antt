@@ -2,7 +2,7 @@ use Prim.Native.Nat.{_-_}
 use mathlib.Core.Path.{_≡_, refl, sym, ap, _∙_}
 use denote.Ref.{now}
 use Rattle.tree.specs.Path.{childFrom, childNamed}
-use Rattle.tree.specs.PathLaws.{childSought, child-here, child-next, child-none}
+use Rattle.tree.specs.Laws.Path.{childSought, child-here, child-next, child-none}
 use borrow.Author.Needs.{needs}
 use Rattle.tree.proofs.lookup.child_named.Statement.{statement}
 use Rattle.tree.proofs.lookup.child_named.Tie as tie

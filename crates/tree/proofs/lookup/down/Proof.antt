@@ -5,7 +5,7 @@ use lib.ListN.{length, drop}
 use denote.Ref.{now}
 use Rattle.memory.specs.Window.{partOf}
 use Rattle.tree.specs.Path.{splitOf, downFrom}
-use Rattle.tree.specs.PathLaws.{behindOf, split-part, split-last, split-more, down-child, down-none, down-end}
+use Rattle.tree.specs.Laws.Path.{behindPart, split-part, split-last, split-more, down-child, down-none, down-end}
 use borrow.Author.Needs.{needs}
 use Rattle.tree.proofs.lookup.down.Statement.{statement}
 use Rattle.tree.proofs.lookup.down.Tie as tie
@@ -40,7 +40,7 @@ down-spec =
     let part = partOf (now (a .path)) (l .at) (e .result - l .at) in
     sym (
     ap (downFrom (a .tree) (now (a .store)) (l .node)) (split-part (now (a .path)) (l .at) (e .result) (l .inv .0) (e .ensures .0))
-    ∙ down-none (a .tree) (now (a .store)) (l .node) part (w .0 .0) (behindOf (drop (l .at) (now (a .path)))) (sym (c .before .before .child-named .ensures) ∙ w .1))
+    ∙ down-none (a .tree) (now (a .store)) (l .node) part (w .0 .0) (behindPart (drop (l .at) (now (a .path)))) (sym (c .before .before .child-named .ensures) ∙ w .1))
     ∙ l .inv .1)
     (λ c.
     let a = c .before .before .before .before .before .before .before .before .before .before .args in

@@ -5,8 +5,8 @@ use denote.Ref.{now}
 use borrow.Author.Tests.{not-true, not-false}
 use Rattle.tree.specs.Whole.{wholeTree}
 use Rattle.tree.specs.Path.{malformed, downFrom}
-use Rattle.tree.specs.Laws.{whole-facts}
-use Rattle.tree.specs.PathLaws.{path-least, no-parts, some-parts, down-end, node-size, node-damaged, node-malformed, node-down}
+use Rattle.tree.specs.Laws.Trees.{whole-facts}
+use Rattle.tree.specs.Laws.Path.{path-least, no-parts, some-parts, down-end, node-size, node-damaged, node-malformed, node-down}
 use borrow.Author.Needs.{needs}
 use Rattle.tree.proofs.lookup.find_node.Statement.{statement}
 use Rattle.tree.proofs.lookup.find_node.Tie as tie

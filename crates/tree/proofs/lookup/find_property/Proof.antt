@@ -1,6 +1,6 @@
 use mathlib.Core.Path.{sym, _∙_}
 use denote.Ref.{now}
-use Rattle.tree.specs.PathLaws.{node-whole, property-there, property-none}
+use Rattle.tree.specs.Laws.Path.{node-whole, property-there, property-none}
 use borrow.Author.Needs.{needs}
 use Rattle.tree.proofs.lookup.find_property.Statement.{statement}
 use Rattle.tree.proofs.lookup.find_property.Tie as tie

@@ -7,7 +7,7 @@ use Rattle.memory.specs.Window.{partOf}
 use Rattle.rom.specs.Words.{lettersOf}
 use Rattle.tree.specs.Held.{heldOf, liveOf}
 use Rattle.tree.specs.Path.{valueIn}
-use Rattle.tree.specs.PathLaws.{place-value, place-empty}
+use Rattle.tree.specs.Laws.Path.{place-value, place-empty}
 use borrow.Author.Needs.{needs}
 use Rattle.tree.proofs.lookup.is_called.Statement.{statement}
 use Rattle.tree.proofs.lookup.is_called.Tie as tie

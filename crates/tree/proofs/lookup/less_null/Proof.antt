@@ -4,7 +4,7 @@ use native.Mathlib.Omega.{arith}
 use lib.ListN.{length}
 use lib.Seq.{length-take-le}
 use denote.Ref.{now}
-use Rattle.tree.specs.PathLaws.{null-empty, null-less, null-none}
+use Rattle.tree.specs.Laws.Path.{null-empty, null-less, null-none}
 use borrow.Author.Needs.{needs}
 use Rattle.tree.proofs.lookup.less_null.Statement.{statement}
 use Rattle.tree.proofs.lookup.less_null.Tie as tie

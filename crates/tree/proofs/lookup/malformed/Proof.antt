@@ -1,7 +1,7 @@
 use mathlib.Core.Path.{sym, ap, _∙_}
 use denote.Ref.{now}
 use Rattle.tree.specs.Path.{anyEmpty}
-use Rattle.tree.specs.PathLaws.{pathless, headless, headed, no-parts, some-parts}
+use Rattle.tree.specs.Laws.Path.{pathless, headless, headed, no-parts, some-parts}
 use borrow.Author.Needs.{needs}
 use Rattle.tree.proofs.lookup.malformed.Statement.{statement}
 use Rattle.tree.proofs.lookup.malformed.Tie as tie

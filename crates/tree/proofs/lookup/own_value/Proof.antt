@@ -10,8 +10,8 @@ use borrow.Author.Needs.{needs}
 use Rattle.memory.specs.Window.{partOf}
 use Rattle.tree.specs.Whole.{wholeTree}
 use Rattle.tree.specs.Path.{ownValueOf}
-use Rattle.tree.specs.Laws.{whole-facts}
-use Rattle.tree.specs.PathLaws.{own-size, own-damaged, own-there, own-missing}
+use Rattle.tree.specs.Laws.Trees.{whole-facts}
+use Rattle.tree.specs.Laws.Path.{own-size, own-damaged, own-there, own-missing}
 use Rattle.tree.proofs.lookup.own_value.Statement.{statement}
 use Rattle.tree.proofs.lookup.own_value.Tie as tie
 

@@ -3,7 +3,7 @@ use mathlib.Core.Path.{_≡_, refl}
 use native.Mathlib.Omega.{arith}
 use lib.ListN.{length, drop}
 use denote.Ref.{now}
-use Rattle.tree.specs.PathLaws.{endOf, end-slash, end-next, end-last}
+use Rattle.tree.specs.Laws.Path.{partEnd, end-slash, end-next, end-last}
 use borrow.Author.Needs.{needs}
 use Rattle.tree.proofs.lookup.part_end.Statement.{statement}
 use Rattle.tree.proofs.lookup.part_end.Tie as tie
@@ -11,7 +11,7 @@ use Rattle.tree.proofs.lookup.part_end.Tie as tie
 -- the end from here on is the end
 abbrev Inv-loop : tie.InvT-loop
 Inv-loop path at end₀ end =
-    (at ≤ end) × (end ≤ length path) × (end + endOf (drop end path) ≡ at + endOf (drop at path))
+    (at ≤ end) × (end ≤ length path) × (end + partEnd (drop end path) ≡ at + partEnd (drop at path))
 
 abbrev μ-loop : tie.MeasureT-loop
 μ-loop path at end₀ end = length path - end

@@ -1,7 +1,7 @@
 use mathlib.Core.Path.{sym, ap}
 use native.Mathlib.Omega.{arith}
 use denote.Ref.{now}
-use Rattle.tree.specs.PathLaws.{place-none, place-there, place-end}
+use Rattle.tree.specs.Laws.Path.{place-none, place-there, place-end}
 use Rattle.tree.specs.declared.property.Found.{Found}
 use borrow.Author.Needs.{needs}
 use Rattle.tree.proofs.lookup.place_of.Statement.{statement}

@@ -5,7 +5,7 @@ use lib.ListN.{length}
 use denote.Ref.{now}
 use Rattle.memory.specs.Window.{partOf}
 use Rattle.tree.specs.Path.{propertyValueOf}
-use Rattle.tree.specs.PathLaws.{property-holds}
+use Rattle.tree.specs.Laws.Path.{property-holds}
 use Rattle.tree.specs.declared.lookup.ValueSought.the-variants.{Value, Refused}
 use borrow.Author.Needs.{needs}
 use Rattle.tree.proofs.lookup.property_value.Statement.{statement}

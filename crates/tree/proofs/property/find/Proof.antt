@@ -2,9 +2,8 @@ use Prim.Native.Nat.{_+_, _-_, _≤_}
 use mathlib.Core.Path.{_≡_, refl, sym, _∙_}
 use native.Mathlib.Omega.{arith}
 use denote.Ref.{now}
-use Rattle.tree.specs.Held.{liveOf, liveFrom, matches, propertyAt}
-use Rattle.tree.specs.Steps.{foundFrom}
-use Rattle.tree.specs.Laws.{live-more, found-here, found-next, found-none}
+use Rattle.tree.specs.Held.{liveOf, liveFrom, matches, propertyAt, foundFrom}
+use Rattle.tree.specs.Laws.Trees.{live-more, found-here, found-next, found-none}
 use borrow.Author.Needs.{needs}
 use Rattle.tree.proofs.property.find.Statement.{statement}
 use Rattle.tree.proofs.property.find.Tie as tie

@@ -1,7 +1,7 @@
 use Prim.Native.Nat.{_-_}
 use mathlib.Core.Path.{sym, _∙_}
 use denote.Ref.{now}
-use Rattle.tree.specs.Laws.{laid-null, laid-bare}
+use Rattle.tree.specs.Laws.Trees.{laid-null, laid-bare}
 use borrow.Author.Needs.{needs}
 use Rattle.tree.proofs.property.lay_value.Statement.{statement}
 use Rattle.tree.proofs.property.lay_value.Tie as tie

@@ -2,9 +2,9 @@ use Prim.Native.Nat.{_-_, _≤_}
 use mathlib.Core.Path.{_≡_, refl, sym, _∙_}
 use lib.ListN.{length, drop}
 use denote.Ref.{now}
-use Rattle.cells.specs.Facts.{not-off, not-on}
+use Rattle.cells.specs.Laws.Facts.{not-off, not-on}
 use Rattle.tree.specs.Held.{sameBytes}
-use Rattle.tree.specs.SameLaws.{same-before, many-more, many-differ, many-last}
+use Rattle.tree.specs.Laws.Same.{same-before, many-more, many-differ, many-last}
 use borrow.Author.Needs.{needs}
 use Rattle.tree.proofs.property.same_words.Statement.{statement}
 use Rattle.tree.proofs.property.same_words.Tie as tie

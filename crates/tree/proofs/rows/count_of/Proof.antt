@@ -4,7 +4,7 @@ use mathlib.Core.Logic.{⊎-elim}
 use native.Mathlib.Omega.{arith}
 use denote.Ref.{now}
 use Rattle.tree.specs.Rows.{countFrom}
-use Rattle.tree.specs.RowLaws.{count-here, count-next, count-none}
+use Rattle.tree.specs.Laws.Rows.{count-here, count-next, count-none}
 use borrow.Author.Needs.{needs}
 use Rattle.tree.proofs.rows.count_of.Statement.{statement}
 use Rattle.tree.proofs.rows.count_of.Tie as tie

@@ -3,7 +3,7 @@ use mathlib.Core.Path.{_≡_}
 use lib.ListN.{length, take}
 use denote.Ref.{now}
 use Rattle.tree.specs.Rows.{columnFrom}
-use Rattle.tree.specs.RowLaws.{column-none, column-set, column-all}
+use Rattle.tree.specs.Laws.Rows.{column-none, column-set, column-all}
 use borrow.Author.Needs.{needs}
 use Rattle.tree.proofs.rows.fill_rows.Statement.{statement}
 use Rattle.tree.proofs.rows.fill_rows.Tie as tie

@@ -46,10 +46,10 @@ use denote.Triple.Table.{entered, cited}
 use denote.Triple.Walked.{says, Stays, stay-slice, stay-none, walkOf, goes-slice, goes-none, Walks, ends-at, walked, walk-meets}
 use denote.Exit.{yes}
 use Rattle.cells.specs.Choice.{pick as choose}
-use Rattle.cells.specs.Facts.{holds, is-true, is-false, not-on}
-use Rattle.tree.specs.Laws.{whole-facts}
-use Rattle.tree.specs.Rows.{rowOf, rowsOf, rowsRefusal, rowsThen}
-use Rattle.tree.specs.RowLaws.{rows-taken}
+use Rattle.cells.specs.Laws.Facts.{holds, is-true, is-false, not-on}
+use Rattle.tree.specs.Laws.Trees.{whole-facts}
+use Rattle.tree.specs.Rows.{nodeRow, rowsOf, rowsRefusal, rowsThen}
+use Rattle.tree.specs.Laws.Rows.{rows-taken}
 use Rattle.tree.specs.declared.tree.Tree.{Tree}
 use Rattle.tree.specs.declared.rows.Row.{Row}
 use Rattle.tree.proofs.Filling.{Filled, ≺, wf, none, below, fewer, one-more, all}
@@ -137,8 +137,8 @@ module _ {M : Type 1} (𝓤 : URA M) (H : Heap 𝓤) (A : Atoms 𝓤) (W : Given
   asks-row k small held =
       qed W [] ∵ says ! (small, held) $ nothing ! $ owned ! usize (Is usize) (uint-makes 𝓤 H A W w64) k _ (refl, omega (arith, small)) $ fjoin ! $ owned ! T.the-row (Is T.the-row) (LL.makes T.the-type T′.the-plain 𝓤 H A) tree _ tree-is $ fjoin ! $ nothing ! $ frame ! $ done !
 
-  row-said : (k : ℕ) (r : Row) → ent 𝓤 (ensured 𝓤 H A row-of.ended (row-of.clauses 𝓤 H A mem run) tt (tree, (k, tt)) tt r) (fact 𝓤 (r ≡ rowOf tree k))
-  row-said k r = exE 𝓤 _ (λ ws. snd∗ 𝓤 (sem 𝓤 H A (lasts row-of.ended tt (tree, (k, tt)) ws)) (fact 𝓤 (r ≡ rowOf tree k)))
+  row-said : (k : ℕ) (r : Row) → ent 𝓤 (ensured 𝓤 H A row-of.ended (row-of.clauses 𝓤 H A mem run) tt (tree, (k, tt)) tt r) (fact 𝓤 (r ≡ nodeRow tree k))
+  row-said k r = exE 𝓤 _ (λ ws. snd∗ 𝓤 (sem 𝓤 H A (lasts row-of.ended tt (tree, (k, tt)) ws)) (fact 𝓤 (r ≡ nodeRow tree k)))
 
   -- what there is at entry, less what the tree owns
   opened : ent 𝓤 (onEntry 𝓤 H A node-rows.signature (κ, tt) (q, tt) a vals) (sep 𝓤 (sem 𝓤 H A (S was)) (A .lft κ q))
@@ -192,7 +192,7 @@ module _ {M : Type 1} (𝓤 : URA M) (H : Heap 𝓤) (A : Atoms 𝓤) (W : Given
       Left = afterBlock 𝓤 H (afterSeq 𝓤 H (Wp 𝓤 H C Λ En pieces.t-7 (atReturn 𝓤 H En Post)) (atReturn 𝓤 H En Post))
 
       -- a turn that stores row k
-      stores : (k : ℕ) (rows : List Row) (X : SProp 𝓤) → k < 32 → length rows ≡ 32 → ((r : Row) → r ≡ rowOf tree k → Sq W (At why (k + 1) (set rows k r)) (prop X)) → Sq W (At why k rows) (runs C Λ En pieces.turn-1 (anyQ (afterTurn 𝓤 H X Left)))
+      stores : (k : ℕ) (rows : List Row) (X : SProp 𝓤) → k < 32 → length rows ≡ 32 → ((r : Row) → r ≡ nodeRow tree k → Sq W (At why (k + 1) (set rows k r)) (prop X)) → Sq W (At why k rows) (runs C Λ En pieces.turn-1 (anyQ (afterTurn 𝓤 H X Left)))
       unfolding afterTurn
       stores k rows X small l then =
           assigns ! (bin ! (load ! (from ! (stop !)) (look ! 14 refl)) (lit ! tt) tt) (from ! (stop !)) (init ! 8 refl (tt, tt)) $
@@ -202,7 +202,7 @@ module _ {M : Type 1} (𝓤 : URA M) (H : Heap 𝓤) (A : Atoms 𝓤) (W : Given
           -- what row_of asks; the slice; the token; the locals
           calls-at ! (fmOf 𝓤 H (W .laws) 𝓣) (RowOf 𝓤 H A mem run) known (to-row k) (and-then ! (load ! (from ! (stop !)) (look ! 21 refl)) (and-then ! (load ! (from ! (stop !)) (look ! 15 refl)) (no-more !))) (λ u.
           use1 W (later (some (λ (r : Row). (‵ ftrue ⊛ ‵ (R.the-row .own r (u ∷ []))) ⊛ raw (ensured 𝓤 H A row-of.ended (row-of.clauses 𝓤 H A mem run) tt (tree, (k, tt)) tt r)))) (id⊢ 𝓤 _) $ await ! tt $ pick ! (λ r.
-          split ! $ move ! (1 ∷ []) $ use1 W (raw (fact 𝓤 (r ≡ rowOf tree k))) (row-said k r) $ heard ! (r ≡ rowOf tree k) (λ e. split ! $ drop ! $
+          split ! $ move ! (1 ∷ []) $ use1 W (raw (fact 𝓤 (r ≡ nodeRow tree k))) (row-said k r) $ heard ! (r ≡ nodeRow tree k) (λ e. split ! $ drop ! $
           -- what the row owns; the slice; the token; the locals
           peeks ! R.the-row (Is R.the-row) (shows 𝓤 H A R.the-row) r (u ∷ []) (λ is.
           land ! (from ! (stop !)) (init ! 7 refl (LL.lawful R.the-type R′.the-laws 𝓤 H A W .typed r _ is .0)) $

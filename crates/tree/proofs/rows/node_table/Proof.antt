@@ -1,8 +1,8 @@
 use mathlib.Core.Path.{refl, sym, _∙_}
 use denote.Ref.{now}
 use borrow.Author.Tests.{not-true, not-false}
-use Rattle.tree.specs.Laws.{whole-facts}
-use Rattle.tree.specs.RowLaws.{parents-size, counts-size, table-damaged, table-good}
+use Rattle.tree.specs.Laws.Trees.{whole-facts}
+use Rattle.tree.specs.Laws.Rows.{parents-size, counts-size, table-damaged, table-good}
 use borrow.Author.Needs.{needs}
 use Rattle.tree.proofs.rows.node_table.Statement.{statement}
 use Rattle.tree.proofs.rows.node_table.Tie as tie

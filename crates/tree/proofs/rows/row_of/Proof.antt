@@ -1,6 +1,6 @@
 use mathlib.Core.Path.{sym}
 use borrow.Author.Needs.{needs}
-use Rattle.tree.specs.RowLaws.{row-used, row-unused}
+use Rattle.tree.specs.Laws.Rows.{row-used, row-unused}
 use Rattle.tree.proofs.rows.row_of.Statement.{statement}
 use Rattle.tree.proofs.rows.row_of.Tie as tie
 

@@ -4,7 +4,7 @@ use mathlib.Core.Bool.{true}
 use denote.Ref.{now}
 use borrow.Author.Tests.{not-true, not-false}
 use Rattle.tree.specs.Whole.{olderAmong, everyBelow}
-use Rattle.tree.specs.Laws.{every-more, every-fails}
+use Rattle.tree.specs.Laws.Trees.{every-more, every-fails}
 use borrow.Author.Needs.{needs}
 use Rattle.tree.proofs.tree.all_older.Statement.{statement}
 use Rattle.tree.proofs.tree.all_older.Tie as tie

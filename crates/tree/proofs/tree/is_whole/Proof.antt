@@ -4,7 +4,7 @@ use mathlib.Core.Bool.{Bool}
 use native.Mathlib.Omega.{arith}
 use borrow.Author.Tests.{not-true, not-false}
 use Rattle.tree.specs.Whole.{counted}
-use Rattle.tree.specs.Laws.{not-counted, not-older, not-sound, whole-but-live, counted-facts}
+use Rattle.tree.specs.Laws.Trees.{not-counted, not-older, not-sound, whole-but-live, counted-facts}
 use borrow.Author.Needs.{needs}
 use Rattle.tree.proofs.tree.is_whole.Statement.{statement}
 use Rattle.tree.proofs.tree.is_whole.Tie as tie

@@ -3,7 +3,7 @@ use mathlib.Core.Path.{_≡_, refl}
 use native.Mathlib.Omega.{arith}
 use denote.Ref.{now}
 use Rattle.tree.specs.Held.{liveAmong}
-use Rattle.tree.specs.Laws.{live-more, live-none}
+use Rattle.tree.specs.Laws.Trees.{live-more, live-none}
 use borrow.Author.Needs.{needs}
 use Rattle.tree.proofs.tree.live_bytes.Statement.{statement}
 use Rattle.tree.proofs.tree.live_bytes.Tie as tie

@@ -1,0 +1,254 @@
+-- What writing a property in place comes to, by the tests that the code makes. Assumes nothing.
+use Prim.Native.Nat.{ℕ, suc, _+_, _-_, _≤_, _<_}
+use native.Mathlib.Nat.{zero-add}
+use native.Mathlib.Omega.{arith}
+use mathlib.Core.Bool.{true, false, or-true}
+use mathlib.Core.List.{List}
+use mathlib.Core.Path.{_≡_, refl, sym, ap, subst, _∙_}
+use lib.ListN.{length, getD, set, replicate, length-set, List·getD-eq-default}
+use lib.Seq.{set-getD}
+use lib.Dec.{leb}
+use lib.Arith.{lt-of-le-ne}
+use borrow.Author.Tests.{lt-ltb, le-ltb, le-leb, lt-leb, eq-eqb, ne-eqb}
+use Rattle.memory.specs.Window.{partOf}
+use Rattle.memory.specs.Writing.{writtenOf, movedOf}
+use Rattle.memory.specs.Laws.Memory.{length-written}
+use Rattle.tree.specs.Held.{liveAmong, foundFrom}
+use Rattle.tree.specs.Whole.{wholeTree}
+use Rattle.tree.specs.Node.{freshTree, writeDone}
+use Rattle.tree.specs.Property.{badName, overfull, wouldHold, putRefusal, recordedOf, putOf, storeOf}
+use Rattle.tree.specs.Joints.Steps.{foundOf, appendedOf, replacedOf}
+use Rattle.tree.specs.Laws.Trees.{whole-facts}
+use Rattle.tree.specs.Laws.Puts.{put-refused, put-done, misnamed, no-room, room, index-is, index-most, present}
+use Rattle.tree.specs.Laws.Puts.{full-is, full-value, laid-is}
+use Rattle.tree.specs.Laws.Lives.{live-behind, live-inside, found-name, found-owner}
+use Rattle.tree.specs.Laws.PutKept.{SizedTree}
+use Rattle.tree.specs.Joints.Apart.{onRecords, atNode, refusedWith, doneWith, tailOf, Clean, Tallied, Finds, Missing, Puts}
+use Rattle.tree.specs.Laws.Clean.{clean-cleared}
+use Rattle.tree.specs.declared.tree.Tree.{Tree}
+use Rattle.tree.specs.declared.property.Found.{Found}
+use Rattle.tree.specs.declared.in_place.Tail.{Tail}
+use Rattle.tree.specs.declared.in_place.Kept.{Kept}
+
+-- the tail of a whole tree's records, of whose store nothing else is known
+pub tallied-first : (t : Tree) (s : List ℕ) → SizedTree t → wholeTree t ≡ true → length s ≡ 16384
+    → Tallied s (t .names) (t .values) (t .held) (tailOf (t .names) (t .values) (t .held))
+tallied-first t s z w l =
+    let n = whole-facts t w .nodes in
+    (l, z .names, z .values, n .held-most, refl, (n .live-most, omega arith, λ k h. List·getD-eq-default s 0 {n = k} (omega arith)))
+
+length-appended : (s : List ℕ) (live : ℕ) (name value : List ℕ) → length (appendedOf s live name value) ≡ length s
+length-appended s live name value =
+    let x = writtenOf s live name in
+    let y = writtenOf x (live + length name) value in
+    let end = live + length name + length value in
+    length-written y end (replicate (length y - end) 0) ∙ length-written x (live + length name) value ∙ length-written s live name
+
+length-replaced : (s : List ℕ) (live at old : ℕ) (value : List ℕ) → length (replacedOf s live at old value) ≡ length s
+length-replaced s live at old value =
+    let n = live - (at + old) in
+    let x = movedOf s (at + old) (at + length value) n in
+    let y = writtenOf x at value in
+    let end = at + length value + n in
+    length-written y end (replicate (length y - end) 0) ∙ length-written x at value
+    ∙ length-written s (at + length value) (partOf s (at + old) n)
+
+module _ (active : ℕ) (name value s owners names values : List ℕ) (held : ℕ) (tail : Tail) (k : Tallied s names values held tail) where
+  abbrev n : ℕ
+  n = length name
+
+  abbrev v : ℕ
+  v = length value
+
+  -- the tree put together
+  abbrev lent : Tree → Tree
+  lent t = onRecords (atNode t active) owners names values held
+
+  abbrev Given : Kept → List ℕ → List ℕ → List ℕ → List ℕ → Type 0
+  Given r s′ owners′ names′ values′ = Puts active name value s owners names values held r s′ owners′ names′ values′
+
+  -- the live bytes are in the store
+  roomy : liveAmong names values held 0 ≤ length s
+  roomy = let b = k .4 in let c = k .5 in omega arith
+
+  -- a record that is not behind them all is one of them
+  pub among-them : (f : Found) → Finds s owners names values held active name f → (f .index ≡ held → ⊥) → f .index < held
+  among-them f e n =
+      let i = ap (λ (x : Found). x .index) (e (atNode freshTree active)) in
+      let m = index-most (lent freshTree) s name value in
+      lt-of-le-ne (omega arith) n
+
+  refused-as : (why : ℕ) → (why ≡ 0 → ⊥) → ((t : Tree) → wholeTree (lent t) ≡ true → putRefusal (lent t) s name value ≡ why)
+      → Given (refusedWith why held tail) s owners names values
+  refused-as why n e = (λ t w. put-refused (lent t) s name value why n (e t w), k)
+
+  pub bad-name : badName name ≡ true → Given (refusedWith 26 held tail) s owners names values
+  bad-name b = refused-as 26 (λ e. omega arith) (λ t w. misnamed (lent t) s name value (k .0) w b)
+
+  module _ (b : badName name ≡ false) where
+    full : ((t : Tree) → overfull (wouldHold (lent t) s name value) ≡ true) → Given (refusedWith 27 held tail) s owners names values
+    full o = refused-as 27 (λ e. omega arith) (λ t w. no-room (lent t) s name value (k .0) w b (o t))
+
+    pub large-value : 16384 < length value → Given (refusedWith 27 held tail) s owners names values
+    large-value g = full (λ t. full-value (lent t) s name value (k .3) roomy g)
+
+    -- a property more
+    module _ (m : Missing s owners names values held active name) where
+      abbrev added-live : ℕ
+      added-live = tail .live + n + v
+
+      pub all-held : 128 ≤ held → Given (refusedWith 27 held tail) s owners names values
+      all-held h =
+          full (λ t.
+          full-is (lent t) s name value (k .3) roomy ∙ rw (m (atNode t active), eq-eqb held held refl, le-leb 128 held h))
+
+      pub store-full : 16384 < added-live → Given (refusedWith 27 held tail) s owners names values
+      store-full h =
+          full (λ t.
+          full-is (lent t) s name value (k .3) roomy
+          ∙ rw (m (atNode t active), eq-eqb held held refl, ← k .4, lt-ltb 16384 added-live h) (or-true (leb 128 held)))
+
+      module _ (h : held < 128) (l : added-live ≤ 16384) where
+        has-room : (t : Tree) → overfull (wouldHold (lent t) s name value) ≡ false
+        has-room t =
+            full-is (lent t) s name value (k .3) roomy
+            ∙ rw (m (atNode t active), eq-eqb held held refl, ← k .4, lt-leb 128 held h, le-ltb 16384 added-live l)
+
+        recorded-new : (t : Tree)
+            → onRecords (atNode t active) (set owners held active) (set names held n) (set values held v) (held + 1)
+            ≡ recordedOf (lent t) held n v
+        unfolding recordedOf
+        recorded-new t = rw (eq-eqb held held refl)
+
+        tree-added : (t : Tree) → wholeTree (lent t) ≡ true
+            → (writeDone (recordedOf (lent t) held n v) ≡ putOf (lent t) s name value)
+            × (appendedOf s (tail .live) name value ≡ storeOf (lent t) s name value)
+        tree-added t w =
+            let i = m (atNode t active) in
+            let p = put-done (lent t) s name value (room (lent t) s name value (k .0) w b (has-room t)) in (
+              ap (λ (x : ℕ). writeDone (recordedOf (lent t) x n v)) (sym i ∙ index-is (lent t) s name value) ∙ p .0,
+              rw (i, eq-eqb held held refl, ← k .4) at (laid-is (lent t) s name value (k .3) roomy (k .0) (has-room t)) ∙ p .1,
+            )
+
+        tally-added : Tallied (appendedOf s (tail .live) name value) (set names held n) (set values held v) (held + 1)
+            (record { live = added-live; zeros = added-live })
+        tally-added =
+            let live = tail .live in
+            let kn = k .1 in
+            let kv = k .2 in
+            let e = k .4 in
+            let f = live-behind names values held n v (omega arith) (omega arith) held 0 (omega arith) in
+            let d : held + 1 ≡ suc held = omega arith in
+            let size : length (appendedOf s live name value) ≡ 16384 = length-appended s live name value ∙ k .0 in (
+              size,
+              length-set names held n ∙ kn,
+              length-set values held v ∙ kv,
+              omega arith,
+              rw d (omega arith),
+              (omega arith, omega arith, clean-cleared (writtenOf (writtenOf s live name) (live + n) value) added-live),
+            )
+
+        pub added : Given (doneWith (held + 1) added-live) (appendedOf s (tail .live) name value)
+            (set owners held active) (set names held n) (set values held v)
+        added = (λ t w. let p = tree-added t w in (ap writeDone (recorded-new t) ∙ p .0, p .1), tally-added)
+
+    -- another value
+    module _ (f : Found) (e : Finds s owners names values held active name f) (h : f .index < held) where
+      abbrev i : ℕ
+      i = f .index
+
+      abbrev old : ℕ
+      old = getD values i 0
+
+      abbrev changed-live : ℕ
+      changed-live = tail .live - old + v
+
+      there : (t : Tree) → i ≡ foundFrom (lent t) s active name held 0 0 .index
+      there t = ap (λ (x : Found). x .index) (e (atNode t active))
+
+      -- the record is the node's, and its name is as long
+      named : getD names i 0 ≡ n
+      named =
+          let j = there freshTree in
+          rw j (found-name (lent freshTree) s active name held 0 0 (rw (zero-add (liveAmong names values held 0)) roomy) (omega arith))
+
+      owned : getD owners i 0 ≡ active
+      owned = let j = there freshTree in rw j (found-owner (lent freshTree) s active name held 0 0 (omega arith))
+
+      -- its bytes are among the live ones
+      pub inside : f .at + n + old ≤ tail .live
+      inside =
+          let j = there freshTree in
+          let p = present (lent freshTree) s name value (λ x. omega arith) .0 in
+          rw (← named, k .4, e (atNode freshTree active)) p
+
+      pub value-grows : 16384 < changed-live → Given (refusedWith 27 held tail) s owners names values
+      value-grows g =
+          let q = inside in
+          full (λ t.
+          full-is (lent t) s name value (k .3) roomy
+          ∙ rw (← there t, ne-eqb i held (λ x. omega arith), ← k .4) (lt-ltb (16384 + old) (tail .live + v) (omega arith)))
+
+      module _ (l : changed-live ≤ 16384) where
+        fits : (t : Tree) → overfull (wouldHold (lent t) s name value) ≡ false
+        fits t =
+            let q = inside in
+            full-is (lent t) s name value (k .3) roomy
+            ∙ rw (← there t, ne-eqb i held (λ x. omega arith), ← k .4) (le-ltb (16384 + old) (tail .live + v) (omega arith))
+
+        -- the record keeps its node and its name
+        same-owner : set owners i active ≡ owners
+        same-owner = ap (λ (x : ℕ). set owners i x) (sym owned) ∙ set-getD owners i 0
+
+        same-name : set names i (n) ≡ names
+        same-name = ap (λ (x : ℕ). set names i x) (sym named) ∙ set-getD names i 0
+
+        recorded-old : (t : Tree)
+            → onRecords (atNode t active) owners names (set values i (v)) held
+            ≡ recordedOf (lent t) i (n) (v)
+        unfolding recordedOf
+        recorded-old t = rw (ne-eqb i held (λ x. omega arith), same-owner, same-name)
+
+        abbrev other : List ℕ
+        other = replacedOf s (tail .live) (f .at + n) old value
+
+        tree-changed : (t : Tree) → wholeTree (lent t) ≡ true
+            → (writeDone (recordedOf (lent t) i (n) (v)) ≡ putOf (lent t) s name value)
+            × (other ≡ storeOf (lent t) s name value)
+        tree-changed t w =
+            let j = there t in
+            let d = ne-eqb (foundOf (lent t) s name .index) held (λ x. omega arith) in
+            let p = put-done (lent t) s name value (room (lent t) s name value (k .0) w b (fits t)) in (
+              ap (λ (x : ℕ). writeDone (recordedOf (lent t) x (n) (v))) (there t ∙ index-is (lent t) s name value) ∙ p .0,
+              rw (← named, k .4, e (atNode t active)) (rw d at (laid-is (lent t) s name value (k .3) roomy (k .0) (fits t))) ∙ p .1,
+            )
+
+        tally-changed : Tallied other names (set values i (v)) held (record { live = changed-live; zeros = changed-live })
+        tally-changed =
+            let live = tail .live in
+            let at = f .at + n in
+            let q = inside in
+            let kn = k .1 in
+            let kv = k .2 in
+            let kh = k .3 in
+            let e = k .4 in
+            let d = named in
+            let r = live-inside names values i (n) v (omega arith) (omega arith) held 0 (omega arith) (omega arith) in
+            let g = rw same-name at r in
+            let x : at + v + (live - (at + old)) ≡ changed-live = omega arith in
+            let size : length other ≡ 16384 = length-replaced s live at old value ∙ k .0 in (
+              size,
+              kn,
+              length-set values i v ∙ kv,
+              kh,
+              omega arith,
+              (
+                omega arith,
+                omega arith,
+                subst (λ (z : ℕ). Clean other z) x
+                    (clean-cleared (writtenOf (movedOf s (at + old) (at + v) (live - (at + old))) at value) (at + v + (live - (at + old)))),
+              ),
+            )
+
+        pub changed : Given (doneWith held changed-live) other owners names (set values i (v))
+        changed = (λ t w. let p = tree-changed t w in (ap writeDone (recorded-old t) ∙ p .0, p .1), tally-changed)
