@@ -5,8 +5,8 @@ change without crate promise.
     python3 tests/rests.py            the modules of crate screen that each module of crate promise names, and whether all of them may be
     python3 tests/rests.py --check    the same, printed only where one may not
 
-Three modules of crate promise join the theorem to what the code computes: Shown and Witness by the screen's verdict and that it keeps its
-promise, Table by computing. Demand 3 itself must not rest on any of those three.
+Four modules of crate promise join the theorem to what the code computes: Shown and Witness by the screen's verdict and that it keeps its
+promise, Table by computing, and PastLength by the listing, which is computed. Demand 3 itself must not rest on any of those four.
 """
 import pathlib
 import re
@@ -14,7 +14,12 @@ import sys
 
 CRATES = pathlib.Path(__file__).resolve().parent.parent / "crates"
 RULES = {"Effect", "Reach", "ReachLaws", "Rules", "Promise", "TokenFacts", "Ways", "InForce"}
-JOINTS = {"Shown": {"Screen", "Exactly"}, "Witness": {"Screen", "Exactly"}, "Table": {"Model", "Screen", "ScreenLaws"}}
+JOINTS = {
+    "Shown": {"Screen", "Exactly"},
+    "Witness": {"Screen", "Exactly"},
+    "Table": {"Model", "Screen", "ScreenLaws"},
+    "PastLength": {"Screen", "PastLaws"},
+}
 USED = re.compile(r"^use Rattle·(promise|screen)(?:·specs)?\.specs\.(\w+)", re.M)
 
 

@@ -25,5 +25,9 @@ pub mod Steps
 pub mod Running
 -- Demand 3 and what follows beside it, proved.
 pub mod Demand3
+-- Bytes past the length are ignored, proved.
+pub mod PastLength
+-- What C receives and with what a listing starts, proved.
+pub mod Received
 -- What the lamp shows, proved.
 pub mod Shown

@@ -10,5 +10,7 @@ pub mod Branch
 pub mod Sum
 -- The header of document 01:
 pub mod Header
+-- "Bytes past the length are ignored":
+pub mod Alike
 -- What is only proved: nothing here has to be believed.
 pub mod Laws

@@ -17,3 +17,5 @@ pub mod Seeking
 pub mod Done
 -- What a token leaves alone, by its family: how many program numbers there are, and how many records.
 pub mod Untouched
+-- "Bytes past the length are ignored": a step and a run are the same with two ROMs whose bytes are the same below the state's length.
+pub mod Past

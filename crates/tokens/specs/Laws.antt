@@ -15,3 +15,5 @@ pub mod Rules
 pub mod Name
 -- The definitions at work: antt computes each of these.
 pub mod Examples
+-- "Bytes past the length are ignored": a token is read alike from two ROMs whose bytes are the same below the length.
+pub mod Past

@@ -1,11 +1,11 @@
 -- What the lamp shows, proved. Assumes nothing.
 use Prim.Native.Nat.{ℕ, _≤_}
 use native.Mathlib.Omega.{arith}
-use mathlib.Core.Path.{_≡_, refl, ap, subst}
+use mathlib.Core.Path.{_≡_, refl, sym, ap, subst}
 use mathlib.Core.Bool.{not}
 use mathlib.Core.List.{List}
 use lib.ListN.{length}
-use lib.Dec.{eqb}
+use lib.Dec.{T, eqb}
 use borrow.Author.Tests.{eq-eqb}
 use Rattle.cells.specs.Laws.Tests.{pick-is}
 use Rattle.cells.specs.Laws.Facts.{neither, not-unequal}
@@ -82,10 +82,18 @@ module _ (rom marks work store : List ℕ) (budget : ℕ) (w : length work ≡ w
     closes = (closing (demand-3 .1 seen), counted seen .1)
 
   -- by the screen's verdict
-  shown-judged : (v : Verdict) (after text : List ℕ) → Promised rom marks v after
+  shown-judged : T (not (wrongBuffer marks work store)) → (v : Verdict) (after text : List ℕ) → Promised rom marks v after
       → ShownIn rom marks work store budget text (judgedAs v after rom work store budget text)
-  shown-judged (Refused n) after text p = (refusedLine n, refused-rom p, refl, refl)
-  shown-judged Passes after text p = let c = closes p in (runWords run, screen-pass p (c .1) (c .0), refl, refl)
+  shown-judged b (Refused n) after text p = (refusedLine n, refused-rom b p, refl, refl)
+  shown-judged b Passes after text p = let c = closes p in (runWords run, screen-pass b p (c .1) (c .0), refl, refl)
+
+-- the three buffers beside the text have their sizes
+pub right-buffers : (marks work store : List ℕ) → T (not (wrongBuffer marks work store))
+    → (length marks ≡ marksSize) × (length work ≡ workSize) × (length store ≡ storeSize)
+right-buffers marks work store b =
+    let c = neither (not (eqb (length marks) marksSize)) (wrongSize work store) b in
+    let d = neither (not (eqb (length work) workSize)) (not (eqb (length store) storeSize)) (c .1) in
+    (not-unequal (length marks) marksSize (c .0), not-unequal (length work) workSize (d .0), not-unequal (length store) storeSize (d .1))
 
 pub person-sees : PersonSees
 unfolding listOf
@@ -94,10 +102,9 @@ person-sees rom marks work store text budget e =
     (pick-is (ShownIn rom marks work store budget text) (wrongBuffer marks work store) _ _
     (λ b. (refusedLine 6, wrong-buffer b, refl, refl))
     (λ b.
-    let c = neither (not (eqb (length marks) marksSize)) (wrongSize work store) b .1 in
-    let d = neither (not (eqb (length work) workSize)) (not (eqb (length store) storeSize)) c in
-    shown-judged rom marks work store budget (not-unequal (length work) workSize (d .0)) (not-unequal (length store) storeSize (d .1)) (screenedOf rom marks .verdict)
-    (screenedOf rom marks .marks) text (promise-kept rom marks)))
+    let r = right-buffers marks work store b in
+    shown-judged rom marks work store budget (r .1) (r .2) b (screenedOf rom marks .verdict) (screenedOf rom marks .marks) text
+    (promise-kept rom marks)))
 
 -- no verdict but a pass has the number 0
 zero-passes : {rom before after : List ℕ} (v : Verdict) → Promised rom before v after → verdictNumber v ≡ 0 → v ≡ Passes
@@ -108,8 +115,6 @@ zero-passes (Refused n) (no-heights l h f) e = absurd (omega arith)
 
 pub host-sees : HostSees
 unfolding hostRunOf
-host-sees rom marks work store budget e w s =
-    let k = promise-kept rom marks in
-    let z = zero-passes (screenedOf rom marks .verdict) k e in
-    let p : Promised rom marks Passes (screenedOf rom marks .marks) = subst (λ v. Promised rom marks v (screenedOf rom marks .marks)) z k in
+host-sees rom marks after work store budget (v, e, k) w s =
+    let p : Promised rom marks Passes after = subst (λ v. Promised rom marks v after) (zero-passes v k (sym e)) k in
     rw (eq-eqb (length work) workSize w, eq-eqb (length store) storeSize s, passed p .header) (closes rom marks work store budget w s p)

@@ -1,0 +1,83 @@
+-- Bytes past the length are ignored, proved. Assumes nothing.
+use Prim.Native.Nat.{ℕ, _≤_}
+use native.Mathlib.Omega.{arith}
+use mathlib.Core.Path.{_≡_, refl, ap, _∙_}
+use mathlib.Core.List.{List}
+use lib.Dec.{eqb}
+use Rattle.cells.specs.Choice.{pick}
+use Rattle.cells.specs.Laws.Tests.{when-is}
+use Rattle.rom.specs.Header.{lengthOf}
+use Rattle.rom.specs.Alike.{Alike}
+use Rattle.rom.specs.Laws.Past.{alike-below, same-header}
+use Rattle.state.specs.Scene.{Turn}
+use Rattle.state.specs.Open.{openRefusal, openOf}
+use Rattle.state.specs.Run.{RunResult}
+use Rattle.state.specs.Laws.Past.{same-open-refusal, same-open, same-step, same-run}
+use Rattle.screen.specs.Laws.Found.Screen.{Screened, screenedOf}
+use Rattle.screen.specs.Laws.Rules.Past.{heights-there, same-heights, same-screen, same-screened}
+use Rattle.screen.specs.declared.screening.Verdict.{Verdict}
+use Rattle.screen.specs.declared.screening.Verdict.the-variants.{Passes, Refused}
+use Rattle.lines.specs.Lines.{refusedLine}
+use Rattle.lines.specs.Told.{wrongText}
+use Rattle.listing.specs.Listing.{listedWith, listedAs, wrongBuffer, startedOf, ranAs, judgedAs, listOf}
+use Rattle.host.specs.Host.{hostRun, hostRan, hostRunOf}
+use Rattle.promise.specs.PastLength.{Opens, Heights, Screens, Steps, Runs, Handed, PastLength}
+
+opens : Opens
+opens rom other a = (same-header a, same-open a)
+
+heights : Heights
+heights rom other a h = let s = same-heights a h in (heights-there a h, s .0, s .1, s .2)
+
+screens : Screens
+screens rom other before after after′ v v′ a p q = same-screen a p q
+
+steps : Steps
+steps rom other work store st a = same-step rom other work store st a
+
+runs : Runs
+runs rom other work store st a budget = same-run budget 0 rom other work store st a
+
+-- a length that is not above the header's: of what opening hands back, the program length, or 0 where it was refused
+opened-length : (rom work store : List ℕ) → openOf rom work store .state .length ≤ lengthOf rom
+unfolding openOf
+opened-length rom work store =
+    when-is (λ (r : Turn). r .state .length ≤ lengthOf rom) (eqb (openRefusal rom work store) 0) _ _ (λ t. omega arith) (λ t. omega arith)
+
+module _ {rom other : List ℕ} (a : Alike rom other) (work store : List ℕ) (budget : ℕ) where
+  -- the run from opening on
+  same-started : startedOf rom (openOf rom work store) budget ≡ startedOf other (openOf other work store) budget
+  same-started =
+      let o = openOf rom work store in
+      same-run budget 0 rom other (o .work) (o .store) (o .state) (alike-below (opened-length rom work store) (a .program))
+      ∙ ap (λ (r : Turn). startedOf other r budget) (same-open a work store)
+
+  same-host : hostRunOf rom work store budget ≡ hostRunOf other work store budget
+  unfolding hostRunOf
+  same-host =
+      λ i.
+      pick (eqb (same-open-refusal a work store i) 0) (hostRan (same-started i)) (hostRun (same-open-refusal a work store i) 0 work store)
+
+  same-judged : (v : Verdict) (after text : List ℕ)
+      → judgedAs v after rom work store budget text ≡ judgedAs v after other work store budget text
+  same-judged Passes after text = ap (λ (o : RunResult). ranAs after o text) same-started
+  same-judged (Refused why) after text = refl
+
+  same-listing : (marks text : List ℕ) → listOf rom marks work store budget text ≡ listOf other marks work store budget text
+  unfolding listOf
+  same-listing marks text =
+      λ i.
+      pick (wrongText text) (listedWith 0 marks work store text)
+      (pick (wrongBuffer marks work store) (listedAs (refusedLine 6) marks work store text) (by i))
+    where
+      by : judgedAs (screenedOf rom marks .verdict) (screenedOf rom marks .marks) rom work store budget text
+          ≡ judgedAs (screenedOf other marks .verdict) (screenedOf other marks .marks) other work store budget text
+      by =
+          same-judged (screenedOf rom marks .verdict) (screenedOf rom marks .marks) text
+          ∙ ap (λ (r : Screened). judgedAs (r .verdict) (r .marks) other work store budget text) (same-screened a marks)
+
+handed : Handed
+handed rom other marks work store text budget a = (same-host a work store budget, same-listing a work store budget marks text)
+
+pub past-length : PastLength
+past-length = (opens, heights, screens, steps, runs, handed)
