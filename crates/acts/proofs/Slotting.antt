@@ -13,7 +13,7 @@ use Rattle.tokens.specs.Family.{assign, call}
 use Rattle.tokens.specs.Body.{numberIn}
 use Rattle.tokens.specs.declared.decoding.Operand.{Operand}
 use Rattle.state.specs.Numbers.{seekOf, isHeld, kindOfByte, kindAt, kindHeld, kindsFrom, definedOf}
-use Rattle.state.specs.Laws.Seeking.{slotsOf, slot-none, slot-some, tablePast, table-defined, kinds-all, putKind}
+use Rattle.state.specs.Laws.Seeking.{slot-none, slot-some, table-defined, kinds-all, putKind}
 use Rattle.state.specs.Joints.Moves.{stepped}
 use Rattle.state.specs.declared.state.State.{State}
 use Rattle.state.specs.declared.state.Numbers.{Numbers}
@@ -22,6 +22,7 @@ use Rattle.state.specs.declared.answer.Stepped.{Stepped}
 use Rattle.state.specs.Joints.Apart.{numbersOn}
 use Rattle.acts.specs.Joints.Acts.{QuietOf, QuietBy, Tabled, Tables, slotIn}
 use Rattle.acts.proofs.Defining.{enter-outside, enter-none, assign-outside, assign-none}
+use Rattle.state.specs.Joints.Tables.{slotsOf, tablePast}
 
 module _ (slots : List ℕ) (ns : Numbers) (n slot : ℕ) (e : slots ≡ slotsOf ns) (f : slot ≡ slotIn slots n) where
   -- it is no program's, or is not held

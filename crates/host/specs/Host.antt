@@ -8,8 +8,7 @@ use Rattle.cells.specs.Choice.{pick}
 use Rattle.state.specs.Scene.{answerNumber}
 use Rattle.state.specs.Open.{openRefusal, openOf}
 use Rattle.state.specs.Run.{RunResult}
-use Rattle.screen.specs.Laws.Found.Screen.{verdictNumber}
-use Rattle.screen.specs.Promise.{Promised}
+use Rattle.screen.specs.Promise.{Promised, verdictNumber}
 use Rattle.screen.specs.declared.screening.Verdict.{Verdict}
 use Rattle.listing.specs.Listing.{startedOf}
 

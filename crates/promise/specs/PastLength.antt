@@ -2,8 +2,8 @@
 --
 -- In plain words. Two ROMs have the same header and the same bytes up to the program length that it tells. What lies past that may
 -- differ, and how much of it there is; but both have a ROM's size and neither is shorter than its program, since refusals 1 and 4 tell
--- of the ROM as it is lent. Then the header test and opening hand back the same (`Opens`). Heights of the one are heights of the other
--- (`Heights`), and whatever `screen` answers for the one, with the marks that it leaves, is what it answers and leaves for the other
+-- of the ROM as it is lent. Then the header test and opening hand back the same (`OpensAlike`). Heights of the one are heights of the other
+-- (`HeightsAlike`), and whatever `screen` answers for the one, with the marks that it leaves, is what it answers and leaves for the other
 -- (`Screens`). A step, and a run with any budget, of any state and with any work memory and store, hand back the same and leave the
 -- same (`Steps`, `Runs`). For these two the length is the state's own, which may be another than the header's: the ROMs are the same
 -- up to that, and what their headers tell is not asked. So C is handed the same by `fcode_run`, and a person reads the same listing
@@ -29,13 +29,13 @@ use Rattle.listing.specs.Listing.{listOf}
 use Rattle.host.specs.Host.{hostRunOf}
 
 -- the header test, and opening
-abbrev pub Opens : Type 0
-Opens = (rom other : List ℕ) → Alike rom other
+abbrev pub OpensAlike : Type 0
+OpensAlike = (rom other : List ℕ) → Alike rom other
     → (headerOf rom ≡ headerOf other) × ((work store : List ℕ) → openOf rom work store ≡ openOf other work store)
 
 -- what an assignment of heights says
-abbrev pub Heights : Type 0
-Heights = (rom other : List ℕ) → Alike rom other → (h : Assignment rom)
+abbrev pub HeightsAlike : Type 0
+HeightsAlike = (rom other : List ℕ) → Alike rom other → (h : Assignment rom)
     → (k : Assignment other) × (k .height ≡ h .height) × (k .back ≡ h .back) × (k .sum ≡ h .sum)
 
 -- whatever `screen(rom, marks)` answers for the two, with the same mark buffer
@@ -60,4 +60,4 @@ Handed = (rom other marks work store text : List ℕ) (budget : ℕ) → Alike r
 
 -- The theorem.
 abbrev pub PastLength : Type 0
-PastLength = Opens × Heights × Screens × Steps × Runs × Handed
+PastLength = OpensAlike × HeightsAlike × Screens × Steps × Runs × Handed

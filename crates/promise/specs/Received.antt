@@ -42,13 +42,13 @@ Listable rom marks work store =
     (length marks ≡ marksSize) × (length work ≡ workSize) × (length store ≡ storeSize) × (headerOf rom ≡ 0) × Assignment rom
 
 -- `fcode_list(rom, marks, work, store, budget, text)` wrote these words: the contract in host/src/lib.rt
-abbrev pub Judged : List ℕ → List ℕ → List ℕ → List ℕ → List ℕ → Type 0
-Judged rom marks work store words =
+abbrev pub FirstLineIs : List ℕ → List ℕ → List ℕ → List ℕ → List ℕ → Type 0
+FirstLineIs rom marks work store words =
     (StartsWith passLine words ↔ Listable rom marks work store) × (StartsWith passLine words ⊎ ((n : ℕ) × (words ≡ refusedLine n)))
 
 abbrev pub FirstLine : Type 0
 FirstLine = (rom marks work store text : List ℕ) (budget : ℕ) → length text ≡ textSize
-    → Judged rom marks work store (written (listOf rom marks work store budget text))
+    → FirstLineIs rom marks work store (written (listOf rom marks work store budget text))
 
 -- The theorem.
 abbrev pub Received : Type 0

@@ -7,8 +7,9 @@ use Rattle.tokens.specs.Row.{Seen}
 use Rattle.tokens.specs.Table.{ends, lows, highs, doubles, table, rowOf}
 use Rattle.tokens.specs.Code.{codeOf}
 use Rattle.state.specs.Stacks.{reckonedOf}
-use Rattle.tokens.specs.Laws.Rows.{among, coded}
+use Rattle.tokens.specs.Laws.Rows.{coded}
 use Rattle.reckon.specs.Joints.Reckoned.{Like, OfNone, OfOne, OfTwo, OfThree}
+use Rattle.cells.specs.Choice.{among}
 
 module _ (k : ℕ) where
   pub none-by : {n h r : ℕ} (f : ℕ → ℕ) → ((s : Seen) → reckonedOf (rowOf k .results) s ≡ f (s .height) ∷ []) → n ≡ k → r ≡ f h → OfNone n h r

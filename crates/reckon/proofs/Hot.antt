@@ -7,7 +7,7 @@ use mathlib.Core.List.{List, [], _∷_}
 use native.Mathlib.Omega.{arith}
 use borrow.Author.Tests.{eqb-true, leb-true, lt-ltb}
 use lib.Dec.{T, ltb, leb, eqb, eqb→eq}
-use Rattle.cells.specs.Choice.{pick}
+use Rattle.cells.specs.Choice.{pick, among}
 use Rattle.cells.specs.Laws.Tests.{pick-is, tests}
 use Rattle.cells.specs.Laws.Facts.{is-false, holds, both-hold, follows, never-true}
 use Rattle.rom.specs.Bytes.{byteOf}
@@ -21,7 +21,7 @@ use Rattle.tokens.specs.declared.decoding.Operand.{Operand}
 use Rattle.tokens.specs.declared.decoding.Decoded.the-variants.{Cut, Whole}
 use Rattle.tokens.specs.declared.read.Read.{Read}
 use Rattle.tokens.specs.declared.read.Read.the-variants.{Refused as Unread, Good}
-use Rattle.tokens.specs.Laws.Rows.{rows-pass, among, Beside, none-left}
+use Rattle.tokens.specs.Laws.Rows.{rows-pass, Beside, none-left}
 use Rattle.state.specs.State.{isOpen}
 use Rattle.state.specs.Scene.{Scene, refuse}
 use Rattle.state.specs.Step.{readTurn, doneOf, tokenTurn}

@@ -6,7 +6,7 @@ use mathlib.Core.List.{List, [], _∷_}
 use native.Mathlib.Omega.{arith}
 use borrow.Author.Tests.{lt-ltb, le-ltb, eq-eqb, ne-eqb, eqb-true, ltb-false}
 use lib.Dec.{T, ltb, eqb}
-use Rattle.cells.specs.Choice.{pick}
+use Rattle.cells.specs.Choice.{pick, among}
 use Rattle.rom.specs.Bytes.{word32Of}
 use Rattle.rom.specs.declared.branch.Aim.{Aim}
 use Rattle.rom.specs.declared.branch.Aim.the-variants.{Inside, Outside}
@@ -16,7 +16,7 @@ use Rattle.tokens.specs.Decode.{behindOf, operandOf}
 use Rattle.tokens.specs.Decode.{tokenOf as tokenMade}
 use Rattle.tokens.specs.declared.decoding.Operand.{Operand}
 use Rattle.tokens.specs.declared.decoding.Operand.the-variants.{Branch}
-use Rattle.tokens.specs.Laws.Rows.{among, plainCodes, plain-coded}
+use Rattle.tokens.specs.Laws.Rows.{plainCodes, plain-coded}
 use Rattle.state.specs.Stacks.{stacks, plainOf, backTrouble, pickedOf, rolledOf, doubledOf}
 use Rattle.state.specs.State.{stacksOf, moved, movedTo, baseOf}
 use Rattle.state.specs.Scene.{Scene, Turn, refuse, goes, cellOf}

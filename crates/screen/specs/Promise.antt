@@ -27,3 +27,8 @@ pub data Promised (rom before : List ℕ) : Verdict → List ℕ → Type 0 wher
   -- "31 | no height assignment exists"; "after 31 all zero"
   no-heights : length before ≡ marksSize → headerOf rom ≡ 0 → (Assignment rom → ⊥) → Promised rom before (Refused 31) (replicate marksSize 0)
   passes : {marks : List ℕ} → length before ≡ marksSize → headerOf rom ≡ 0 → (a : Assignment rom) → Marks rom a marks → Promised rom before Passes marks
+
+-- 0 for a ROM that passes
+abbrev pub verdictNumber : Verdict → ℕ
+verdictNumber Passes = 0
+verdictNumber (Refused why) = why

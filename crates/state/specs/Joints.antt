@@ -7,3 +7,5 @@ pub mod Apart
 pub mod Hot
 -- A token on the stacks alone, refused or carried out, as the code in place goes.
 pub mod Reckoning
+-- Tables by program number, one look-up each: what a number's entry holds, and where it stands.
+pub mod Tables

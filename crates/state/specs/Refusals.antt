@@ -66,15 +66,15 @@ abbrev pub low : Scene → Token → Bool
 low s t = ltb (s .state .stack .height) (takesHere t) || asked pickUp t reachesBelow s || asked rollUp t reachesBelow s
 
 -- ---- 19: "taken branch to outside 8..length-1"
-abbrev pub outside : Aim → Bool
-outside (Inside to) = false
-outside Outside = true
+abbrev pub outsideProgram : Aim → Bool
+outsideProgram (Inside to) = false
+outsideProgram Outside = true
 
 abbrev pub leadsOut : Operand → Bool
 leadsOut Nothing = false
 leadsOut (Literal n) = false
 leadsOut (Text start count) = false
-leadsOut (Branch bits aim) = outside aim
+leadsOut (Branch bits aim) = outsideProgram aim
 leadsOut (Number n) = false
 leadsOut (Definition n k) = false
 

@@ -6,7 +6,7 @@ use mathlib.Core.List.{List}
 use native.Mathlib.Omega.{arith}
 use borrow.Author.Tests.{eq-eqb, ne-eqb, leb-true}
 use lib.Dec.{T, eqb, ltb, leb, eqb→eq, ltb→lt}
-use Rattle.cells.specs.Choice.{pick}
+use Rattle.cells.specs.Choice.{pick, among}
 use Rattle.cells.specs.Laws.Tests.{neqb→ne}
 use Rattle.cells.specs.Laws.Facts.{holds, fails, both-hold, and-first, and-second, four-hold, is-false}
 use Rattle.rom.specs.Bytes.{byteOf}
@@ -17,7 +17,7 @@ use Rattle.tokens.specs.Code.{packed, codeOf, familyIn, formIn}
 use Rattle.tokens.specs.Decode.{isDouble, numberOf, behindNumber, behindString, behindOf}
 use Rattle.tokens.specs.Place.{misplacedOf}
 use Rattle.tokens.specs.Body.{kindOf}
-use Rattle.tokens.specs.Laws.Rows.{found, among, Beside, none-left}
+use Rattle.tokens.specs.Laws.Rows.{found, Beside, none-left}
 use Rattle.tokens.specs.Laws.Glance.{double-plain}
 use Rattle.tokens.proofs.Codes.{listed, a-program}
 use Rattle.tokens.proofs.Ranges.{bounds}

@@ -28,7 +28,6 @@ use Rattle.tree.specs.Joints.Apart.{Tallied}
 use Rattle.tree.specs.Whole.{wholeTree}
 use Rattle.state.specs.State.{moved, movedTo, withNumbers, withWork, withTree}
 use Rattle.state.specs.Numbers.{isHeld, kindsOf, definedOf}
-use Rattle.state.specs.Laws.Seeking.{slotsOf}
 use Rattle.tokens.specs.Definition.{colon, constant, value, variable}
 use Rattle.state.specs.Scene.{scene, turn, handedBack}
 use Rattle.state.specs.Effects.{gave}
@@ -36,6 +35,7 @@ use Rattle.state.specs.Joints.Moves.{stepped}
 use Rattle.state.specs.Joints.Apart.{numbersOn, Arrays, joined, backOn, handed, answerOf, onStack, onCalls, onNumbers, onNodes, onRecords, Moves}
 use Rattle.state.specs.Step.{readyOf, doneOf}
 use Rattle.state.specs.Step.{tokenTurn as turnOf}
+use Rattle.state.specs.Joints.Tables.{slotsOf}
 use Rattle.state.specs.declared.state.State.{State}
 use Rattle.state.specs.declared.state.Numbers.{Numbers}
 use Rattle.state.specs.declared.answer.Answer.the-variants.{Going, Refused}

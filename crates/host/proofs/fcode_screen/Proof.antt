@@ -1,7 +1,7 @@
 use mathlib.Core.Path.{ap, sym}
 use borrow.Author.Needs.{needs}
-use Rattle.screen.specs.Laws.Found.Screen.{verdictNumber}
 use Rattle.host.proofs.fcode_screen.Statement.{statement}
+use Rattle.screen.specs.Promise.{verdictNumber}
 use Rattle.host.proofs.fcode_screen.Tie as tie
 use Rattle.host.proofs.fcode_screen.Reads as reads
 use Rattle.host.proofs.fcode_screen.Lts as lts

@@ -2,9 +2,9 @@
 use Prim.Native.Nat.{ℕ}
 use mathlib.Core.Path.{_≡_, sym, ap, _∙_}
 use mathlib.Core.List.{List}
-use Rattle.screen.specs.Laws.Found.Screen.{verdictNumber}
 use Rattle.screen.specs.Laws.Exact.Exactly.{one-result}
 use Rattle.host.specs.Host.{HostScreened}
+use Rattle.screen.specs.Promise.{verdictNumber}
 
 pub one-screened : {rom before after after′ : List ℕ} {number number′ : ℕ} → HostScreened rom before number after
     → HostScreened rom before number′ after′ → (number ≡ number′) × (after ≡ after′)

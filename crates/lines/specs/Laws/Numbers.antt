@@ -16,31 +16,31 @@ use Rattle.rom.specs.Words.{lettersOf}
 use Rattle.lines.specs.Numbers.{Numbers, opening, naming, moving, running, other, numbers, wordsOf, hasWords}
 
 -- every entry of a table passes a test of its number and its words
-abbrev pub every : (ℕ → String → Bool) → Numbers → Bool
-every f [] = true
-every f (x ∷ xs) = f (x .0) (x .1) && every f xs
+abbrev pub everyEntry : (ℕ → String → Bool) → Numbers → Bool
+everyEntry f [] = true
+everyEntry f (x ∷ xs) = f (x .0) (x .1) && everyEntry f xs
 
 -- and so does what is found in it, where what is given for none does
-pub found : (f : ℕ → String → Bool) (t : Numbers) (d : String) (n : ℕ) → T (every f t) → T (f n d) → T (f n (find t d n))
+pub found : (f : ℕ → String → Bool) (t : Numbers) (d : String) (n : ℕ) → T (everyEntry f t) → T (f n d) → T (f n (find t d n))
 found f [] d n h q = q
 found f (x ∷ xs) d n h q =
-    let b = both-hold (f (x .0) (x .1)) (every f xs) h in
+    let b = both-hold (f (x .0) (x .1)) (everyEntry f xs) h in
     pick-is (λ w. T (f n w)) (eqb n (x .0)) (x .1) (find xs d n) (λ t. rw (eqb→eq n (x .0) t) (b .0)) (λ t. found f xs d n (b .1) q)
 
 -- a number that fails a test of all of a table's numbers is not in it
-outside : (f : ℕ → Bool) (t : Numbers) (d : String) (n : ℕ) → T (every (λ k w. f k) t) → (T (f n) → ⊥) → find t d n ≡ d
+outside : (f : ℕ → Bool) (t : Numbers) (d : String) (n : ℕ) → T (everyEntry (λ k w. f k) t) → (T (f n) → ⊥) → find t d n ≡ d
 outside f [] d n h q = refl
 outside f (x ∷ xs) d n h q =
-    let b = both-hold (f (x .0)) (every (λ k w. f k) xs) h in
+    let b = both-hold (f (x .0)) (everyEntry (λ k w. f k) xs) h in
     pick-is (λ w. w ≡ d) (eqb n (x .0)) (x .1) (find xs d n)
     (λ t. absurd (q (rw (eqb→eq n (x .0) t) (b .0))))
     (λ t. outside f xs d n (b .1) q)
 
 -- so one below all of them, and one above
-below : (m n : ℕ) (t : Numbers) (d : String) → T (every (λ k w. leb m k) t) → n < m → find t d n ≡ d
+below : (m n : ℕ) (t : Numbers) (d : String) → T (everyEntry (λ k w. leb m k) t) → n < m → find t d n ≡ d
 below m n t d h l = outside (λ k. leb m k) t d n h (λ u. omega (arith, leb→le m n u))
 
-above : (m n : ℕ) (t : Numbers) (d : String) → T (every (λ k w. ltb k m) t) → m ≤ n → find t d n ≡ d
+above : (m n : ℕ) (t : Numbers) (d : String) → T (everyEntry (λ k w. ltb k m) t) → m ≤ n → find t d n ≡ d
 above m n t d h l = outside (λ k. ltb k m) t d n h (λ u. omega (arith, ltb→lt n m u))
 
 -- the table is looked up part by part

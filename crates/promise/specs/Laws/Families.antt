@@ -25,15 +25,15 @@ use Rattle.state.specs.Laws.Keeps.Tests.{EachAt}
 use Rattle.screen.specs.Laws.Rules.Tokens.{stands, either}
 
 -- ---- an entry of a table that has the number
-abbrev pub amongFamilies : {A : Type 0} → ℕ → List (ℕ × A) → Bool
-amongFamilies n [] = false
-amongFamilies n (x ∷ xs) = eqb n (x .0) || amongFamilies n xs
+abbrev pub hasEntry : {A : Type 0} → ℕ → List (ℕ × A) → Bool
+hasEntry n [] = false
+hasEntry n (x ∷ xs) = eqb n (x .0) || hasEntry n xs
 
-pub find-in : {A : Type 0} (Q : A → Type 0) (t : List (ℕ × A)) (d : A) (n : ℕ) → EachAt Q n t → T (amongFamilies n t) → Q (find t d n)
+pub find-in : {A : Type 0} (Q : A → Type 0) (t : List (ℕ × A)) (d : A) (n : ℕ) → EachAt Q n t → T (hasEntry n t) → Q (find t d n)
 find-in Q [] d n e h = absurd h
 find-in Q (x ∷ xs) d n e h = by (eqb n (x .0)) refl h (λ i. find-in Q xs d n (e .1) i)
   where
-    by : (b : Bool) → eqb n (x .0) ≡ b → T (b || amongFamilies n xs) → (T (amongFamilies n xs) → Q (find xs d n)) → Q (pick b (x .1) (find xs d n))
+    by : (b : Bool) → eqb n (x .0) ≡ b → T (b || hasEntry n xs) → (T (hasEntry n xs) → Q (find xs d n)) → Q (pick b (x .1) (find xs d n))
     by true k i r = e .0 (eqb-true n (x .0) k)
     by false k i r = r i
 
@@ -65,7 +65,7 @@ module _ (rom : List ℕ) (len : ℕ) (wide within : Bool) (p : ℕ) where
 
 -- ---- what is in the list and not out of place everywhere has such a family
 abbrev knownFits : ℕ → Bool
-knownFits c = eqb c 0 || (eqb (outOfPlaceIn c) everywhere || amongFamilies (familyIn c) effects)
+knownFits c = eqb c 0 || (eqb (outOfPlaceIn c) everywhere || hasEntry (familyIn c) effects)
 
 known-fit : (n : ℕ) → T (knownFits (codeOf n))
 unfolding table ends lows highs doubles effects
@@ -76,13 +76,13 @@ unfolding misplacedOf
 always-out c within e h = rw e at h
 
 pub family-known : (rom : List ℕ) (len : ℕ) (wide within : Bool) (p : ℕ) (t : Token) → readOf rom len wide within p ≡ Good t
-    → T (amongFamilies (familyIn (t .code)) effects)
+    → T (hasEntry (familyIn (t .code)) effects)
 family-known rom len wide within p t e =
     let s = stands rom len wide within p t e in
     let k : T (knownFits (t .code)) = rw (s .code) (known-fit (t .number)) in
     let n = subst (ListedAs rom len wide within p) e (read-listed rom len wide within p) in
-    let X = T (amongFamilies (familyIn (t .code)) effects) in
-    either (eqb (t .code) 0) (eqb (outOfPlaceIn (t .code)) everywhere || amongFamilies (familyIn (t .code)) effects) X k
+    let X = T (hasEntry (familyIn (t .code)) effects) in
+    either (eqb (t .code) 0) (eqb (outOfPlaceIn (t .code)) everywhere || hasEntry (familyIn (t .code)) effects) X k
     (λ z. absurd (T-not (eqb (t .code) 0) n z))
-    (λ r. either (eqb (outOfPlaceIn (t .code)) everywhere) (amongFamilies (familyIn (t .code)) effects) X r
+    (λ r. either (eqb (outOfPlaceIn (t .code)) everywhere) (hasEntry (familyIn (t .code)) effects) X r
     (λ z. absurd (always-out (t .code) within (eqb-true _ _ (is-true _ z)) (s .placed))) (λ z. z))

@@ -21,12 +21,12 @@ use Rattle.lines.specs.Lines.{refusedLine}
 use Rattle.lines.specs.Told.{wrongText}
 use Rattle.listing.specs.Listing.{listedWith, listedAs, wrongBuffer, startedOf, ranAs, judgedAs, listOf}
 use Rattle.host.specs.Host.{hostRun, hostRan, hostRunOf}
-use Rattle.promise.specs.PastLength.{Opens, Heights, Screens, Steps, Runs, Handed, PastLength}
+use Rattle.promise.specs.PastLength.{OpensAlike, HeightsAlike, Screens, Steps, Runs, Handed, PastLength}
 
-opens : Opens
+opens : OpensAlike
 opens rom other a = (same-header a, same-open a)
 
-heights : Heights
+heights : HeightsAlike
 heights rom other a h = let s = same-heights a h in (heights-there a h, s .0, s .1, s .2)
 
 screens : Screens

@@ -21,7 +21,7 @@ use Rattle.lines.specs.Lines.{refusedLine, passLine, runText}
 use Rattle.listing.specs.Listing.{wrongBuffer, runWords, listOf}
 use Rattle.promise.specs.Shown.{runHere, Shown, wrong-buffer, refused-rom, screen-pass}
 use Rattle.promise.specs.Laws.Shown.{right-buffers, person-sees}
-use Rattle.promise.specs.Received.{Zero, ThirtyOne, written, StartsWith, Listable, Judged, FirstLine, Received}
+use Rattle.promise.specs.Received.{Zero, ThirtyOne, written, StartsWith, Listable, FirstLineIs, FirstLine, Received}
 
 -- the numbers of the header are none of the screen's own
 few : (a b c d e : Bool) → pick a 1 (pick b 2 (pick c 3 (pick d 4 (pick e 5 0)))) ≤ 5
@@ -62,10 +62,10 @@ run-passes o = (_, refl)
 
 -- by what a person sees
 module _ (rom marks work store : List ℕ) where
-  refused-judged : (n : ℕ) → (Listable rom marks work store → ⊥) → Judged rom marks work store (refusedLine n)
+  refused-judged : (n : ℕ) → (Listable rom marks work store → ⊥) → FirstLineIs rom marks work store (refusedLine n)
   refused-judged n f = ((λ s. absurd (never-passes n s), λ k. absurd (f k)), inr (n, refl))
 
-  shown-judged : (budget : ℕ) {words : List ℕ} → Shown rom marks work store budget words → Judged rom marks work store words
+  shown-judged : (budget : ℕ) {words : List ℕ} → Shown rom marks work store budget words → FirstLineIs rom marks work store words
   shown-judged budget (wrong-buffer t) = refused-judged 6 (λ k. subst T (sized k) t)
     where
       sized : Listable rom marks work store → wrongBuffer marks work store ≡ false

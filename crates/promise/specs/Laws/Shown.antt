@@ -17,8 +17,8 @@ use Rattle.state.specs.Run.{RunResult, ranOf}
 use Rattle.state.specs.Joints.Moves.{stepped}
 use Rattle.state.specs.Laws.Keeps.Open.{open-good}
 use Rattle.state.specs.declared.answer.Answer.{Answer}
-use Rattle.screen.specs.Laws.Found.Screen.{screenedOf, verdictNumber}
-use Rattle.screen.specs.Promise.{Promised, wrong-size, bad-header, no-heights}
+use Rattle.screen.specs.Laws.Found.Screen.{screenedOf}
+use Rattle.screen.specs.Promise.{Promised, wrong-size, bad-header, no-heights, verdictNumber}
 use Rattle.screen.specs.Laws.Exact.Exactly.{promise-kept}
 use Rattle.screen.specs.declared.screening.Verdict.{Verdict}
 use Rattle.screen.specs.declared.screening.Verdict.the-variants.{Passes, Refused}

@@ -6,7 +6,7 @@ use mathlib.Core.List.{List, [], _∷_}
 use Rattle.tokens.specs.Family.{plain, always, choice, divide, pickUp, rollUp, maybe}
 use Rattle.tokens.specs.Code.{codeOf, familyIn}
 use Rattle.tokens.specs.Decode.{numberOf}
-use Rattle.tokens.specs.Laws.Rows.{among}
+use Rattle.cells.specs.Choice.{among}
 
 -- the families whose tokens are done in place
 abbrev pub hotFamilies : List ℕ

@@ -14,6 +14,7 @@ use Rattle.cells.specs.Choice.{pick}
 use Rattle.cells.specs.Laws.Facts.{and-first, and-second, when-true, when-false}
 use Rattle.tokens.specs.Table.{isProgram}
 use Rattle.state.specs.Numbers.{seekFrom, seekOf, isHeld, kindAt, kindHeld, kindsFrom, kindsOf, definedOf}
+use Rattle.state.specs.Joints.Tables.{tableFrom, holdsFrom, tablePast, slotsOf}
 use Rattle.state.specs.declared.state.Numbers.{Numbers}
 
 -- for the code's own steps: a kind put down among those of all program numbers
@@ -43,11 +44,6 @@ sought names n k i h l =
 pub program-bounds : (n : ℕ) → isProgram n ≡ true → (0x800 ≤ n) × (n ≤ 0xFFF)
 program-bounds n e = (leb-true 0x800 n (and-first (leb 0x800 n) (leb n 0xFFF) e), leb-true n 0xFFF (and-second (leb 0x800 n) (leb n 0xFFF) e))
 
--- ---- the kinds, as a function of the number listed from n on
-unfoldable pub tableFrom : ℕ → ℕ → (ℕ → ℕ) → List ℕ
-tableFrom zero n f = []
-tableFrom (suc k) n f = f n ∷ tableFrom k (n + 1) f
-
 same-listed : (k n : ℕ) (f g : ℕ → ℕ) → ((m : ℕ) → n ≤ m → m < n + k → f m ≡ g m) → tableFrom k n f ≡ tableFrom k n g
 unfolding tableFrom
 same-listed zero n f g e = refl
@@ -75,13 +71,6 @@ zeros-listed : (k n : ℕ) → replicate k 0 ≡ tableFrom k n (λ m. 0)
 unfolding tableFrom
 zeros-listed zero n = refl
 zeros-listed (suc k) n = ap (λ (l : List ℕ). 0 ∷ l) (zeros-listed k (n + 1))
-
--- ---- tables by program number: of each, what f says of the oldest entry from i on that has it, 0 where none has
-abbrev holdsFrom : (ℕ → ℕ) → Numbers → ℕ → ℕ → ℕ
-holdsFrom f ns i n = pick (ltb (seekFrom (ns .names) n (ns .count - i) i) (ns .count)) (f (seekFrom (ns .names) n (ns .count - i) i)) 0
-
-abbrev pub tablePast : (ℕ → ℕ) → Numbers → ℕ → List ℕ
-tablePast f ns i = tableFrom 2048 0x800 (holdsFrom f ns i)
 
 none-held : (f : ℕ → ℕ) (ns : Numbers) (n : ℕ) → holdsFrom f ns (ns .count) n ≡ 0
 none-held f ns n = rw (sought (ns .names) n (ns .count) (ns .count) (omega arith) (omega arith), le-ltb (ns .count) (ns .count) (omega arith))
@@ -196,13 +185,6 @@ held-all ns n = simp sub-zero
 
 pub kinds-all : (ns : Numbers) → tablePast (kindAt ns) ns 0 ≡ kindsOf ns
 kinds-all ns = same-listed 2048 0x800 (holdsFrom (kindAt ns) ns 0) (kindHeld ns) (λ m l h. held-all ns m) ∙ kinds-listed ns 2048 0x800
-
--- ---- where each number stands, one more than that, and 0 where it is not held
-abbrev pub slotsPast : Numbers → ℕ → List ℕ
-slotsPast ns i = tablePast (λ j. j + 1) ns i
-
-abbrev pub slotsOf : Numbers → List ℕ
-slotsOf ns = slotsPast ns 0
 
 module _ (ns : Numbers) (n : ℕ) (p : isProgram n ≡ true) where
   slot-got : getD (slotsOf ns) (n - 0x800) 0 ≡ pick (isHeld ns n) (seekOf ns n + 1) 0

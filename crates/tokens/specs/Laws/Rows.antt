@@ -6,7 +6,7 @@ use mathlib.Core.List.{List, [], _∷_}
 use lib.ListN.{length}
 use lib.Dec.{T, eqb, eqb-refl, eqb→eq}
 use borrow.Author.Tests.{ne-eqb}
-use Rattle.cells.specs.Choice.{find}
+use Rattle.cells.specs.Choice.{find, among}
 use Rattle.cells.specs.Laws.Tests.{pick-is}
 use Rattle.cells.specs.Laws.Facts.{both-hold, follows}
 use Rattle.tokens.specs.Family.{plain}
@@ -35,10 +35,6 @@ unfolding codeOf
 code-fact f h p u n = rows-pass (λ m r. f (packed r)) h (λ m. p) (λ m. u) n
 
 -- ---- the numbers that have a code
-abbrev pub among : ℕ → List ℕ → Bool
-among n [] = false
-among n (k ∷ ks) = eqb n k || among n ks
-
 abbrev pub hasCode : ℕ → List ℕ → ℕ → Row → Bool
 hasCode k ks n r = not (eqb (packed r) k) || among n ks
 

@@ -2,7 +2,7 @@ use Prim.Native.Nat.{ℕ, _≤_, _-_, _+_}
 use Rattle.state.specs.Joints.Apart.{numbersOn}
 use Rattle.acts.specs.Joints.Acts.{Tabled}
 use Rattle.state.specs.Numbers.{kindAt}
-use Rattle.state.specs.Laws.Seeking.{slotsPast, tablePast, table-none, table-down, kinds-all}
+use Rattle.state.specs.Laws.Seeking.{table-none, table-down, kinds-all}
 use Rattle.state.specs.declared.state.Numbers.{Numbers}
 use denote.Ref.{now}
 use mathlib.Core.Bool.{Bool}
@@ -11,6 +11,7 @@ use mathlib.Core.Path.{_≡_, refl, _∙_, ap, subst}
 use native.Mathlib.Omega.{arith}
 use borrow.Author.Needs.{needs}
 use Rattle.acts.proofs.tables.fill_tables.Statement.{statement}
+use Rattle.state.specs.Joints.Tables.{slotsPast, tablePast}
 use Rattle.acts.proofs.tables.fill_tables.Tie as tie
 
 abbrev Past : List ℕ → List ℕ → Numbers → ℕ → Type 0

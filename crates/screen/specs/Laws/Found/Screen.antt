@@ -19,11 +19,6 @@ pub record Screened : Type 0 where
 abbrev pub screened : Verdict → List ℕ → Screened
 screened verdict marks = record { verdict = verdict; marks = marks }
 
--- 0 for a ROM that passes
-abbrev pub verdictNumber : Verdict → ℕ
-verdictNumber Passes = 0
-verdictNumber (Refused why) = why
-
 -- of a ROM with a good header: the marks where it passes, and all zero where it does not
 abbrev pub verdictOn : List ℕ → Option (List ℕ) → Screened
 verdictOn marks none = screened (Refused 31) (replicate (length marks) 0)

@@ -31,7 +31,7 @@ use Rattle.tokens.specs.declared.read.Read.{Read}
 use Rattle.tokens.specs.declared.read.Read.the-variants.{Refused as Unread, Good}
 use Rattle.tokens.specs.declared.body.Body.{Body}
 use Rattle.tokens.specs.Definition.{newNumber}
-use Rattle.state.specs.Refusals.{outside, leadsOut}
+use Rattle.state.specs.Refusals.{outsideProgram, leadsOut}
 use Rattle.state.specs.Effects.{aimed, behindBody}
 use Rattle.state.specs.Laws.Keeps.Whole.{Place}
 
@@ -163,7 +163,7 @@ module _ (c n f : ℕ) (e : c ≡ codeOf n) (k : familyIn c ≡ f) where
       eqb→eq (outOfPlaceIn c) outsideBodies (first-way (eqb f leave) _ true v (rw k at h))
 
 -- ---- where a branch that does not lead out leads
-fit : (size : ℕ) (a : Aim) → AimFits size a → T (not (outside a)) → Place size (placeIn a)
+fit : (size : ℕ) (a : Aim) → AimFits size a → T (not (outsideProgram a)) → Place size (placeIn a)
 fit size (Inside to) f h = let l = f .1 in record { from = f .0; to = omega arith }
 fit size Outside f h = absurd h
 
