@@ -2,7 +2,7 @@
 // bytes in C. Every call is total; a null pointer is fine where the count is 0.
 ghost use mathlib.Core.Path.{_≡_};
 ghost use Rattle.rom.specs.Header.{headerOf};
-ghost use Rattle.listing.specs.Listing.{listedWith, listOf};
+ghost use Rattle.listing.specs.Listing.{listedWith, Lists};
 ghost use Rattle.host.specs.Host.{HostScreened, hostRun, hostRunOf};
 use listing::list;
 use machine::run;
@@ -68,8 +68,8 @@ pub extern "C" fn fcode_list(
     budget: u32,
     text: &mut [u8],
 ) -> usize
-    ensures { λ r. ⌜ listedWith r (now (marks .exit)) (now (work .exit)) (now (store .exit)) (now (text .exit))
-        ≡ listOf (now (rom .entry)) (now (marks .entry)) (now (work .entry)) (now (store .entry)) budget (now (text .entry)) ⌝ }
+    ensures { λ r. ⌜ Lists (now (rom .entry)) (now (marks .entry)) (now (work .entry)) (now (store .entry)) budget (now (text .entry))
+        (listedWith r (now (marks .exit)) (now (work .exit)) (now (store .exit)) (now (text .exit))) ⌝ }
 {
     list(rom, marks, work, store, budget, text)
 }

@@ -4,6 +4,7 @@
 use Prim.Native.Nat.{ℕ}
 use mathlib.Core.Bool.{Bool, not, _||_}
 use mathlib.Core.List.{List}
+use mathlib.Core.Path.{_≡_}
 use lib.ListN.{length}
 use lib.Dec.{eqb}
 use Rattle.cells.specs.Choice.{pick}
@@ -12,7 +13,7 @@ use Rattle.state.specs.Scene.{scene, Turn, answerNumber}
 use Rattle.state.specs.Step.{wrongSize}
 use Rattle.state.specs.Open.{openOf}
 use Rattle.state.specs.Run.{RunResult, runOf}
-use Rattle.screen.specs.Laws.Found.Screen.{screenedOf}
+use Rattle.screen.specs.Promise.{Promised}
 use Rattle.screen.specs.declared.screening.Verdict.{Verdict}
 use Rattle.screen.specs.declared.screening.Verdict.the-variants.{Passes, Refused}
 use Rattle.lines.specs.Lines.{refusedLine, runText}
@@ -53,8 +54,15 @@ judgedAs (Refused why) marks rom work store budget text = listedAs (refusedLine 
 judgedAs Passes marks rom work store budget text = ranAs marks (startedOf rom (openOf rom work store) budget) text
 
 -- a text buffer of the wrong size gets nothing written, here and anywhere else
-unfoldable pub listOf : List ℕ → List ℕ → List ℕ → List ℕ → ℕ → List ℕ → Listed
-listOf rom marks work store budget text =
+unfoldable pub listWith : Verdict → List ℕ → List ℕ → List ℕ → List ℕ → List ℕ → ℕ → List ℕ → Listed
+listWith verdict after rom marks work store budget text =
     pick (wrongText text) (listedWith 0 marks work store text)
     (pick (wrongBuffer marks work store) (listedAs (refusedLine 6) marks work store text)
-    (judgedAs (screenedOf rom marks .verdict) (screenedOf rom marks .marks) rom work store budget text))
+    (judgedAs verdict after rom work store budget text))
+
+-- What a listing is: one by a verdict, and marks, that the screen's promise allows. It allows one verdict and one content of the marks, and
+-- so there is one listing (`one-listing`, Laws/Listing.antt).
+abbrev pub Lists : List ℕ → List ℕ → List ℕ → List ℕ → ℕ → List ℕ → Listed → Type 0
+Lists rom marks work store budget text l =
+    (verdict : Verdict) × (after : List ℕ) × Promised rom marks verdict after
+    × (l ≡ listWith verdict after rom marks work store budget text)

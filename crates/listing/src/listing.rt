@@ -3,7 +3,7 @@ ghost use mathlib.Core.Path.{_≡_};
 ghost use Prim.Native.Nat.{_≤_};
 ghost use lib.ListN.{length};
 ghost use Rattle.rom.specs.Header.{headerOf};
-ghost use Rattle.listing.specs.Listing.{listedWith, startedOf, listOf};
+ghost use Rattle.listing.specs.Listing.{listedWith, startedOf, Lists};
 ghost use Rattle.state.specs.Open.{openOf};
 ghost use Rattle.listing.specs.Laws.Listing.{ListedRun};
 use lines::refused_text;
@@ -44,8 +44,8 @@ pub fn list(
     budget: u32,
     text: &mut [u8],
 ) -> usize
-    ensures { λ r. ⌜ listedWith r (now (marks .exit)) (now (work .exit)) (now (store .exit)) (now (text .exit))
-        ≡ listOf (now (rom .entry)) (now (marks .entry)) (now (work .entry)) (now (store .entry)) budget (now (text .entry)) ⌝ }
+    ensures { λ r. ⌜ Lists (now (rom .entry)) (now (marks .entry)) (now (work .entry)) (now (store .entry)) budget (now (text .entry))
+        (listedWith r (now (marks .exit)) (now (work .exit)) (now (store .exit)) (now (text .exit))) ⌝ }
     ensures { λ r. ⌜ r ≤ length (now (text .exit)) ⌝ }
 {
     if text.len() != TEXT_SIZE {

@@ -25,7 +25,7 @@ use Rattle.state.specs.declared.state.State.{State}
 use Rattle.screen.specs.Rules.{Assignment}
 use Rattle.screen.specs.Promise.{Promised}
 use Rattle.screen.specs.declared.screening.Verdict.{Verdict}
-use Rattle.listing.specs.Listing.{listOf}
+use Rattle.listing.specs.Listing.{Listed, Lists}
 use Rattle.host.specs.Host.{hostRunOf}
 
 -- the header test, and opening
@@ -56,7 +56,7 @@ Runs = (rom other work store : List ℕ) (st : State) → AlikeTo (st .length) r
 abbrev pub Handed : Type 0
 Handed = (rom other marks work store text : List ℕ) (budget : ℕ) → Alike rom other
     → (hostRunOf rom work store budget ≡ hostRunOf other work store budget)
-    × (listOf rom marks work store budget text ≡ listOf other marks work store budget text)
+    × ((l k : Listed) → Lists rom marks work store budget text l → Lists other marks work store budget text k → l ≡ k)
 
 -- The theorem.
 abbrev pub PastLength : Type 0

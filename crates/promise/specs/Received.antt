@@ -17,7 +17,7 @@ use Rattle.rom.specs.Sizes.{marksSize, workSize, storeSize, textSize}
 use Rattle.rom.specs.Header.{headerOf}
 use Rattle.screen.specs.Rules.{Assignment}
 use Rattle.lines.specs.Lines.{refusedLine, passLine}
-use Rattle.listing.specs.Listing.{Listed, listOf}
+use Rattle.listing.specs.Listing.{Listed, Lists}
 use Rattle.host.specs.Host.{HostScreened}
 
 -- `fcode_screen(rom, marks)` handed this number back, with these marks: the contract in host/src/lib.rt
@@ -47,8 +47,8 @@ FirstLineIs rom marks work store words =
     (StartsWith passLine words ↔ Listable rom marks work store) × (StartsWith passLine words ⊎ ((n : ℕ) × (words ≡ refusedLine n)))
 
 abbrev pub FirstLine : Type 0
-FirstLine = (rom marks work store text : List ℕ) (budget : ℕ) → length text ≡ textSize
-    → FirstLineIs rom marks work store (written (listOf rom marks work store budget text))
+FirstLine = (rom marks work store text : List ℕ) (budget : ℕ) (l : Listed) → length text ≡ textSize
+    → Lists rom marks work store budget text l → FirstLineIs rom marks work store (written l)
 
 -- The theorem.
 abbrev pub Received : Type 0

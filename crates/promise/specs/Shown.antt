@@ -19,7 +19,7 @@ use Rattle.screen.specs.Promise.{Promised}
 use Rattle.screen.specs.declared.screening.Verdict.the-variants.{Passes, Refused}
 use Rattle.lines.specs.Lines.{refusedLine}
 use Rattle.lines.specs.Told.{filled}
-use Rattle.listing.specs.Listing.{Listed, wrongBuffer, startedOf, runWords, listOf}
+use Rattle.listing.specs.Listing.{Listed, wrongBuffer, startedOf, runWords, Lists}
 use Rattle.host.specs.Host.{HostScreened, hostRunOf}
 use Rattle.promise.specs.Trail.{DependsOnData}
 
@@ -50,8 +50,8 @@ ShownIn rom marks work store budget text l =
 
 -- of every ROM, every budget and every buffer, if the text's has its size
 abbrev pub PersonSees : Type 0
-PersonSees = (rom marks work store text : List ℕ) (budget : ℕ) → length text ≡ textSize
-    → ShownIn rom marks work store budget text (listOf rom marks work store budget text)
+PersonSees = (rom marks work store text : List ℕ) (budget : ℕ) (l : Listed) → length text ≡ textSize
+    → Lists rom marks work store budget text l → ShownIn rom marks work store budget text l
 
 -- of every ROM that `fcode_screen` handed 0 back for, with any mark buffer
 abbrev pub HostSees : Type 0

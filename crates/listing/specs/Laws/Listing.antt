@@ -27,12 +27,28 @@ use Rattle.screen.specs.declared.screening.Verdict.the-variants.{Passes, Refuse
 use Rattle.lines.specs.Lines.{refusedLine, runText}
 use Rattle.lines.specs.Told.{Told, told, filled, toldAs, wrongText, refusedTold, runTold}
 use Rattle.lines.specs.Laws.Fits.{fits, refused-fits}
-use Rattle.listing.specs.Listing.{Listed, listedWith, listedAs, wrongBuffer, startedOf, runWords, judgedAs, listOf}
+use Rattle.listing.specs.Listing.{Listed, listedWith, listedAs, wrongBuffer, startedOf, runWords, judgedAs, listWith, Lists}
 
 -- the part of it that the run leaves, in a text that was as `before` says
 abbrev pub ListedRun : RunResult → List ℕ → ℕ → List ℕ → List ℕ → List ℕ → Type 0
 ListedRun o before size work store text =
     (size ≡ length (runWords o)) × (work ≡ o .work) × (store ≡ o .store) × (text ≡ filled before (runWords o))
+
+-- the listing by the verdict that the model finds
+abbrev pub listOf : List ℕ → List ℕ → List ℕ → List ℕ → ℕ → List ℕ → Listed
+listOf rom marks work store budget text =
+    listWith (screenedOf rom marks .verdict) (screenedOf rom marks .marks) rom marks work store budget text
+
+-- it is one, and every other one is this
+module _ {rom marks work store : List ℕ} {budget : ℕ} {text : List ℕ} {l : Listed} where
+  pub lists : l ≡ listOf rom marks work store budget text → Lists rom marks work store budget text l
+  lists e = (screenedOf rom marks .verdict, screenedOf rom marks .marks, promise-kept rom marks, e)
+
+  pub one-listing : Lists rom marks work store budget text l → l ≡ listOf rom marks work store budget text
+  one-listing (v, after, p, e) =
+      let k = one-result p (promise-kept rom marks) in
+      e ∙ ap (λ (y : Verdict). listWith y after rom marks work store budget text) (k .0)
+      ∙ ap (λ (y : List ℕ). listWith (screenedOf rom marks .verdict) y rom marks work store budget text) (k .1)
 
 -- ---- a text in a buffer of the right size
 pub refused-told : (text : List ℕ) (n : ℕ) → length text ≡ textSize → refusedTold text n ≡ toldAs text (refusedLine n)
@@ -70,7 +86,7 @@ module _ (rom work store : List ℕ) (budget : ℕ) (h : headerOf rom ≡ 0) (a 
 -- ---- the whole
 module _ (rom marks work store : List ℕ) (budget : ℕ) (text : List ℕ) where
   pub wrong-text : (length text ≡ textSize → ⊥) → listedWith 0 marks work store text ≡ listOf rom marks work store budget text
-  unfolding listOf
+  unfolding listWith
   wrong-text n = rw (ne-eqb (length text) textSize n)
 
   module _ (e : length text ≡ textSize) where
@@ -85,12 +101,12 @@ module _ (rom marks work store : List ℕ) (budget : ℕ) (text : List ℕ) wher
         ap (λ (y : Told). listedWith (y .length) m work store (y .text)) d
 
     pub wrong-buffer : wrongBuffer marks work store ≡ true → (then : List ℕ) (n : ℕ) → told n then ≡ refusedTold text 6 → listedWith n marks work store then ≡ whole
-    unfolding listOf
+    unfolding listWith
     wrong-buffer w then n g = rw (eq-eqb (length text) textSize e, w) (as-refused 6 marks then n g)
 
     module _ (a : length marks ≡ marksSize) (b : length work ≡ workSize) (c : length store ≡ storeSize) where
       judged : whole ≡ judgedAs (screenedOf rom marks .verdict) (screenedOf rom marks .marks) rom work store budget text
-      unfolding listOf
+      unfolding listWith
       judged = rw (eq-eqb (length text) textSize e, eq-eqb (length marks) marksSize a, eq-eqb (length work) workSize b, eq-eqb (length store) storeSize c)
 
       -- by the screen's promise
@@ -134,7 +150,7 @@ module _ (rom marks work store : List ℕ) (budget : ℕ) (text : List ℕ) wher
   judged-fits b c Passes m p = fits _ _ _ _ (left rom work store budget (passed-header p) b c .tree)
 
   pub listing-fits : listOf rom marks work store budget text .size < textSize
-  unfolding listOf
+  unfolding listWith
   listing-fits =
       pick-is Fitting (wrongText text) _ _ (λ t. omega arith)
       (λ t.
@@ -149,7 +165,7 @@ module _ (rom marks work store : List ℕ) (budget : ℕ) (text : List ℕ) wher
       Fitting l = l .size < textSize
 
   inside : listOf rom marks work store budget text .size ≤ length (listOf rom marks work store budget text .text)
-  unfolding listOf
+  unfolding listWith
   inside =
       pick-is Inside (wrongText text) _ _ (λ t. omega arith)
       (λ t.
@@ -166,5 +182,5 @@ module _ (rom marks work store : List ℕ) (budget : ℕ) (text : List ℕ) wher
       judged (Refused why) = filled-covers (refusedLine why)
 
   pub and-inside : {m w s t : List ℕ} {n : ℕ} → listedWith n m w s t ≡ listOf rom marks work store budget text
-      → (listedWith n m w s t ≡ listOf rom marks work store budget text) × (n ≤ length t)
-  and-inside e = (e, subst (λ (l : Listed). l .size ≤ length (l .text)) (sym e) inside)
+      → Lists rom marks work store budget text (listedWith n m w s t) × (n ≤ length t)
+  and-inside e = (lists e, subst (λ (l : Listed). l .size ≤ length (l .text)) (sym e) inside)

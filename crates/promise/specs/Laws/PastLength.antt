@@ -1,7 +1,7 @@
 -- Bytes past the length are ignored, proved. Assumes nothing.
 use Prim.Native.Nat.{ℕ, _≤_}
 use native.Mathlib.Omega.{arith}
-use mathlib.Core.Path.{_≡_, refl, ap, _∙_}
+use mathlib.Core.Path.{_≡_, refl, sym, ap, _∙_}
 use mathlib.Core.List.{List}
 use lib.Dec.{eqb}
 use Rattle.cells.specs.Choice.{pick}
@@ -19,7 +19,8 @@ use Rattle.screen.specs.declared.screening.Verdict.{Verdict}
 use Rattle.screen.specs.declared.screening.Verdict.the-variants.{Passes, Refused}
 use Rattle.lines.specs.Lines.{refusedLine}
 use Rattle.lines.specs.Told.{wrongText}
-use Rattle.listing.specs.Listing.{listedWith, listedAs, wrongBuffer, startedOf, ranAs, judgedAs, listOf}
+use Rattle.listing.specs.Listing.{listedWith, listedAs, wrongBuffer, startedOf, ranAs, judgedAs, listWith}
+use Rattle.listing.specs.Laws.Listing.{listOf, one-listing}
 use Rattle.host.specs.Host.{hostRun, hostRan, hostRunOf}
 use Rattle.promise.specs.PastLength.{OpensAlike, HeightsAlike, Screens, Steps, Runs, Handed, PastLength}
 
@@ -64,7 +65,7 @@ module _ {rom other : List ℕ} (a : Alike rom other) (work store : List ℕ) (b
   same-judged (Refused why) after text = refl
 
   same-listing : (marks text : List ℕ) → listOf rom marks work store budget text ≡ listOf other marks work store budget text
-  unfolding listOf
+  unfolding listWith
   same-listing marks text =
       λ i.
       pick (wrongText text) (listedWith 0 marks work store text)
@@ -77,7 +78,8 @@ module _ {rom other : List ℕ} (a : Alike rom other) (work store : List ℕ) (b
           ∙ ap (λ (r : Screened). judgedAs (r .verdict) (r .marks) other work store budget text) (same-screened a marks)
 
 handed : Handed
-handed rom other marks work store text budget a = (same-host a work store budget, same-listing a work store budget marks text)
+handed rom other marks work store text budget a = 
+    (same-host a work store budget, λ l k p q. one-listing p ∙ same-listing a work store budget marks text ∙ sym (one-listing q))
 
 pub past-length : PastLength
 past-length = (opens, heights, screens, steps, runs, handed)

@@ -18,7 +18,7 @@ use Rattle.state.specs.Run.{RunResult}
 use Rattle.screen.specs.Promise.{Promised, wrong-size, bad-header, no-heights, passes}
 use Rattle.screen.specs.declared.screening.Verdict.the-variants.{Refused}
 use Rattle.lines.specs.Lines.{refusedLine, passLine, runText}
-use Rattle.listing.specs.Listing.{wrongBuffer, runWords, listOf}
+use Rattle.listing.specs.Listing.{wrongBuffer, runWords}
 use Rattle.promise.specs.Shown.{runHere, Shown, wrong-buffer, refused-rom, screen-pass}
 use Rattle.promise.specs.Laws.Shown.{right-buffers, person-sees}
 use Rattle.promise.specs.Received.{Zero, ThirtyOne, written, StartsWith, Listable, FirstLineIs, FirstLine, Received}
@@ -83,9 +83,9 @@ module _ (rom marks work store : List ℕ) where
       ((λ t. (r .0, r .1, r .2, h, a), λ t. s), inl s)
 
 first-line : FirstLine
-first-line rom marks work store text budget e =
-    let (words, shown, size, held) = person-sees rom marks work store text budget e in
-    let w : written (listOf rom marks work store budget text) ≡ words = rw (size, held) (take-append-seam words _) in
+first-line rom marks work store text budget l e k =
+    let (words, shown, size, held) = person-sees rom marks work store text budget l e k in
+    let w : written l ≡ words = rw (size, held) (take-append-seam words _) in
     rw w (shown-judged rom marks work store budget shown)
 
 pub received : Received

@@ -23,7 +23,7 @@ use Rattle.screen.specs.Laws.Exact.Exactly.{promise-kept}
 use Rattle.screen.specs.declared.screening.Verdict.{Verdict}
 use Rattle.screen.specs.declared.screening.Verdict.the-variants.{Passes, Refused}
 use Rattle.lines.specs.Lines.{refusedLine}
-use Rattle.listing.specs.Listing.{wrongBuffer, runWords, judgedAs, listOf}
+use Rattle.listing.specs.Listing.{Listed, wrongBuffer, runWords, judgedAs, listWith}
 use Rattle.host.specs.Host.{hostRunOf}
 use Rattle.promise.specs.Trail.{Allowed, finished, spent, refused}
 use Rattle.promise.specs.Demand3.{Opened, SeenRun}
@@ -96,15 +96,15 @@ right-buffers marks work store b =
     (not-unequal (length marks) marksSize (c .0), not-unequal (length work) workSize (d .0), not-unequal (length store) storeSize (d .1))
 
 pub person-sees : PersonSees
-unfolding listOf
-person-sees rom marks work store text budget e =
-    rw (eq-eqb (length text) textSize e)
-    (pick-is (ShownIn rom marks work store budget text) (wrongBuffer marks work store) _ _
-    (λ b. (refusedLine 6, wrong-buffer b, refl, refl))
-    (λ b.
-    let r = right-buffers marks work store b in
-    shown-judged rom marks work store budget (r .1) (r .2) b (screenedOf rom marks .verdict) (screenedOf rom marks .marks) text
-    (promise-kept rom marks)))
+person-sees rom marks work store text budget l e (v, after, p, q) = subst (ShownIn rom marks work store budget text) (sym q) by-tests
+  where
+    by-tests : ShownIn rom marks work store budget text (listWith v after rom marks work store budget text)
+    unfolding listWith
+    by-tests =
+        rw (eq-eqb (length text) textSize e)
+        (pick-is (ShownIn rom marks work store budget text) (wrongBuffer marks work store) _ _
+        (λ b. (refusedLine 6, wrong-buffer b, refl, refl))
+        (λ b. let r = right-buffers marks work store b in shown-judged rom marks work store budget (r .1) (r .2) b v after text p))
 
 -- no verdict but a pass has the number 0
 zero-passes : {rom before after : List ℕ} (v : Verdict) → Promised rom before v after → verdictNumber v ≡ 0 → v ≡ Passes
