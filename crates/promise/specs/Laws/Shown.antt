@@ -17,13 +17,11 @@ use Rattle.state.specs.Run.{RunResult, ranOf}
 use Rattle.state.specs.Joints.Moves.{stepped}
 use Rattle.state.specs.Laws.Keeps.Open.{open-good}
 use Rattle.state.specs.declared.answer.Answer.{Answer}
-use Rattle.screen.specs.Laws.Found.Screen.{screenedOf}
 use Rattle.screen.specs.Promise.{Promised, wrong-size, bad-header, no-heights, verdictNumber}
-use Rattle.screen.specs.Laws.Exact.Exactly.{promise-kept}
 use Rattle.screen.specs.declared.screening.Verdict.{Verdict}
 use Rattle.screen.specs.declared.screening.Verdict.the-variants.{Passes, Refused}
 use Rattle.lines.specs.Lines.{refusedLine}
-use Rattle.listing.specs.Listing.{Listed, wrongBuffer, runWords, judgedAs, listWith}
+use Rattle.listing.specs.Listing.{wrongBuffer, runWords, judgedAs, listWith}
 use Rattle.host.specs.Host.{hostRunOf}
 use Rattle.promise.specs.Trail.{Allowed, finished, spent, refused}
 use Rattle.promise.specs.Demand3.{Opened, SeenRun}
