@@ -5,8 +5,8 @@ how heights are found. So the screener may change without crate promise.
     python3 tests/rests.py            the modules of crate screen that each module of crate promise names, and whether all of them may be
     python3 tests/rests.py --check    the same, printed only where one may not
 
-Three modules of crate promise join theorems to what the code computes, PastLength and Witness by the screen's verdict and that it keeps
-its promise, Table by computing. Demand 3 itself must not rest on any of those three.
+Three modules of crate promise join theorems to what the code computes, PastLength and Witness by that the screen's promise allows one
+answer, Table by computing. Demand 3 itself must not rest on any of those three.
 """
 import pathlib
 import re
@@ -54,6 +54,9 @@ def main():
     wrong += [f"{PROOF} rests on {name} of crate screen" for crate, name in sorted(whole) if crate == "screen" and not RULES.match(name)]
     wrong += [f"{PROOF} rests on {name}, which joins it to the code" for name in sorted(JOINTS) if ("promise", name) in whole]
     rules = {name for name in modules("screen") if RULES.match(name)}
+    for module in sorted(rules):
+        found = {name for crate, name in named("screen", module) if not RULES.match(name)}
+        wrong += [f"{module} of crate screen names {name}" for name in sorted(found)]
     if not {"Effect", "Reach", "Rules", "Promise"} <= rules & {name for crate, name in whole if crate == "screen"}:
         wrong.append(f"{PROOF} does not rest on all of the rules")
     for line in wrong:

@@ -13,14 +13,14 @@ use Rattle.state.specs.Scene.{Turn}
 use Rattle.state.specs.Open.{openRefusal, openOf}
 use Rattle.state.specs.Run.{RunResult}
 use Rattle.state.specs.Laws.Past.{same-open-refusal, same-open, same-step, same-run}
-use Rattle.screen.specs.Laws.Found.Screen.{Screened, screenedOf}
-use Rattle.screen.specs.Laws.Rules.Past.{heights-there, same-heights, same-screen, same-screened}
+use Rattle.screen.specs.Laws.Exact.Exactly.{one-result}
+use Rattle.screen.specs.Laws.Rules.Past.{heights-there, same-heights, promised-there}
 use Rattle.screen.specs.declared.screening.Verdict.{Verdict}
 use Rattle.screen.specs.declared.screening.Verdict.the-variants.{Passes, Refused}
 use Rattle.lines.specs.Lines.{refusedLine}
 use Rattle.lines.specs.Told.{wrongText}
-use Rattle.listing.specs.Listing.{listedWith, listedAs, wrongBuffer, startedOf, ranAs, judgedAs, listWith}
-use Rattle.listing.specs.Laws.Listing.{listOf, one-listing}
+use Rattle.listing.specs.Listing.{Listed, listedWith, listedAs, wrongBuffer, startedOf, ranAs, judgedAs, listWith, Lists}
+use Rattle.listing.specs.Laws.Listing.{one-listing}
 use Rattle.host.specs.Host.{hostRun, hostRan, hostRunOf}
 use Rattle.promise.specs.PastLength.{OpensAlike, HeightsAlike, Screens, Steps, Runs, Handed, PastLength}
 
@@ -31,7 +31,7 @@ heights : HeightsAlike
 heights rom other a h = let s = same-heights a h in (heights-there a h, s .0, s .1, s .2)
 
 screens : Screens
-screens rom other before after after′ v v′ a p q = same-screen a p q
+screens rom other before after after′ v v′ a p q = one-result (promised-there a p) q
 
 steps : Steps
 steps rom other work store st a = same-step rom other work store st a
@@ -64,22 +64,21 @@ module _ {rom other : List ℕ} (a : Alike rom other) (work store : List ℕ) (b
   same-judged Passes after text = ap (λ (o : RunResult). ranAs after o text) same-started
   same-judged (Refused why) after text = refl
 
-  same-listing : (marks text : List ℕ) → listOf rom marks work store budget text ≡ listOf other marks work store budget text
+  same-list : (v : Verdict) (after marks text : List ℕ)
+      → listWith v after rom marks work store budget text ≡ listWith v after other marks work store budget text
   unfolding listWith
-  same-listing marks text =
+  same-list v after marks text =
       λ i.
       pick (wrongText text) (listedWith 0 marks work store text)
-      (pick (wrongBuffer marks work store) (listedAs (refusedLine 6) marks work store text) (by i))
-    where
-      by : judgedAs (screenedOf rom marks .verdict) (screenedOf rom marks .marks) rom work store budget text
-          ≡ judgedAs (screenedOf other marks .verdict) (screenedOf other marks .marks) other work store budget text
-      by =
-          same-judged (screenedOf rom marks .verdict) (screenedOf rom marks .marks) text
-          ∙ ap (λ (r : Screened). judgedAs (r .verdict) (r .marks) other work store budget text) (same-screened a marks)
+      (pick (wrongBuffer marks work store) (listedAs (refusedLine 6) marks work store text) (same-judged v after text i))
+
+  -- a listing of the one is a listing of the other
+  lists-there : (marks text : List ℕ) {l : Listed} → Lists rom marks work store budget text l → Lists other marks work store budget text l
+  lists-there marks text (v, after, p, e) = (v, after, promised-there a p, e ∙ same-list v after marks text)
 
 handed : Handed
 handed rom other marks work store text budget a = 
-    (same-host a work store budget, λ l k p q. one-listing p ∙ same-listing a work store budget marks text ∙ sym (one-listing q))
+    (same-host a work store budget, λ l k p q. one-listing (lists-there a work store budget marks text p) ∙ sym (one-listing q))
 
 pub past-length : PastLength
 past-length = (opens, heights, screens, steps, runs, handed)

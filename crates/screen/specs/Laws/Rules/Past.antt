@@ -17,8 +17,6 @@ use Rattle.screen.specs.Reach.{unnamed, named, to-next, through-body, la
 use Rattle.screen.specs.Reach.{Met, Body, Starts, entry, behind}
 use Rattle.screen.specs.Rules.{Most, Assignment}
 use Rattle.screen.specs.Promise.{Marks, Promised, wrong-size, bad-header, no-heights, passes}
-use Rattle.screen.specs.Laws.Found.Screen.{screened, screenedOf}
-use Rattle.screen.specs.Laws.Exact.Exactly.{promise-kept, one-result}
 use Rattle.screen.specs.declared.screening.Verdict.{Verdict}
 use Rattle.screen.specs.declared.screening.Verdict.the-variants.{Refused}
 
@@ -126,11 +124,3 @@ module _ {rom other : List ℕ} (a : Alike rom other) where
       subst (λ w. Promised other before (Refused w) before) (sym (same-header a)) (bad-header s (λ e. n (same-header a ∙ e)))
   promised-there (no-heights s h n) = no-heights s (sym (same-header a) ∙ h) (λ k. n (heights-there (alike-back a) k))
   promised-there (passes s h k m) = passes s (sym (same-header a) ∙ h) (heights-there a k) (marks-there k m)
-
-  pub same-screen : {before after after′ : List ℕ} {v v′ : Verdict} → Promised rom before v after → Promised other before v′ after′
-      → (v ≡ v′) × (after ≡ after′)
-  same-screen p q = one-result (promised-there p) q
-
-  -- and so of the screen that is computed
-  pub same-screened : (marks : List ℕ) → screenedOf rom marks ≡ screenedOf other marks
-  same-screened marks = let k = same-screen (promise-kept rom marks) (promise-kept other marks) in λ i. screened (k .0 i) (k .1 i)
