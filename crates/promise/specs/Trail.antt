@@ -4,6 +4,8 @@ use Prim.Native.Nat.{ℕ, suc, _+_, _-_, _≤_, _<_}
 use mathlib.Core.Path.{_≡_}
 use mathlib.Core.List.{List, [], _∷_}
 use lib.ListN.{getD}
+use lib.Dec.{T}
+use Rattle.cells.specs.Choice.{among}
 use Rattle.state.specs.Scene.{Scene, scene}
 use Rattle.state.specs.Step.{tokenTurn}
 use Rattle.state.specs.Run.{RunResult, ended, then}
@@ -34,10 +36,12 @@ openAfter open-calls st then =
     pick (ltb (st .calls .count) (then .calls .count)) (openCall (st .stack .height) (then .place) ∷ open-calls)
     (pick (ltb (then .calls .count) (st .calls .count)) (without open-calls) open-calls)
 
--- "a refusal that depends on data (21 to 27)"
-pub record DependsOnData (why : ℕ) : Type 0 where
-  pub least : 21 ≤ why
-  pub most : why ≤ 27
+-- "a refusal that depends on data (21 to 27)": the list of them, once
+abbrev pub dataRefusals : List ℕ
+dataRefusals = 21 ∷ 22 ∷ 23 ∷ 24 ∷ 25 ∷ 26 ∷ 27 ∷ []
+
+abbrev pub DependsOnData : ℕ → Type 0
+DependsOnData why = T (among why dataRefusals)
 
 -- the answers that a run of a passed ROM may have, and no others
 pub data Allowed : Answer → Type 0 where

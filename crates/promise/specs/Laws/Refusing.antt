@@ -510,13 +510,13 @@ module _ {rom : List ℕ} (a : Assignment rom) (work store : List ℕ) (open-cal
       never (Refusals.high s t) not-high ▸
       never (Refusals.tooManyFrames s t) not-too-many ▸
       never (Refusals.noNode s t) not-node ▸
-      (λ h. refused (record { least = omega arith; most = omega arith })) ▸
-      (λ h. refused (record { least = omega arith; most = omega arith })) ▸
-      (λ h. refused (record { least = omega arith; most = omega arith })) ▸
-      (λ h. refused (record { least = omega arith; most = omega arith })) ▸
-      (λ h. refused (record { least = omega arith; most = omega arith })) ▸
-      (λ h. refused (record { least = omega arith; most = omega arith })) ▸
-      (λ h. refused (record { least = omega arith; most = omega arith })) ▸
+      (λ h. refused tt) ▸
+      (λ h. refused tt) ▸
+      (λ h. refused tt) ▸
+      (λ h. refused tt) ▸
+      (λ h. refused tt) ▸
+      (λ h. refused tt) ▸
+      (λ h. refused tt) ▸
       tt
       )
     where
