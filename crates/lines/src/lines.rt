@@ -9,6 +9,7 @@ ghost use Rattle.tree.specs.Held.{heldOf, liveOf};
 ghost use Rattle.lines.specs.Lines.{shown as Lines·shown, nodeLine, propertyLine, lineFor, ownLines, nodeLines, stepsLine, refusedLine, closingLine};
 ghost use Rattle.lines.specs.Lines.{numberRead, textRead, bytesRead, readLine};
 ghost use Rattle.lines.specs.Wrote.{Wrote};
+ghost use Rattle.rom.specs.Sizes.{nodesMost, propertiesMost};
 use crate::digits::decimal;
 use crate::digits::hex;
 use crate::printed::is_text;
@@ -152,7 +153,7 @@ pub fn own_lines(
 }
 
 pub fn node_lines(text: &mut [u8], at: usize, store: &[u8], tree: Tree) -> usize
-    requires { ⌜ (tree .nodes ≤ 32) × (tree .held ≤ 128)
+    requires { ⌜ (tree .nodes ≤ nodesMost) × (tree .held ≤ propertiesMost)
         × (liveOf tree ≤ length (now store)) ⌝ }
     ensures { λ r. ⌜ Wrote (now (text .entry)) (now (text .exit)) at r (nodeLines tree (heldOf tree (now (store .entry))) (tree .nodes) 0) ⌝ }
 {

@@ -10,6 +10,7 @@ ghost use Rattle.lines.specs.TokenLines.{lineText, rawLine, tokenLine, p
 ghost use Rattle.lines.specs.Laws.Tokens.{Ordered, OperandLies, TokenLies};
 ghost use Rattle.lines.specs.Wrote.{Wrote};
 ghost use Rattle.tokens.specs.Laws.Name.{unpacked};
+ghost use Rattle.rom.specs.Sizes.{romMost};
 use crate::digits::hex_byte;
 use crate::lines::shown;
 use crate::printed::quoted;
@@ -69,7 +70,7 @@ fn name(text: &mut [u8], at: usize, number: u32) -> usize
 // Where the parts meet of an operand from a place to another, by the form of the token: a string's length byte and its bytes, a number and its
 // kind, or all four.
 fn cuts_of(rom: &[u8], start: usize, next: usize, form: u32) -> Cuts
-    requires { ⌜ (start ≤ 16384) × (0 < next) ⌝ }
+    requires { ⌜ (start ≤ romMost) × (0 < next) ⌝ }
     ensures { λ r. ⌜ r ≡ cutsOf (now (rom .entry)) start next form ⌝ }
 {
     match form {

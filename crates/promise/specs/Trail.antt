@@ -4,15 +4,13 @@ use Prim.Native.Nat.{ℕ, suc, _+_, _-_, _≤_, _<_}
 use mathlib.Core.Path.{_≡_}
 use mathlib.Core.List.{List, [], _∷_}
 use lib.ListN.{getD}
-use lib.Dec.{T}
-use Rattle.cells.specs.Choice.{among}
+use lib.Dec.{T, ltb}
+use Rattle.cells.specs.Choice.{pick, among}
 use Rattle.state.specs.Scene.{Scene, scene}
 use Rattle.state.specs.Step.{tokenTurn}
 use Rattle.state.specs.Run.{RunResult, ended, then}
 use Rattle.state.specs.Open.{freshState}
-use Rattle.cells.specs.Choice.{pick}
 use Rattle.tokens.specs.Family.{call}
-use lib.Dec.{ltb}
 use Rattle.state.specs.declared.state.State.{State}
 use Rattle.state.specs.declared.answer.Answer.{Answer}
 use Rattle.state.specs.declared.answer.Answer.the-variants.{Going, Finished, Refused, Spent}

@@ -6,7 +6,7 @@ use native.Mathlib.Decide.{decLt}
 use native.Mathlib.Omega.{arith}
 use mathlib.Core.Bool.{Bool, true, false}
 use mathlib.Core.List.{List, [], _∷_, _++_, append-assoc}
-use mathlib.Core.Path.{_≡_, refl, sym, ap, _∙_}
+use mathlib.Core.Path.{_≡_, refl, sym, _∙_}
 use lib.ListN.{length, getD, drop, set, length-append, drop-of-length-le}
 use lib.Seq.{drop-cons}
 use lib.Dec.{ltb, eqb}
@@ -58,9 +58,6 @@ decimal-wider (suc k) n h =
 -- so a number of 32 bits is its tenth's digits, and its last
 pub decimal-more : (n : ℕ) → 10 ≤ n → n < 4294967296 → decimalOf n ≡ decimalOf (n / 10) ++ (digit (n % 10) ∷ [])
 decimal-more n h g = decimal-last 9 n h ∙ rw (decimal-wider 8 (n / 10) (omega arith))
-
-pub length-more : (n : ℕ) → 10 ≤ n → n < 4294967296 → length (decimalOf n) ≡ length (decimalOf (n / 10)) + 1
-length-more n h g = ap length (decimal-more n h g) ∙ length-append (decimalOf (n / 10)) (digit (n % 10) ∷ [])
 
 -- what a reader makes of decimal digits
 unfoldable pub readFrom : ℕ → List ℕ → ℕ

@@ -88,7 +88,7 @@ end-inside rom =
 
 -- an operand as it lies in a ROM, and a token of the list with it
 abbrev pub OperandLies : List ℕ → ℕ → Token → Type 0
-OperandLies rom start t = (start ≤ 16384) × (0 < t .next) × (t .next ≤ length rom) × Ordered start (tokenCuts rom start t) (t .next)
+OperandLies rom start t = (start ≤ romMost) × (0 < t .next) × (t .next ≤ length rom) × Ordered start (tokenCuts rom start t) (t .next)
 
 abbrev pub TokenLies : List ℕ → ℕ → ℕ → Token → Type 0
 TokenLies rom p start t = (p ≤ start) × (start ≤ length rom) × OperandLies rom start t

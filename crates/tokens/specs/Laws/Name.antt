@@ -3,10 +3,10 @@ use Prim.Native.Nat.{ℕ, zero, suc, _+_, _/_, _%_, _^_, _≤_, _<_}
 use native.Mathlib.Nat.{pow-suc}
 use native.Mathlib.Decide.{decLt}
 use native.Mathlib.Omega.{arith}
-use mathlib.Core.Path.{_≡_, refl, sym, ap, _∙_}
+use mathlib.Core.Path.{_≡_, refl, sym, _∙_}
 use mathlib.Core.Bool.{Bool, true, false, _&&_}
 use mathlib.Core.List.{List, [], _∷_, _++_}
-use lib.ListN.{length, take, drop, length-append}
+use lib.ListN.{length, take, drop}
 use lib.Dec.{T, leb, eqb, eqb→eq}
 use borrow.Author.Tests.{ne-eqb}
 use Rattle.cells.specs.Laws.Facts.{both-hold}
@@ -78,9 +78,3 @@ unpacked-wider (suc k) w h =
 
 pub unpacked-more : (w : ℕ) → (w ≡ 0 → ⊥) → w < 2 ^ 64 → unpacked 8 w ≡ unpacked 8 (w / 256) ++ (w % 256 ∷ [])
 unpacked-more w n h = unpacked-last 7 w n ∙ rw (unpacked-wider 7 (w / 256) (omega arith))
-
-pub length-unpacked : (w : ℕ) → (w ≡ 0 → ⊥) → w < 2 ^ 64 → length (unpacked 8 w) ≡ length (unpacked 8 (w / 256)) + 1
-length-unpacked w n h = ap length (unpacked-more w n h) ∙ length-append (unpacked 8 (w / 256)) (w % 256 ∷ [])
-
-pub length-name : (n : ℕ) → length (nameOf n) ≡ length (unpacked 8 (frontOf n)) + length (unpacked 8 (restOf n))
-length-name n = ap length (sym (name-unpacked n)) ∙ length-append (unpacked 8 (frontOf n)) (unpacked 8 (restOf n))
