@@ -145,14 +145,19 @@ WHOLE = 99
 OF_A_FINISHED = (0, 1, 2, 3, 4, 5, 6, 7, 8, 9, 10, 13, 14, 21, 22, 23, 25, 26, 27)
 
 
-# Those in the tree are what a lookup, of a node and of a property, and the node table refuse too, and the table's columns are then as they were.
+# A lookup of a node and of a property and the node table, by the tree's calls and by the state's. Those of the tree refuse a damage in
+# the tree, those of the state every one, and the table's columns are then as they were.
 IN_THE_TREE = (5, 6, 7, 8, 9, 10, 21, 22, 23, 24, 25, 26, 27)
 NOT_FOUND = "lookups 30 30 0"
 REFUSED_LOOKUPS = "lookups 7 7 7 kept kept"
 
 
+def lookups_of(in_the_tree, in_the_state):
+    return [REFUSED_LOOKUPS if in_the_tree else NOT_FOUND, "state " + (REFUSED_LOOKUPS if in_the_state else NOT_FOUND)]
+
+
 def refused_state(k):
-    return [REFUSED_LOOKUPS if k in IN_THE_TREE else NOT_FOUND, f"damaged {k} step refused 7 run refused 7 steps 0 unchanged"]
+    return [*lookups_of(k in IN_THE_TREE, True), f"damaged {k} step refused 7 run refused 7 steps 0 unchanged"]
 
 
 def damages():
@@ -161,8 +166,8 @@ def damages():
         yield f"D {k:02} {calls} 14", refused_state(k)
     for k in OF_A_FINISHED:
         yield f"D {k:02} {scale} 100000", refused_state(k)
-    yield f"D {WHOLE} {calls} 14", [NOT_FOUND, f"damaged {WHOLE} step going run finished steps 10 changed"]
-    yield f"D {WHOLE} {scale} 100000", [NOT_FOUND, f"damaged {WHOLE} step finished run finished steps 0 unchanged"]
+    yield f"D {WHOLE} {calls} 14", [*lookups_of(False, False), f"damaged {WHOLE} step going run finished steps 10 changed"]
+    yield f"D {WHOLE} {scale} 100000", [*lookups_of(False, False), f"damaged {WHOLE} step finished run finished steps 0 unchanged"]
 
 
 # Run for 6 tokens, this leaves 800, a colon definition (its body at 12: 1), 801, a value of 2, 802, a constant of 3, and node 2 active. The rest: 24
@@ -226,10 +231,13 @@ OPENINGS = (
 def orders():
     lines = [f"order {k} {told}" for k, (_, told) in enumerate(ORDERS)]
     lines += [f"opening {told}" for _, told in OPENINGS]
-    # a store one byte short and one byte long, a damaged tree, a bad path, a good one: a node and a property each
+    # by the tree's calls, a store one byte short and one byte long, a damaged tree, a bad path, a good one: a node and a property each
     lines.append("lookup order 6 6 6 6 7 7 29 29 30 30")
     # 31 parents, 33 counts, a damaged tree: each column as it was
     lines.append("table order 6 kept kept 6 kept kept 7 kept kept")
+    # the same of a state whose tree is whole and whose data stack has 65 cells, with a path of good form too before the state that is whole
+    lines.append("state lookup order 6 6 6 6 7 7 7 7 29 29 30 30")
+    lines.append("state table order 6 kept kept 6 kept kept 7 kept kept")
     yield f"O {CALLS.hex().upper()} 14", lines
 
 

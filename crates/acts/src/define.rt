@@ -9,7 +9,7 @@ ghost use Rattle.tokens.specs.declared.decoding.Operand.the-variants.{Definitio
 ghost use Rattle.state.specs.Refusals.{rounded as Refusals·rounded};
 ghost use Rattle.state.specs.Joints.Apart.{numbersOn};
 ghost use Rattle.acts.specs.Joints.Acts.{QuietOf, Defines, Colons, Variables, Fresh, TakesValue};
-ghost use Rattle.acts.specs.Joints.Acts.{Tables, Definable, Numbered, Adds, AddsFrom};
+ghost use Rattle.acts.specs.Joints.Acts.{Tables, Definable, ByNumber, Adds, AddsFrom};
 use crate::tables::note;
 use crate::tables::slot_of;
 use memory::WORK_BASE;
@@ -39,7 +39,7 @@ fn defined(
 ) -> Core
     requires { ⌜ Fresh (numbersOn (now names) (now kinds) (now values) (now ways) (core .held)) number
         × Definable (now slots) (now known) (numbersOn (now names) (now kinds) (now values) (now ways) (core .held)) ⌝ }
-    ensures { λ r. ⌜ Numbered (numbersOn (now (names .entry)) (now (kinds .entry)) (now (values .entry)) (now (ways .entry)) (core .held))
+    ensures { λ r. ⌜ ByNumber (numbersOn (now (names .entry)) (now (kinds .entry)) (now (values .entry)) (now (ways .entry)) (core .held))
         core number kind value r
         (numbersOn (now (names .exit)) (now (kinds .exit)) (now (values .exit)) (now (ways .exit)) (r .held))
         × Tables (now (slots .exit)) (now (known .exit)) (now (names .exit)) (now (kinds .exit)) (r .held) ⌝ }

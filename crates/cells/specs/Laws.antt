@@ -7,3 +7,5 @@ pub mod Facts
 pub mod Cells
 -- The definitions at the examples of documents 01 and 02: antt computes each. (`and`, `or` and `xor` do not compute at numbers of this size.)
 pub mod Examples
+-- What the enums of this crate say is what the definitions compute.
+pub mod Numbered

@@ -6,5 +6,7 @@ pub mod Signed
 pub mod Arithmetic
 -- The comparisons of document 01:
 pub mod Comparison
+-- An answer as document 01 numbers it:
+pub mod Numbered
 -- What is only proved: nothing here has to be believed.
 pub mod Laws

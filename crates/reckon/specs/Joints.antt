@@ -3,3 +3,5 @@
 pub mod Reckoned
 -- A token in place, on the cells, the heights and the place alone, and how it agrees with the step of the whole state, whatever the rest of it is.
 pub mod Fast
+-- How a token that is done in place fared, as document 01 numbers it.
+pub mod Numbered

@@ -7,3 +7,5 @@ pub mod Header
 pub mod Examples
 -- "Bytes past the length are ignored": what the header and the bytes of a ROM say is the same in two that differ in such bytes alone.
 pub mod Past
+-- What the enums of this crate say is what the definitions compute.
+pub mod Numbered

@@ -12,5 +12,7 @@ pub mod Sum
 pub mod Header
 -- "Bytes past the length are ignored":
 pub mod Alike
+-- Where a branch leads, as document 01 numbers it: 19, "taken branch to outside 8..length-1", or the place.
+pub mod Numbered
 -- What is only proved: nothing here has to be believed.
 pub mod Laws

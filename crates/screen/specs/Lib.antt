@@ -6,5 +6,7 @@ pub mod Reach
 pub mod Rules
 -- The screen's promise: which answer, and which marks, for every ROM and every mark buffer; it passes a ROM exactly where an assignment exists.
 pub mod Promise
+-- The screen's verdict, as document 01 numbers it: 0 for a ROM that passes, or the refusal.
+pub mod Numbered
 -- What is only proved: nothing here has to be believed.
 pub mod Laws

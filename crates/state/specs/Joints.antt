@@ -9,3 +9,5 @@ pub mod Hot
 pub mod Reckoning
 -- Tables by program number, one look-up each: what a number's entry holds, and where it stands.
 pub mod Tables
+-- The tree that a lookup of a state goes by.
+pub mod Lookup

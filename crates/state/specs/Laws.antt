@@ -19,3 +19,7 @@ pub mod Done
 pub mod Untouched
 -- "Bytes past the length are ignored": a step and a run are the same with two ROMs whose bytes are the same below the state's length.
 pub mod Past
+-- Lookups and the node table of a state: of a whole state they answer what the tree's own calls do, of a damaged one 7, wherever the damage is, once what is lent has its size.
+pub mod Lookup
+-- What the enums of this crate say is what the definitions compute.
+pub mod Numbered

@@ -18,6 +18,10 @@ pub mod Step
 pub mod Run
 -- Opening:
 pub mod Open
+-- Lookups and the node table of a state:
+pub mod Lookup
+-- What a step or a run answers, as document 01 numbers it: 0 going on or finished, the refusal, or 28, "budget spent", with the count.
+pub mod Numbered
 -- What the crates of the house agree on: definitions for functions that only another crate of the house calls, and for private ones.
 pub mod Joints
 -- What is only proved: nothing here has to be believed.

@@ -18,6 +18,8 @@ pub mod Body
 pub mod Definition
 -- Walking a program from place to place:
 pub mod Reader
+-- What is read of a token and of a body, as document 01 numbers it: 10, "a token's bytes pass the program length", 11, "token not in the list ..", 18, "token out of place", 12 in a body; or what was read.
+pub mod Numbered
 -- What the crates of the house agree on: definitions for functions that only another crate of the house calls, and for private ones.
 pub mod Joints
 -- What is only proved: nothing here has to be believed.

@@ -25,3 +25,7 @@ pub mod InPlace
 pub mod ReadBack
 -- The definition of a name, run: the bytes that may stand in one, written out, and names at the ends of their length.
 pub mod NameExamples
+-- What it means that a property is found, and that it is not: of a whole tree, a store of its size and a path of good form, `find_property` gives 30 exactly where the path leads to no node, or the node that it leads to holds no property of that name; and a place and a size exactly where the node holds one, whose value's bytes lie there.
+pub mod Sought
+-- What the enums of this crate say is what the definitions compute.
+pub mod Numbered

@@ -147,8 +147,8 @@ Assigns number c names kinds values k next r then =
     (λ s t. QuietOf assign (Number number) s next t)
 
 -- one number more: the numbers then, where the tables are of those before
-abbrev pub Numbered : Numbers → Core → ℕ → ℕ → ℕ → Core → Numbers → Type 0
-Numbered ns k number kind v r then =
+abbrev pub ByNumber : Numbers → Core → ℕ → ℕ → ℕ → Core → Numbers → Type 0
+ByNumber ns k number kind v r then =
     (a : Arrays) → joined (onNumbers (then .names) (then .kinds) (then .values) (then .wides) a) r
     ≡ withNumbers (joined (onNumbers (ns .names) (ns .kinds) (ns .values) (ns .wides) a) k) (definedOf ns number kind v (k .wide))
 
