@@ -1,8 +1,6 @@
 -- An answer as document 01 numbers it: "Where an answer is an enum, a definition sets out this paper's number and values for each of its
--- cases.
--- The promises use that definition." The number is the refusal's, or 0 where nothing is refused; the values are what the case holds
--- besides.
--- Each crate sets out its own enums in a module of this name; here that of u/mod. Assumes nothing.
+-- cases. The promises use that definition." The number is the refusal's, or 0 where nothing is refused; the values are what the case holds
+-- besides. Each crate sets out its own enums in a module of this name; here that of u/mod. Assumes nothing.
 use Prim.Native.Nat.{ℕ}
 use mathlib.Core.List.{List, [], _∷_}
 use Rattle.cells.specs.declared.Divided.{Divided}

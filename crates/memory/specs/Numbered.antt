@@ -1,6 +1,5 @@
 -- Where a range of addresses lies, and what is fetched, as document 01 numbers them: 22, "address range in no window", 23, "cell address
--- not a
--- multiple of 4", or the value. Assumes nothing.
+-- not a multiple of 4", or the value. Assumes nothing.
 use Prim.Native.Nat.{_+_}
 use mathlib.Core.List.{[], _∷_}
 use Rattle.cells.specs.Numbered.{Numbered, gives, refuses}

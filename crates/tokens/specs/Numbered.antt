@@ -1,6 +1,5 @@
 -- What is read of a token and of a body, as document 01 numbers it: 10, "a token's bytes pass the program length", 11, "token not in the
--- list ..",
--- 18, "token out of place", 12 in a body; or what was read. Assumes nothing.
+-- list ..", 18, "token out of place", 12 in a body; or what was read. Assumes nothing.
 use mathlib.Core.List.{[], _∷_, _++_, List}
 use Rattle.cells.specs.Choice.{pick}
 use Rattle.cells.specs.Numbered.{Numbered, gives, refuses}
@@ -48,8 +47,7 @@ bodySays (Ends at) = gives (at ∷ [])
 bodySays (Stops at why) = record { number = why; values = at ∷ [] }
 
 -- ---- a piece of the token list, which refuses nothing: nothing more, the place behind bytes of no token, or a token, where its operand
--- starts
--- and whether offsets have 16 bits behind it
+-- starts and whether offsets have 16 bits behind it
 abbrev pub pieceSays : Piece → Numbered
 pieceSays End = gives []
 pieceSays (Raw to) = gives (to ∷ [])

@@ -1,6 +1,5 @@
 -- What a write and a lookup answer, as document 01 numbers it: done, the node, where the value lies and how many bytes it has; or the
--- refusal.
--- Assumes nothing.
+-- refusal. Assumes nothing.
 use mathlib.Core.List.{[], _∷_}
 use Rattle.cells.specs.Numbered.{Numbered, gives, refuses}
 use Rattle.tree.specs.declared.tree.Outcome.{Outcome}

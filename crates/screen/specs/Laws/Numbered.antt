@@ -19,8 +19,7 @@ verdict-number Passes = refl
 verdict-number (Refused why) = refl
 
 -- what a verdict that the promise allows says: 6 for a mark buffer of the wrong size, then the header's refusal, and then 31 where no
--- height
--- assignment exists and 0 where one does
+-- height assignment exists and 0 where one does
 abbrev pub Says : List ℕ → List ℕ → ℕ → Type 0
 Says rom before number =
     (length before ≢ marksSize → number ≡ 6)

@@ -1,7 +1,6 @@
 -- Lookups and the node table of a state: of a whole state they answer what the tree's own calls do, of a damaged one 7, wherever the damage
--- is,
--- once what is lent has its size. Both come from one law: they answer what the tree's calls do of the tree that a whole state has, and a
--- damaged one has none. Assumes nothing.
+-- is, once what is lent has its size. Both come from one law: they answer what the tree's calls do of the tree that a whole state has, and
+-- a damaged one has none. Assumes nothing.
 use Prim.Native.Nat.{ℕ}
 use native.Mathlib.Omega.{arith}
 use mathlib.Core.Bool.{Bool, true, false, not, _&&_}

@@ -1,7 +1,6 @@
 -- What it means that a property is found, and that it is not: of a whole tree, a store of its size and a path of good form, `find_property`
--- gives
--- 30 exactly where the path leads to no node, or the node that it leads to holds no property of that name; and a place and a size exactly
--- where the node holds one, whose value's bytes lie there. Assumes nothing.
+-- gives 30 exactly where the path leads to no node, or the node that it leads to holds no property of that name; and a place and a size
+-- exactly where the node holds one, whose value's bytes lie there. Assumes nothing.
 use Prim.Native.Nat.{ℕ, _+_, _≤_}
 use native.Mathlib.Omega.{arith}
 use mathlib.Core.Bool.{Bool, true, false, _&&_, true≢false}
