@@ -29,7 +29,8 @@ module _ (rom work store : List ℕ) (budget : ℕ) (r : Stepped) (w s : List �
   unfolding openOf
   refused-is n = by (eqb (openRefusal rom work store) 0) refl
     where
-      by : (b : Bool) → eqb (openRefusal rom work store) 0 ≡ b → (openOf rom work store .work ≡ work) × (openOf rom work store .store ≡ store)
+      by : (b : Bool) → eqb (openRefusal rom work store) 0 ≡ b → (openOf rom work store .work ≡ work)
+          × (openOf rom work store .store ≡ store)
       by true q = absurd (n (eqb-true (openRefusal rom work store) 0 q))
       by false q = rw (q, openOf) (refl, refl)
 
@@ -42,7 +43,8 @@ module _ (rom work store : List ℕ) (budget : ℕ) (r : Stepped) (w s : List �
       let b : s ≡ store = ap (λ (t : Turn). t .store) e ∙ k .1 in
       rw (ne-eqb (openRefusal rom work store) 0 (λ y. z (p ∙ y)), p, a, b)
 
-  pub host-ran : answerNumber (r .answer) ≡ 0 → (x : Ran) (v u : List ℕ) → toldRan x v u ≡ runOf budget (scene rom w s (r .state)) → (m : ℕ) → m ≡ answerNumber (x .answer)
+  pub host-ran : answerNumber (r .answer) ≡ 0 → (x : Ran) (v u : List ℕ) → toldRan x v u ≡ runOf budget (scene rom w s (r .state)) → (m : ℕ)
+      → m ≡ answerNumber (x .answer)
       → hostRun m (x .count) v u ≡ hostRunOf rom work store budget
   unfolding hostRunOf
   host-ran z x v u f m q =

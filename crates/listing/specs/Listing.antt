@@ -1,6 +1,6 @@
--- The listing of a ROM: "A refused run ends with "refused" and its number in place of "done"; .. a refused ROM prints only that line, 31 included." The
--- sizes of the buffers are tested first, then the header and the height rules, and then the ROM is opened and run. Work memory and store are as they
--- were wherever the ROM is not run. Assumes nothing.
+-- The listing of a ROM: "A refused run ends with "refused" and its number in place of "done"; .. a refused ROM prints only that line, 31
+-- included." The sizes of the buffers are tested first, then the header and the height rules, and then the ROM is opened and run. Work
+-- memory and store are as they were wherever the ROM is not run. Assumes nothing.
 use Prim.Native.Nat.{ℕ}
 use mathlib.Core.Bool.{Bool, not, _||_}
 use mathlib.Core.List.{List}

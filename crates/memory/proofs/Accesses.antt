@@ -31,7 +31,8 @@ module _ (rom work : List ℕ) (size address : ℕ) where
   unfolding fetchByteOf
   no-byte h = rw (resolved-short rom work size address 1 h)
 
-  pub one-byte : 1 ≤ length (resolveOf rom work size address 1) → Value (byteOf (resolveOf rom work size address 1) 0) ≡ fetchByteOf rom work size address
+  pub one-byte : 1 ≤ length (resolveOf rom work size address 1)
+      → Value (byteOf (resolveOf rom work size address 1) 0) ≡ fetchByteOf rom work size address
   unfolding fetchByteOf
   one-byte h = rw (resolved-whole rom work size address 1 (omega arith) h)
 

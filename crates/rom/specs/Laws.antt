@@ -1,4 +1,5 @@
 -- What is only proved: nothing here has to be believed.
+
 -- An aim as a number loses nothing: no branch leads inside to 0.
 pub mod Branch
 -- What a good header says of the ROM and of its program length.

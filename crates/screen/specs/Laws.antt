@@ -1,4 +1,5 @@
 -- What is only proved: nothing here has to be believed.
+
 -- How heights are found: an executable model of the screen, and the room that it has.
 pub mod Found
 -- What follows from the rules alone: demand 3 rests on this, and on nothing else of the laws.

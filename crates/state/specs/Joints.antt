@@ -1,4 +1,5 @@
 -- What the crates of the house agree on: definitions for functions that only another crate of the house calls, and for private ones.
+
 -- One cell pushed or popped, a body entered or left: the state handed back with an answer.
 pub mod Moves
 -- A state taken apart, and put together again: its numbers are a `Core`, its arrays are lists by themselves.

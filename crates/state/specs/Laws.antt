@@ -1,4 +1,5 @@
 -- What is only proved: nothing here has to be believed.
+
 -- What the next layer goes by: no token's work on the stacks leaves their sizes, and a token that only reckons gives what its row says.
 pub mod Stacks
 -- How long a state's arrays are: what its declared type says of them, as a fact that the laws go by.
@@ -7,11 +8,13 @@ pub mod Sized
 pub mod Keeps
 -- The names that device-name, model and device-type write are good ones, and these tokens never meet 26.
 pub mod Titles
--- The laws of steps and runs: a refused step changes nothing, a finished state stays, a step of a ready state is its token, and a run asks what it asks of a state once.
+-- The laws of steps and runs: a refused step changes nothing, a finished state stays, a step of a ready state is its token, and a run asks
+-- what it asks of a state once.
 pub mod Steps
 -- The definitions at work, computed: each cell and each height below is what document 01 says.
 pub mod StackExamples
--- Laws of the program numbers' code: seeking goes on from entry to entry, a table by number is filled entry by entry, and one number more changes one place of it.
+-- Laws of the program numbers' code: seeking goes on from entry to entry, a table by number is filled entry by entry, and one number more
+-- changes one place of it.
 pub mod Seeking
 -- A token that may stand where it stands: refused with the first number whose condition holds, else carried out.
 pub mod Done
@@ -19,7 +22,8 @@ pub mod Done
 pub mod Untouched
 -- "Bytes past the length are ignored": a step and a run are the same with two ROMs whose bytes are the same below the state's length.
 pub mod Past
--- Lookups and the node table of a state: of a whole state they answer what the tree's own calls do, of a damaged one 7, wherever the damage is, once what is lent has its size.
+-- Lookups and the node table of a state: of a whole state they answer what the tree's own calls do, of a damaged one 7, wherever the damage
+-- is, once what is lent has its size.
 pub mod Lookup
 -- What the enums of this crate say is what the definitions compute.
 pub mod Numbered

@@ -4,11 +4,14 @@ pub mod Stacks
 pub mod State
 -- The program numbers of a state:
 pub mod Numbers
--- Refusal 7, "damaged state: a height, work place, count (nodes: 2 to 32), property length or program number outside its limit, a ROM place (return and body places too) outside 8..length, a frame's base above the next one's (the last: above the return height), the active or a record's node absent, node 0 active, a parent not older than its node (the root's is 0), or live property bytes above 16,384".
+-- Refusal 7, "damaged state: a height, work place, count (nodes: 2 to 32), property length or program number outside its limit, a ROM place
+-- (return and body places too) outside 8..length, a frame's base above the next one's (the last: above the return height), the active or a
+-- record's node absent, node 0 active, a parent not older than its node (the root's is 0), or live property bytes above 16,384".
 pub mod Whole
 -- What a step has before it and what it leaves: the ROM, work memory, the store and the state.
 pub mod Scene
--- Why a token is refused that may stand where it stands: document 01's "Numbers handed back" from 12 on, one condition a number, and the one order of them:
+-- Why a token is refused that may stand where it stands: document 01's "Numbers handed back" from 12 on, one condition a number, and the
+-- one order of them:
 pub mod Refusals
 -- What each token does that is not refused, by its family: document 01, "Tokens, by number (hex)".
 pub mod Effects

@@ -14,7 +14,8 @@ use Rattle.tokens.specs.Family.{call, assign}
 use Rattle.tokens.specs.Row.{number}
 use Rattle.tokens.specs.Table.{ends, lows, highs, doubles, table, rowOf}
 use Rattle.tokens.specs.Code.{codeOf, familyIn, formIn}
-use Rattle.tokens.specs.Decode.{isDouble, numberOf, behindNumber, behindOf, operandOf, formed, listed, tokenOf, tokenIfWhole, decodeOf}
+use Rattle.tokens.specs.Decode.{isDouble, numberOf, behindNumber, behindOf, operandOf, formed, listed, tokenOf, tokenIfWhole}
+use Rattle.tokens.specs.Decode.{decodeOf}
 use Rattle.tokens.specs.Place.{judged, misplacedOf, readOf}
 use Rattle.tokens.specs.Body.{kindOf, numberIn, unknownBy, unknownOf, bodyOnward, afterOf, bodyOf}
 use Rattle.tokens.specs.Laws.Tokens.{number-ahead, behind-ahead, decoded-is, body-is, body-stops, body-goes}

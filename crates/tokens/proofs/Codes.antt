@@ -23,7 +23,8 @@ unfolding rowOf
 listed n h = rw (lt-leb _ _ h)
 
 -- a number in a stretch of the list where only the part m has keys, and none of those
-pub left-over : (s m t : List (ℕ × Row)) (low high n : ℕ) → table ≡ s ++ (m ++ t) → T (clear low high s) → T (clear low high t) → high < 0x800
+pub left-over : (s m t : List (ℕ × Row)) (low high n : ℕ) → table ≡ s ++ (m ++ t) → T (clear low high s) → T (clear low high t)
+    → high < 0x800
     → low ≤ n → n ≤ high → Rest (Unit {0}) m n → 0 ≡ codeOf n
 left-over s m t low high n e c d b l h r =
     nothing n

@@ -1,5 +1,5 @@
--- What the default arms of the names' matches leave over: a program number, a number that is not in the list, and a name of eight letters or less.
--- Assumes nothing.
+-- What the default arms of the names' matches leave over: a program number, a number that is not in the list, and a name of eight letters
+-- or less. Assumes nothing.
 use Prim.Native.Nat.{ℕ}
 use mathlib.Core.Path.{_≡_, sym, _∙_}
 use mathlib.Core.Bool.{Bool, true, false, _||_}

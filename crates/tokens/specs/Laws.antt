@@ -1,7 +1,10 @@
 -- What is only proved: nothing here has to be believed.
--- Laws that whoever reads tokens goes by: a whole token has a next place, past its own and not past the length; and reading a body goes from token to token.
+
+-- Laws that whoever reads tokens goes by: a whole token has a next place, past its own and not past the length; and reading a body goes
+-- from token to token.
 pub mod Tokens
--- Laws of the reader: what stands at a place ends behind it and not past the program's end, and so a walk ends, and its stretches are the program, every byte once and in order.
+-- Laws of the reader: what stands at a place ends behind it and not past the program's end, and so a walk ends, and its stretches are the
+-- program, every byte once and in order.
 pub mod Reader
 -- What the token list says of a number whose code is known: each is one test over the whole list, which antt computes.
 pub mod Rows
@@ -9,7 +12,8 @@ pub mod Rows
 pub mod Glance
 -- A token at a glance, by what the code has found of it: its form, its first byte.
 pub mod GlanceForms
--- The rules of the token list, each one test over the whole table that antt computes: its numbers are distinct and in range, its names are distinct, and a row's code has the row's digits.
+-- The rules of the token list, each one test over the whole table that antt computes: its numbers are distinct and in range, its names are
+-- distinct, and a row's code has the row's digits.
 pub mod Rules
 -- Laws of the packed names: unpacked, the two numbers are the name; and unpacking goes letter by letter.
 pub mod Name

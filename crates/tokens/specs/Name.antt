@@ -1,5 +1,5 @@
--- The names of the list as letters, and packed into two numbers for the code: eight letters in the first and what is left in the second, the last letter
--- lowest. Assumes nothing.
+-- The names of the list as letters, and packed into two numbers for the code: eight letters in the first and what is left in the second,
+-- the last letter lowest. Assumes nothing.
 use Prim.Native.Nat.{ℕ, _+_, _*_}
 use mathlib.Core.List.{List, [], _∷_}
 use lib.ListN.{take, drop}

@@ -12,7 +12,8 @@ use Rattle.cells.specs.Comparison.{betweenOf, withinOf}
 use Rattle.tokens.specs.Family.{unlisted, finish, always, choice, text, widen, divide, pickUp, rollUp, maybe, leave, fetch, store}
 use Rattle.tokens.specs.Family.{define, kind, assign, call, encodeInt, encodeString, join, property, titled, newDevice, finishDevice}
 use Rattle.tokens.specs.Row.{Row, none, literal, string, offset, number, head, namedHead}
-use Rattle.tokens.specs.Row.{nowhere, inside, outside, everywhere, top, returned, says, operand, one, two, three, reckons, pure, works}
+use Rattle.tokens.specs.Row.{nowhere, inside, outside, everywhere, top, returned, says, operand, one, two, three, reckons, pure}
+use Rattle.tokens.specs.Row.{works}
 
 -- "00 end0, FF end1: finish"
 unfoldable pub ends : List (ℕ × Row)

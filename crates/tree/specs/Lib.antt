@@ -10,7 +10,8 @@ pub mod Property
 pub mod Path
 -- The node table:
 pub mod Rows
--- What a write and a lookup answer, as document 01 numbers it: done, the node, where the value lies and how many bytes it has; or the refusal.
+-- What a write and a lookup answer, as document 01 numbers it: done, the node, where the value lies and how many bytes it has; or the
+-- refusal.
 pub mod Numbered
 -- What the crates of the house agree on: definitions for functions that only another crate of the house calls, and for private ones.
 pub mod Joints

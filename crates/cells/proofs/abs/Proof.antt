@@ -10,4 +10,6 @@ abs-spec =
     (tie.spec
     (λ c κs. search needs)
     (λ c. sym (abs-low (c .before .args .a) (search needs)))
-    (λ c. c .negate .ensures ∙ sym (abs-high (c .before .before .args .a) (search needs))))
+    (λ c.
+    let args = c .before .before .args in
+    c .negate .ensures ∙ sym (abs-high (args .a) (search needs))))

@@ -23,7 +23,8 @@ signed-high a h = rw (le-ltb a (2 ^ 31) h)
 
 -- what holds in both halves holds
 halves {ℓ} : (a : ℕ) (Q : ℤ → Type ℓ) → (a < 2 ^ 31 → Q (pos a)) → (2 ^ 31 ≤ a → Q (negsuc (2 ^ 32 - 1 - a))) → Q (signed a)
-halves a Q u v = pick-is Q (ltb a (2 ^ 31)) (pos a) (negsuc (2 ^ 32 - 1 - a)) (λ t. u (omega (arith, tests))) (λ t. v (omega (arith, tests)))
+halves a Q u v = pick-is Q (ltb a (2 ^ 31)) (pos a) (negsuc (2 ^ 32 - 1 - a)) (λ t. u (omega (arith, tests)))
+    (λ t. v (omega (arith, tests)))
 
 -- a cell with its highest bit turned: the order of signed cells is that of their ranks
 abbrev pub rankOf : ℕ → ℕ
@@ -95,7 +96,8 @@ pub ashift-high : (a n : ℕ) → 2 ^ 31 ≤ a → ashiftOf a n ≡ invertOf (rs
 unfolding ashiftOf rshiftOf
 ashift-high a n h =
     when-is (λ x. x ≡ invertOf (rshiftOf (invertOf a) n)) (ltb n 32) (cell (shrZ (signed a) (2 ^ n))) (flag (negative a))
-    (λ t. simp (signed-high a h, chosen-below (invertOf a / 2 ^ n) 0 n 32 (omega (arith, tests))) (omega (arith, div-le-self (invertOf a) (2 ^ n))))
+    (λ t. simp (signed-high a h, chosen-below (invertOf a / 2 ^ n) 0 n 32 (omega (arith, tests)))
+        (omega (arith, div-le-self (invertOf a) (2 ^ n))))
     (λ t. simp (signed-high a h, chosen-from (invertOf a / 2 ^ n) 0 n 32 (omega (arith, tests))))
 
 -- the product of two numbers of k bits has at most k + k

@@ -18,7 +18,8 @@ neqb→ne m n t e = T-not (eqb m n) t (rw e (eqb-refl n))
 pub ruleset tests = (ltb→lt, nltb→le, leb→le, nleb→lt, eqb→eq, neqb→ne)
 
 -- what holds of both ways of a choice holds of the way that its test takes: a choice by `elim`, and by `pick`
-pub when-is {ℓ ℓ′} : {X : Type ℓ} (Q : X → Type ℓ′) (b : Bool) (x y : X) → (T b → Q x) → (T (not b) → Q y) → Q (elim b [ true ↦ x | false ↦ y ])
+pub when-is {ℓ ℓ′} : {X : Type ℓ} (Q : X → Type ℓ′) (b : Bool) (x y : X) → (T b → Q x) → (T (not b) → Q y)
+    → Q (elim b [ true ↦ x | false ↦ y ])
 when-is Q true x y u v = u tt
 when-is Q false x y u v = v tt
 

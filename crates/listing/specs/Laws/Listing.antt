@@ -100,14 +100,16 @@ module _ (rom marks work store : List ℕ) (budget : ℕ) (text : List ℕ) wher
         let d : told n then ≡ toldAs text (refusedLine why) = g ∙ refused-told text why e in
         ap (λ (y : Told). listedWith (y .length) m work store (y .text)) d
 
-    pub wrong-buffer : wrongBuffer marks work store ≡ true → (then : List ℕ) (n : ℕ) → told n then ≡ refusedTold text 6 → listedWith n marks work store then ≡ whole
+    pub wrong-buffer : wrongBuffer marks work store ≡ true → (then : List ℕ) (n : ℕ) → told n then ≡ refusedTold text 6
+        → listedWith n marks work store then ≡ whole
     unfolding listWith
     wrong-buffer w then n g = rw (eq-eqb (length text) textSize e, w) (as-refused 6 marks then n g)
 
     module _ (a : length marks ≡ marksSize) (b : length work ≡ workSize) (c : length store ≡ storeSize) where
       judged : whole ≡ judgedAs (screenedOf rom marks .verdict) (screenedOf rom marks .marks) rom work store budget text
       unfolding listWith
-      judged = rw (eq-eqb (length text) textSize e, eq-eqb (length marks) marksSize a, eq-eqb (length work) workSize b, eq-eqb (length store) storeSize c)
+      judged = rw (eq-eqb (length text) textSize e, eq-eqb (length marks) marksSize a, eq-eqb (length work) workSize b,
+          eq-eqb (length store) storeSize c)
 
       -- by the screen's promise
       by-verdict : (v : Verdict) (m : List ℕ) → Promised rom marks v m → whole ≡ judgedAs v m rom work store budget text
@@ -116,7 +118,8 @@ module _ (rom marks work store : List ℕ) (budget : ℕ) (text : List ℕ) wher
           judged ∙ ap (λ (y : Verdict). judgedAs y (screenedOf rom marks .marks) rom work store budget text) (k .0)
           ∙ ap (λ (y : List ℕ). judgedAs v y rom work store budget text) (k .1)
 
-      pub refused : (why : ℕ) (m : List ℕ) → Promised rom marks (Refused why) m → (then : List ℕ) (n : ℕ) → told n then ≡ refusedTold text why
+      pub refused : (why : ℕ) (m : List ℕ) → Promised rom marks (Refused why) m → (then : List ℕ) (n : ℕ)
+          → told n then ≡ refusedTold text why
           → listedWith n m work store then ≡ whole
       refused why m p then n g = as-refused why m then n g ∙ sym (by-verdict (Refused why) m p)
 
@@ -158,7 +161,8 @@ module _ (rom marks work store : List ℕ) (budget : ℕ) (text : List ℕ) wher
       (λ w.
       let n = neither (not (eqb (length marks) marksSize)) (wrongSize work store) w .1 in
       let k = neither (not (eqb (length work) workSize)) (not (eqb (length store) storeSize)) n in
-      judged-fits (not-unequal (length work) workSize (k .0)) (not-unequal (length store) storeSize (k .1)) (screenedOf rom marks .verdict) (screenedOf rom marks .marks)
+      judged-fits (not-unequal (length work) workSize (k .0)) (not-unequal (length store) storeSize (k .1)) (screenedOf rom marks .verdict)
+          (screenedOf rom marks .marks)
       (promise-kept rom marks)))
     where
       Fitting : Listed → Type 0

@@ -1,5 +1,5 @@
--- What callers need of memory: what is written lies between what stood before and behind it, and a range that is good has as many bytes as were asked for.
--- Assumes nothing.
+-- What callers need of memory: what is written lies between what stood before and behind it, and a range that is good has as many bytes as
+-- were asked for. Assumes nothing.
 use Prim.Native.Nat.{ℕ, zero, suc, _+_, _-_, _≤_, _<_, min}
 use native.Mathlib.Nat.{add-zero}
 use native.Mathlib.Numerals.{add-one}
@@ -63,7 +63,8 @@ written-take m at (b ∷ bs) (suc n) h =
     written-take (set m at b) (at + 1) bs n (omega arith)
 
 -- a store behind what is written may come first
-pub set-written : (m : List ℕ) (at : ℕ) (bs : List ℕ) (j b : ℕ) → at + length bs ≤ j → set (writtenOf m at bs) j b ≡ writtenOf (set m j b) at bs
+pub set-written : (m : List ℕ) (at : ℕ) (bs : List ℕ) (j b : ℕ) → at + length bs ≤ j
+    → set (writtenOf m at bs) j b ≡ writtenOf (set m j b) at bs
 unfolding writtenOf
 set-written m at [] j b h = refl
 set-written m at (x ∷ xs) j b h =
@@ -82,7 +83,8 @@ written-behind m at [] k h = refl
 written-behind m at (b ∷ bs) k h =
     written-behind (set m at b) (at + 1) bs k (omega arith) ∙ getD-set-other m at k b 0 (λ e. omega arith)
 
-pub written-inside : (m : List ℕ) (at : ℕ) (bs : List ℕ) (k : ℕ) → k < length bs → at + k < length m → getD (writtenOf m at bs) (at + k) 0 ≡ getD bs k 0
+pub written-inside : (m : List ℕ) (at : ℕ) (bs : List ℕ) (k : ℕ) → k < length bs → at + k < length m
+    → getD (writtenOf m at bs) (at + k) 0 ≡ getD bs k 0
 unfolding writtenOf
 written-inside m at [] k h f = absurd (omega arith)
 written-inside m at (b ∷ bs) zero h f =
@@ -132,7 +134,8 @@ lies-high base size address count f g = rw (le-leb base address f, lt-leb (addre
 -- counted from the window's base
 pub lies-from : (base size address count : ℕ) → base ≤ address → lies base size address count ≡ leb (address - base + count) size
 lies-from base size address count f =
-    rw (le-leb base address f) (same-leb (address + count) (base + size) (address - base + count) size (λ h. omega arith) (λ h. omega arith))
+    rw (le-leb base address f) (same-leb (address + count) (base + size) (address - base + count) size (λ h. omega arith)
+        (λ h. omega arith))
 
 -- the window of a range, by what the two tests say
 module _ (rom work address count : ℕ) where
@@ -145,7 +148,8 @@ module _ (rom work address count : ℕ) where
   unfolding windowOf
   in-work e f = rw (e, f)
 
-  pub in-none : lies romBase rom address count ≡ false → lies workBase work address count ≡ false → windowOf rom work address count ≡ Nowhere
+  pub in-none : lies romBase rom address count ≡ false → lies workBase work address count ≡ false
+      → windowOf rom work address count ≡ Nowhere
   unfolding windowOf
   in-none e f = rw (e, f)
 
@@ -156,7 +160,8 @@ module _ (rom work address count : ℕ) where
       → Q Nowhere → Q (windowOf rom work address count)
   unfolding windowOf
   window-is Q u v w =
-      pick-is Q (lies romBase rom address count) (Rom (address - romBase)) (pick (lies workBase work address count) (Work (address - workBase)) Nowhere)
+      pick-is Q (lies romBase rom address count) (Rom (address - romBase))
+          (pick (lies workBase work address count) (Work (address - workBase)) Nowhere)
       (λ t.
       let p = and-parts (leb romBase address) (leb (address + count) (romBase + rom)) t in
       u (leb→le romBase address (p .0)) (leb→le (address + count) (romBase + rom) (p .1)))
@@ -189,7 +194,8 @@ module _ (rom work : List ℕ) (size address count : ℕ) where
   resolved-short h = either (badRange rom work size address count) (λ e. e) (λ e. let n = length-resolved e in absurd (omega arith))
 
   pub resolved-whole : 0 < count → count ≤ length (resolveOf rom work size address count) → badRange rom work size address count ≡ false
-  resolved-whole z h = either (badRange rom work size address count) (λ e. let n = ap length (none-resolved e) in absurd (omega arith)) (λ e. e)
+  resolved-whole z h = either (badRange rom work size address count) (λ e. let n = ap length (none-resolved e) in
+      absurd (omega arith)) (λ e. e)
 
   -- the part of a window in which a range lies
   pub range-rom : (k : ℕ) → rangeOf rom work size address count ≡ Rom k → k + count ≤ length rom

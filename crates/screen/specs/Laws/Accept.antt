@@ -1,4 +1,5 @@
 -- Where the model passes a ROM there is an assignment of heights.
+
 -- Every place that the model comes to is reachable, and every number that it holds is defined by a reachable token before it.
 pub mod Roots
 -- The rounds come to every reachable token outside bodies, each in its setting.

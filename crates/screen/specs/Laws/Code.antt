@@ -1,4 +1,5 @@
 -- The code computes what the model says.
+
 -- Laws that the code is proved by: how large an effect can be, and what is known of a token that fits.
 pub mod Codes
 -- A visit and a tally as the code has them, and what each step of a visit comes to.

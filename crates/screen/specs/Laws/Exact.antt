@@ -1,4 +1,5 @@
 -- Where there is an assignment of heights the model passes the ROM, and its marks are that assignment's.
+
 -- Where there is an assignment of heights, a round that starts with them finds them, and is good.
 pub mod Round
 -- Where there is an assignment of heights, the body of a b(:) that ends a round which starts with them is read, its walk finds them, moved by 64 less its need, and its tally is the sum of its number.

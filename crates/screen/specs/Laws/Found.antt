@@ -1,4 +1,5 @@
 -- How heights are found: an executable model of the screen, and the room that it has.
+
 -- The screen as a program: how heights are found, step by step, as the code does it.
 pub mod Model
 -- The screen as a whole: what it says of any bytes, and what it leaves in the marks.

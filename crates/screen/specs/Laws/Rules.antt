@@ -1,4 +1,5 @@
 -- What follows from the rules alone: demand 3 rests on this, and on nothing else of the laws.
+
 -- What the sentences of the least set come down to, one by one.
 pub mod Reach
 -- What is known of a token that was read: what its bytes and its place say of it, and what the token list says of its family.

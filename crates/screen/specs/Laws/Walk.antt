@@ -1,4 +1,5 @@
 -- What the model leaves, visit by visit, walk by walk and round by round.
+
 -- What a visit says of the token at a place, and what it takes for it to be good; where the walk goes on from there; and a place's cell.
 pub mod Visits
 -- What a walk finds, in any text and with any tables: it is good exactly where each place that it comes to has one cell, meets its token's rules and lies where the text may have a token; then these places have their cells, its tally was told of each of them and of nothing else, and no other place has changed.

@@ -1,4 +1,5 @@
 -- A step keeps a state whole.
+
 -- The first of a list of tests that holds, and an entry of a table at its own number.
 pub mod Tests
 -- What refusals 6, 1, 7 and 4 say of a state that they let pass, taken apart into facts and put together again.

@@ -24,8 +24,8 @@ use Rattle.tokens.specs.declared.body.Body.the-variants.{Ends, Stops}
 abbrev behindHeader : List ℕ → List ℕ
 behindHeader l = 0 ∷ 0 ∷ 0 ∷ 0 ∷ 0 ∷ 0 ∷ 0 ∷ 0 ∷ l
 
--- the kind byte is one of the defining token's bytes, so that a head at the end is cut off; a number not in the list is its own bytes alone,
--- and a prefix as the last byte is cut off
+-- the kind byte is one of the defining token's bytes, so that a head at the end is cut off; a number not in the list is its own bytes
+-- alone, and a prefix as the last byte is cut off
 abbrev cuts : List Decoded
 cuts =
     decodeOf (behindHeader (0xB5 ∷ 0x08 ∷ 0x00 ∷ [])) 11 false 8 ∷

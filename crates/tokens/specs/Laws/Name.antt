@@ -46,7 +46,8 @@ halves r = unpacked 8 (packedFrom 0 (take 8 (lettersIn r))) ++ unpacked 8 (packe
 
 pub name-unpacked : (n : ℕ) → unpacked 8 (frontOf n) ++ unpacked 8 (restOf n) ≡ nameOf n
 unfolding frontOf restOf nameOf unpacked packedFrom lettersOf same table ends lows highs doubles
-name-unpacked n = same-is (halves (rowOf n)) (lettersIn (rowOf n)) (rows-pass (λ m r. same (halves r) (lettersIn r)) tt (λ m. tt) (λ m. tt) n)
+name-unpacked n = same-is (halves (rowOf n)) (lettersIn (rowOf n))
+    (rows-pass (λ m r. same (halves r) (lettersIn r)) tt (λ m. tt) (λ m. tt) n)
 
 pub name-size : (n : ℕ) → length (nameOf n) ≤ 14
 unfolding nameOf lettersOf table ends lows highs doubles
@@ -71,7 +72,8 @@ unpacked-wider zero w h = rw (nothing w h) (unpacked-none 1 ∙ sym (unpacked-no
 unpacked-wider (suc k) w h =
     elim (decLt 0 w) [
       | yes l ↦ let p = pow-suc 256 k in
-          unpacked-last (suc k) w (λ e. omega arith) ∙ rw (unpacked-wider k (w / 256) (omega arith)) (sym (unpacked-last k w (λ e. omega arith)))
+          unpacked-last (suc k) w (λ e. omega arith)
+              ∙ rw (unpacked-wider k (w / 256) (omega arith)) (sym (unpacked-last k w (λ e. omega arith)))
       | no l ↦ let e : w ≡ 0 = omega arith in
           rw e (unpacked-none (suc (suc k)) ∙ sym (unpacked-none (suc k)))
     ]

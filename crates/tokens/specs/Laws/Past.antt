@@ -14,7 +14,8 @@ use Rattle.rom.specs.Alike.{SameBelow}
 use Rattle.rom.specs.Laws.Past.{same-back, same-word16, same-word32, same-offset, same-aim}
 use Rattle.tokens.specs.Row.{literal, string, offset, number, head, namedHead}
 use Rattle.tokens.specs.Code.{codeOf, formIn}
-use Rattle.tokens.specs.Decode.{isDouble, numberOf, behindString, behindNumber, behindOf, definitionOf, operandOf, tokenIfWhole, decodeOf}
+use Rattle.tokens.specs.Decode.{isDouble, numberOf, behindString, behindNumber, behindOf, definitionOf, operandOf, tokenIfWhole}
+use Rattle.tokens.specs.Decode.{decodeOf}
 use Rattle.tokens.specs.Laws.Tokens.{number-ahead, behind-ahead}
 use Rattle.tokens.specs.Place.{readOf}
 use Rattle.tokens.specs.Body.{afterOf, bodyFrom}

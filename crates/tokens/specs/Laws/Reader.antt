@@ -1,5 +1,5 @@
--- Laws of the reader: what stands at a place ends behind it and not past the program's end, and so a walk ends, and its stretches are the program, every
--- byte once and in order. Assumes nothing.
+-- Laws of the reader: what stands at a place ends behind it and not past the program's end, and so a walk ends, and its stretches are the
+-- program, every byte once and in order. Assumes nothing.
 use Prim.Native.Nat.{ℕ, zero, suc, _-_, _≤_, _<_}
 use native.Mathlib.Omega.{arith}
 use mathlib.Core.Path.{_≡_, refl, sym, ap, subst, _∙_}
@@ -35,7 +35,8 @@ module _ (rom : List ℕ) (wide : Bool) (p : ℕ) where
   pub is-end : (end : ℕ) → end ≡ endOf rom → end ≤ p → End ≡ pieceOf rom wide p
   is-end end e h = sym (piece-end (rw (← e) h))
 
-  pub is-piece : (end : ℕ) (d : Decoded) → end ≡ endOf rom → p < end → decodeOf rom end wide p ≡ d → pieceIn rom end wide p d ≡ pieceOf rom wide p
+  pub is-piece : (end : ℕ) (d : Decoded) → end ≡ endOf rom → p < end → decodeOf rom end wide p ≡ d
+      → pieceIn rom end wide p d ≡ pieceOf rom wide p
   is-piece end d e h g = sym (piece-is (rw (← e) h) ∙ rw (← e, g))
 
 -- ---- what the bytes at a place say of what was decoded there
@@ -56,10 +57,12 @@ FormedAs rom length wide p (Whole t) = Formed rom length wide p t
 decode-formed : (rom : List ℕ) (length : ℕ) (wide : Bool) (p : ℕ) → FormedAs rom length wide p (decodeOf rom length wide p)
 decode-formed rom length wide p =
     let b = behind-ahead rom wide (behindNumber rom p) (formIn (codeOf (numberOf rom p))) in
-    decoded-is (FormedAs rom length wide p) rom length wide p tt (λ h l. record { number = refl; code = refl; ends = refl; starts = b; before = h })
+    decoded-is (FormedAs rom length wide p) rom length wide p tt
+        (λ h l. record { number = refl; code = refl; ends = refl; starts = b; before = h })
     (λ h. omega arith)
 
-pub formed-as : (rom : List ℕ) (length : ℕ) (wide : Bool) (p : ℕ) (d : Decoded) → decodeOf rom length wide p ≡ d → FormedAs rom length wide p d
+pub formed-as : (rom : List ℕ) (length : ℕ) (wide : Bool) (p : ℕ) (d : Decoded) → decodeOf rom length wide p ≡ d
+    → FormedAs rom length wide p d
 formed-as rom length wide p d e = subst (FormedAs rom length wide p) e (decode-formed rom length wide p)
 
 -- ---- where a piece ends: nowhere at the end, else behind its place and not past the end
@@ -68,7 +71,8 @@ Lies rom wide p End = endOf rom ≤ p
 Lies rom wide p (Raw next) = (p < next) × (next ≤ endOf rom)
 Lies rom wide p (Listed t s w) = (s ≡ behindNumber rom p) × Formed rom (endOf rom) wide p t
 
-in-lies : (rom : List ℕ) (wide : Bool) (p : ℕ) (d : Decoded) → p < endOf rom → FormedAs rom (endOf rom) wide p d → Lies rom wide p (pieceIn rom (endOf rom) wide p d)
+in-lies : (rom : List ℕ) (wide : Bool) (p : ℕ) (d : Decoded) → p < endOf rom → FormedAs rom (endOf rom) wide p d
+    → Lies rom wide p (pieceIn rom (endOf rom) wide p d)
 in-lies rom wide p Cut h f = (h, omega arith)
 in-lies rom wide p (Unlisted code) h f = (number-ahead rom p, f)
 in-lies rom wide p (Whole t) h f = (refl, f)
@@ -93,7 +97,8 @@ module _ (rom : List ℕ) where
   same-then : (wide : Bool) (p : ℕ) (x : Piece) (f g : Bool → ℕ → List Stretch) → Lies rom wide p x
       → ((w : Bool) (q : ℕ) → p < q → f w q ≡ g w q) → thenOn wide p x f ≡ thenOn wide p x g
   same-then wide p End f g l e = refl
-  same-then wide p (Raw next) f g l e = ap (λ (ss : List Stretch). record { place = p; piece = Raw next; next = next } ∷ ss) (e wide next (l .0))
+  same-then wide p (Raw next) f g l e = ap (λ (ss : List Stretch). record { place = p; piece = Raw next; next = next } ∷ ss)
+      (e wide next (l .0))
   same-then wide p (Listed t s w) f g l e =
       ap (λ (ss : List Stretch). record { place = p; piece = Listed t s w; next = t .next } ∷ ss) (e w (t .next) (past wide p t (l .1)))
 
@@ -130,9 +135,11 @@ module _ (rom : List ℕ) where
       → (k : ℕ) (wide : Bool) (p : ℕ) → p ≤ endOf rom → endOf rom - p ≤ k → Q wide p (walkFrom k rom wide p)
   unfolding walkFrom
   walk-holds Q ends raws listeds zero wide p h m = ends wide p (omega arith)
-  walk-holds Q ends raws listeds (suc k) wide p h m = by (pieceOf rom wide p) refl (piece-lies rom wide p) (λ w q. walk-holds Q ends raws listeds k w q)
+  walk-holds Q ends raws listeds (suc k) wide p h m =
+      by (pieceOf rom wide p) refl (piece-lies rom wide p) (λ w q. walk-holds Q ends raws listeds k w q)
     where
-      by : (x : Piece) → pieceOf rom wide p ≡ x → Lies rom wide p x → ((w : Bool) (q : ℕ) → q ≤ endOf rom → endOf rom - q ≤ k → Q w q (walkFrom k rom w q))
+      by : (x : Piece) → pieceOf rom wide p ≡ x → Lies rom wide p x
+          → ((w : Bool) (q : ℕ) → q ≤ endOf rom → endOf rom - q ≤ k → Q w q (walkFrom k rom w q))
           → Q wide p (thenOn wide p x (λ w q. walkFrom k rom w q))
       by End e l on = ends wide p (omega arith)
       by (Raw next) e l on = raws wide p next (walkFrom k rom wide next) e (l .0) (l .1) (on wide next (l .1) (omega arith))

@@ -25,12 +25,15 @@ found f (x ∷ xs) d n h q =
     let b = both-hold (f (x .0) (x .1)) (everyRow f xs) h in
     pick-is (λ r. T (f n r)) (eqb n (x .0)) (x .1) (find xs d n) (λ t. rw (eqb→eq n (x .0) t) (b .0)) (λ t. found f xs d n (b .1) q)
 
-pub rows-pass : (f : ℕ → Row → Bool) → T (everyRow f table) → ((n : ℕ) → T (f n program)) → ((n : ℕ) → T (f n notListed)) → (n : ℕ) → T (f n (rowOf n))
+pub rows-pass : (f : ℕ → Row → Bool) → T (everyRow f table) → ((n : ℕ) → T (f n program)) → ((n : ℕ) → T (f n notListed)) → (n : ℕ)
+    → T (f n (rowOf n))
 unfolding rowOf
-rows-pass f h p u n = pick-is (λ r. T (f n r)) (isProgram n) program (find table notListed n) (λ t. p n) (λ t. found f table notListed n h (u n))
+rows-pass f h p u n = pick-is (λ r. T (f n r)) (isProgram n) program (find table notListed n) (λ t. p n)
+    (λ t. found f table notListed n h (u n))
 
 -- the same of the codes alone
-pub code-fact : (f : ℕ → Bool) → T (everyRow (λ m r. f (packed r)) table) → T (f (packed program)) → T (f (packed notListed)) → (n : ℕ) → T (f (codeOf n))
+pub code-fact : (f : ℕ → Bool) → T (everyRow (λ m r. f (packed r)) table) → T (f (packed program)) → T (f (packed notListed)) → (n : ℕ)
+    → T (f (codeOf n))
 unfolding codeOf
 code-fact f h p u n = rows-pass (λ m r. f (packed r)) h (λ m. p) (λ m. u) n
 
@@ -74,7 +77,8 @@ none-left P (k ∷ ks) n r t =
 -- ---- the plain tokens
 abbrev pub plainCodes : List ℕ
 plainCodes =
-    0x0100_0000 ∷ 0x0100_0001 ∷ 0x0101_0001 ∷ 0x0100_0011 ∷ 0x0100_0021 ∷ 0x0100_0031 ∷ 0x0100_0010 ∷ 0x0100_0020 ∷ 0x0100_0012 ∷ 0x0100_0023 ∷ 0x0100_0022
+    0x0100_0000 ∷ 0x0100_0001 ∷ 0x0101_0001 ∷ 0x0100_0011 ∷ 0x0100_0021 ∷ 0x0100_0031 ∷ 0x0100_0010 ∷ 0x0100_0020 ∷ 0x0100_0012 ∷
+        0x0100_0023 ∷ 0x0100_0022
     ∷ 0x0100_0033 ∷ 0x0100_0024 ∷ 0x0100_0046 ∷ 0x0100_0044 ∷ 0x0100_0066 ∷ 0x0100_0110 ∷ 0x0100_1001 ∷ 0x0100_1101 ∷ []
 
 pub plain-coded : (n code : ℕ) → code ≡ codeOf n → familyIn code ≡ plain → T (among code plainCodes)
@@ -101,10 +105,12 @@ module _ (n : ℕ) (e : familyIn (codeOf n) ≡ plain) where
   unfolding codeOf
   results-fit =
       eqb→eq (length (rowOf n .results)) (givesIn (packed (rowOf n)))
-      (both-hold (eqb (length (rowOf n .results)) (givesIn (packed (rowOf n)))) (eqb (length (rowOf n .returnResults)) (returnGivesIn (packed (rowOf n)))) (fits n e) .0)
+      (both-hold (eqb (length (rowOf n .results)) (givesIn (packed (rowOf n))))
+          (eqb (length (rowOf n .returnResults)) (returnGivesIn (packed (rowOf n)))) (fits n e) .0)
 
   pub return-results-fit : length (rowOf n .returnResults) ≡ returnGivesIn (codeOf n)
   unfolding codeOf
   return-results-fit =
       eqb→eq (length (rowOf n .returnResults)) (returnGivesIn (packed (rowOf n)))
-      (both-hold (eqb (length (rowOf n .results)) (givesIn (packed (rowOf n)))) (eqb (length (rowOf n .returnResults)) (returnGivesIn (packed (rowOf n)))) (fits n e) .1)
+      (both-hold (eqb (length (rowOf n .results)) (givesIn (packed (rowOf n))))
+          (eqb (length (rowOf n .returnResults)) (returnGivesIn (packed (rowOf n)))) (fits n e) .1)

@@ -10,7 +10,8 @@ use lib.Dec.{T, ltb, eqb}
 use Rattle.cells.specs.Choice.{pick, find}
 use Rattle.cells.specs.Laws.Tests.{tests, pick-is}
 use Rattle.tokens.specs.Code.{codeOf, formIn}
-use Rattle.tokens.specs.Decode.{isDouble, numberOf, behindNumber, behindString, behinds, behindOf, operandOf, listed, tokenOf, tokenIfWhole, decodeOf}
+use Rattle.tokens.specs.Decode.{isDouble, numberOf, behindNumber, behindString, behinds, behindOf, operandOf, listed, tokenOf}
+use Rattle.tokens.specs.Decode.{tokenIfWhole, decodeOf}
 use Rattle.rom.specs.Bytes.{byteOf}
 use Rattle.tokens.specs.Place.{judged, misplacedOf, readOf}
 use Rattle.tokens.specs.Body.{unknownOf, bodyOnward, afterOf, bodyFrom, bodyOf}
@@ -100,7 +101,8 @@ pub read-ahead : (rom : List ℕ) (length : ℕ) (wide within : Bool) (p : ℕ) 
 unfolding readOf
 read-ahead rom length wide within p = judged-ahead length p within (decodeOf rom length wide p) (decode-ahead rom length wide p)
 
-pub next-ahead : (rom : List ℕ) (length : ℕ) (wide within : Bool) (p : ℕ) (t : Token) → readOf rom length wide within p ≡ Good t → Follows length p t
+pub next-ahead : (rom : List ℕ) (length : ℕ) (wide within : Bool) (p : ℕ) (t : Token) → readOf rom length wide within p ≡ Good t
+    → Follows length p t
 next-ahead rom length wide within p t e = subst (AheadRead length p) e (read-ahead rom length wide within p)
 
 -- no token starts at the length or past it
@@ -114,12 +116,14 @@ none-starts rom length wide within p h =
 
 -- ---- reading a body
 module _ (rom : List ℕ) (length : ℕ) (wide : Bool) (kinds : List ℕ) where
-  same-onward : (p : ℕ) (f g : ℕ → Body) (ends unknown : Bool) (q : ℕ) → f q ≡ g q → bodyOnward ends unknown p f q ≡ bodyOnward ends unknown p g q
+  same-onward : (p : ℕ) (f g : ℕ → Body) (ends unknown : Bool) (q : ℕ) → f q ≡ g q
+      → bodyOnward ends unknown p f q ≡ bodyOnward ends unknown p g q
   same-onward p f g true unknown q e = refl
   same-onward p f g false true q e = refl
   same-onward p f g false false q e = e
 
-  same-after : (p : ℕ) (f g : ℕ → Body) (r : Read) → AheadRead length p r → ((q : ℕ) → p < q → f q ≡ g q) → afterOf kinds p r f ≡ afterOf kinds p r g
+  same-after : (p : ℕ) (f g : ℕ → Body) (r : Read) → AheadRead length p r → ((q : ℕ) → p < q → f q ≡ g q)
+      → afterOf kinds p r f ≡ afterOf kinds p r g
   same-after p f g (Refused why) a e = refl
   same-after p f g (Good t) a e = same-onward p f g (eqb (t .number) 0xC2) (unknownOf kinds t) (t .next) (e (t .next) (a .0))
 
@@ -134,11 +138,13 @@ module _ (rom : List ℕ) (length : ℕ) (wide : Bool) (kinds : List ℕ) where
       (read-ahead rom length wide true p) (λ q h. enough k j q (omega arith) (omega arith))
 
   -- a body from p on: its first token, and then the body from the next place on
-  pub body-is : (p : ℕ) → bodyOf rom length wide kinds p ≡ afterOf kinds p (readOf rom length wide true p) (λ q. bodyOf rom length wide kinds q)
+  pub body-is : (p : ℕ) → bodyOf rom length wide kinds p ≡ afterOf kinds p (readOf rom length wide true p)
+      (λ q. bodyOf rom length wide kinds q)
   unfolding bodyFrom
   body-is p =
       enough (length - p) (suc (length - p)) p (omega arith) (omega arith)
-      ∙ same-after p (λ q. bodyFrom rom length wide kinds (length - p) q) (λ q. bodyOf rom length wide kinds q) (readOf rom length wide true p)
+      ∙ same-after p (λ q. bodyFrom rom length wide kinds (length - p) q) (λ q. bodyOf rom length wide kinds q)
+          (readOf rom length wide true p)
       (read-ahead rom length wide true p) (λ q h. enough (length - p) (length - q) q (omega arith) (omega arith))
 
   pub body-stops : (p why : ℕ) → readOf rom length wide true p ≡ Refused why → bodyOf rom length wide kinds p ≡ Stops p why
@@ -148,5 +154,6 @@ module _ (rom : List ℕ) (length : ℕ) (wide : Bool) (kinds : List ℕ) where
     pub body-ends : t .number ≡ 0xC2 → bodyOf rom length wide kinds p ≡ Ends p
     body-ends n = body-is p ∙ rw (e, eq-eqb _ _ n)
 
-    pub body-goes : (t .number ≡ 0xC2 → ⊥) → unknownOf kinds t ≡ false → bodyOf rom length wide kinds p ≡ bodyOf rom length wide kinds (t .next)
+    pub body-goes : (t .number ≡ 0xC2 → ⊥) → unknownOf kinds t ≡ false
+        → bodyOf rom length wide kinds p ≡ bodyOf rom length wide kinds (t .next)
     body-goes n u = body-is p ∙ rw (e, ne-eqb _ _ n, u)

@@ -34,5 +34,6 @@ store-cell-spec =
     let f = p .before .before in
     let k = f .before in
     let a = k .before .before .before .args in
-    let i = cell-inside (now (a .work)) (a .address) (a .cell) (sym (k .before .lies .ensures) ∙ not-false _ (k .if1 .left)) (f .if2 .left) in
+    let i = cell-inside (now (a .work)) (a .address) (a .cell) (sym (k .before .lies .ensures) ∙ not-false _ (k .if1 .left))
+        (f .if2 .left) in
     (i .0, p .write-cell .ensures ∙ i .1)))

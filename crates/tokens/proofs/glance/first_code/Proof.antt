@@ -96,5 +96,9 @@ first-code-spec =
     (λ c. rw (c .match .keys83))
     (λ c. rw (c .match .keys84))
     (λ c. rw (c .match .keys85))
-    (λ c. first-of-two (c .before .before .args .first) (search needs) (c .before .match .rest))
-    (λ c. first-of-none (c .before .before .args .first) (search needs) (search needs) (c .before .match .rest)))
+    (λ c.
+    let args = c .before .before .args in
+    first-of-two (args .first) (search needs) (c .before .match .rest))
+    (λ c.
+    let args = c .before .before .args in
+    first-of-none (args .first) (search needs) (search needs) (c .before .match .rest)))
