@@ -4,10 +4,9 @@
 pub mod Tests
 -- A test as a fact and as an equation, tests joined and denied, and a choice by a test that is known.
 pub mod Facts
--- The laws of cells that the proofs cite, here and above.
+-- The laws of cells that the proofs cite.
 pub mod Cells
--- The definitions at the examples of documents 01 and 02: antt computes each. (`and`, `or` and `xor` do not compute at numbers of this
--- size.)
+-- The definitions at work, computed.
 pub mod Examples
 -- What the enums of this crate say is what the definitions compute.
 pub mod Numbered

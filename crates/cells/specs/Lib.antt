@@ -1,12 +1,12 @@
--- A choice by a test, and a table looked up by a number: the two forms that the definitions of every crate are made of.
+-- A choice by a test, a table looked up by a number, a number sought in a list.
 pub mod Choice
--- What bits say as a signed number, in two's complement, and the cell that holds a number.
+-- Bits as a signed number, and the cell that holds a number.
 pub mod Signed
--- The arithmetic tokens of document 01 on 32-bit cells, wrapped:
+-- The arithmetic tokens on 32-bit cells.
 pub mod Arithmetic
--- The comparisons of document 01:
+-- The comparison tokens.
 pub mod Comparison
--- An answer as document 01 numbers it:
+-- An answer as document 01 numbers it, number and values; and u/mod's.
 pub mod Numbered
 -- What is only proved: nothing here has to be believed.
 pub mod Laws

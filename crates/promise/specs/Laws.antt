@@ -2,11 +2,9 @@
 
 -- How the state of a passed ROM's run stands before each of its tokens: as the assignment of heights has it.
 pub mod Standing
--- Demand 3 is not empty: every bench ROM of the table that passes is one of which it speaks, and the one that divides by zero is refused
--- with 21.
+-- Demand 3 is not empty: bench ROMs of which it speaks.
 pub mod Witness
--- The bench ROMs of document 01 that are "proved of the definitions, as a single table under a single claim", and the one that document 02
--- adds: each is screened, opened and run, and the screen and the run end as they are said to.
+-- The bench ROMs of document 01, one table under one claim.
 pub mod Table
 -- Paths and lookups, run on cases.
 pub mod Lookups

@@ -6,7 +6,7 @@ pub mod Branch
 pub mod Header
 -- The header test at work on bench ROMs of document 01: antt computes each.
 pub mod Examples
--- "Bytes past the length are ignored": what the header and the bytes of a ROM say is the same in two that differ in such bytes alone.
+-- The header of two ROMs that are the same up to the length.
 pub mod Past
 -- What the enums of this crate say is what the definitions compute.
 pub mod Numbered

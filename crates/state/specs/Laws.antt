@@ -8,13 +8,11 @@ pub mod Sized
 pub mod Keeps
 -- The names that device-name, model and device-type write are good ones, and these tokens never meet 26.
 pub mod Titles
--- The laws of steps and runs: a refused step changes nothing, a finished state stays, a step of a ready state is its token, and a run asks
--- what it asks of a state once.
+-- The laws of steps and runs.
 pub mod Steps
 -- The definitions at work, computed: each cell and each height below is what document 01 says.
 pub mod StackExamples
--- Laws of the program numbers' code: seeking goes on from entry to entry, a table by number is filled entry by entry, and one number more
--- changes one place of it.
+-- A number sought, and tables by number filled entry by entry.
 pub mod Seeking
 -- A token that may stand where it stands: refused with the first number whose condition holds, else carried out.
 pub mod Done
@@ -22,8 +20,7 @@ pub mod Done
 pub mod Untouched
 -- "Bytes past the length are ignored": a step and a run are the same with two ROMs whose bytes are the same below the state's length.
 pub mod Past
--- Lookups and the node table of a state: of a whole state they answer what the tree's own calls do, of a damaged one 7, wherever the damage
--- is, once what is lent has its size.
+-- Of a whole state lookups answer what the tree's do, of a damaged one 7.
 pub mod Lookup
 -- What the enums of this crate say is what the definitions compute.
 pub mod Numbered

@@ -1,17 +1,16 @@
--- The properties that a tree's records and the store hold:
+-- The properties that records and store hold.
 pub mod Held
--- The part of refusal 7 that speaks of the tree:
+-- The tree's part of refusal 7.
 pub mod Whole
--- Nodes:
+-- Nodes: new-device and finish-device, refusal 20.
 pub mod Node
--- Writing a property:
+-- Writing a property, 26 and 27.
 pub mod Property
--- Lookups:
+-- Lookups by path, 29 and 30.
 pub mod Path
--- The node table:
+-- The node table.
 pub mod Rows
--- What a write and a lookup answer, as document 01 numbers it: done, the node, where the value lies and how many bytes it has; or the
--- refusal.
+-- What a write and a lookup answer, as document 01 numbers it.
 pub mod Numbered
 -- What the crates of the house agree on: definitions for functions that only another crate of the house calls, and for private ones.
 pub mod Joints
