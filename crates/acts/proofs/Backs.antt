@@ -12,7 +12,7 @@ use Rattle.state.specs.State.{baseOf, moved, movedTo}
 use Rattle.state.specs.Scene.{Turn, turn, scene, handedBack}
 use Rattle.state.specs.Effects.{effects, actOf, gave}
 use Rattle.state.specs.Joints.Moves.{stepped, leaveOf}
-use Rattle.state.specs.Joints.Apart.{Arrays, joined, backOn, takenOn, handed, answerOf, Takes}
+use Rattle.state.specs.Joints.Apart.{Arrays, arrays, joined, backOn, takenOn, handed, answerOf, Takes}
 use Rattle.state.specs.Laws.Done.{carried, stopped}
 use Rattle.state.specs.declared.state.State.{State}
 use Rattle.state.specs.declared.apart.Core.{Core}
@@ -27,22 +27,7 @@ use Rattle.acts.proofs.Cold.{leave-unequal, leave-good}
 
 -- some arrays, where it is only asked what numbers are like
 abbrev pub noArrays : Arrays
-noArrays =
-    record {
-      cells = [];
-      back = [];
-      places = [];
-      wides = [];
-      bases = [];
-      names = [];
-      kinds = [];
-      values = [];
-      ways = [];
-      parents = [];
-      owners = [];
-      titles = [];
-      sizes = [];
-    }
+noArrays = arrays [] [] [] [] [] [] [] [] [] [] [] [] []
 
 -- by what it is that was handed back
 pub via : (a b : Stepped) (work store : List ℕ) (t : Turn) → a ≡ b → handedBack b work store ≡ t → handedBack a work store ≡ t

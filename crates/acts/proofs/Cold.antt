@@ -255,11 +255,12 @@ module _ (s : Scene) (n : ℕ) (o : Operand) (next : ℕ) where
   unfolding refusalOf
   open-good h e = simp (le-ltb height 0 (omega arith), le-ltb 64 (height - 0 + 0) (omega arith), e)
 
-  pub close-outermost : height ≤ 64 → outermost (s .state .tree) ≡ true → refusalOf s (tokenOf n 0x1810_0000 o next) ≡ 20
+  pub close-outermost : height ≤ 64 → outermost (s .state .first) (s .state .active) ≡ true
+      → refusalOf s (tokenOf n 0x1810_0000 o next) ≡ 20
   unfolding refusalOf
   close-outermost h e = simp (le-ltb height 0 (omega arith), le-ltb 64 (height - 0 + 0) (omega arith), e)
 
-  pub close-good : height ≤ 64 → outermost (s .state .tree) ≡ false → refusalOf s (tokenOf n 0x1810_0000 o next) ≡ 0
+  pub close-good : height ≤ 64 → outermost (s .state .first) (s .state .active) ≡ false → refusalOf s (tokenOf n 0x1810_0000 o next) ≡ 0
   unfolding refusalOf
   close-good h e = simp (le-ltb height 0 (omega arith), le-ltb 64 (height - 0 + 0) (omega arith), e)
 

@@ -71,7 +71,8 @@ kind-other k n =
     find-at (λ (v : ℕ). eqb v value ≡ false) ((colon, colon) ∷ (value, value) ∷ []) constant k ((λ e. refl), ((λ e. absurd (n e)), tt)) refl
 
 -- ---- b(to)
-module _ (st : State) (o : Operand) (next m at : ℕ) (e : m ≡ numberIn o) (f : at ≡ seekFrom (st .numbers .names) m (st .numbers .count) 0) where
+module _ (st : State) (o : Operand) (next m at : ℕ) (e : m ≡ numberIn o)
+    (f : at ≡ seekFrom (st .numbers .programs) m (st .numbers .count) 0) where
   unassigned : (k : ℕ) (r : Stepped) → kindOf (kindsOf (st .numbers)) m ≡ k → eqb k value ≡ false → r ≡ stepped (Refused 12) st → QuietOf assign o st next r
   unfolding unknownOf
   unassigned k r g z w n rom work store =
@@ -115,7 +116,7 @@ module _ (st : State) (o : Operand) (next m at : ℕ) (e : m ≡ numberIn o) (f 
         assign-told q d r h i b y w n rom work store =
             let c = first-pop st q h b in
             let here = seekOf (st .numbers) (numberIn o) in
-            let j : at ≡ here = f ∙ ap (λ (x : ℕ). seekFrom (st .numbers .names) x (st .numbers .count) 0) e in
+            let j : at ≡ here = f ∙ ap (λ (x : ℕ). seekFrom (st .numbers .programs) x (st .numbers .count) 0) e in
             ap (λ (x : Stepped). handedBack x work store) w
             ∙ ap (λ (x : State). turn Going x work store) y
             ∙ ap (λ (x : State). turn Going (withNumbers (movedTo x next) (assignedOf (x .numbers) at (q .cell))) work store) (c .1)

@@ -12,14 +12,13 @@ use Rattle.tokens.specs.Table.{isProgram}
 use Rattle.tokens.specs.Family.{assign, call}
 use Rattle.tokens.specs.Body.{numberIn}
 use Rattle.tokens.specs.declared.decoding.Operand.{Operand}
-use Rattle.state.specs.Numbers.{seekOf, isHeld, kindOfByte, kindAt, kindHeld, kindsFrom, definedOf}
+use Rattle.state.specs.Numbers.{numbersOn, seekOf, isHeld, kindOfByte, kindAt, kindHeld, kindsFrom, definedOf}
 use Rattle.state.specs.Laws.Seeking.{slot-none, slot-some, table-defined, kinds-all, putKind}
 use Rattle.state.specs.Joints.Moves.{stepped}
 use Rattle.state.specs.declared.state.State.{State}
 use Rattle.state.specs.declared.state.Numbers.{Numbers}
 use Rattle.state.specs.declared.answer.Answer.the-variants.{Refused}
 use Rattle.state.specs.declared.answer.Stepped.{Stepped}
-use Rattle.state.specs.Joints.Apart.{numbersOn}
 use Rattle.acts.specs.Joints.Acts.{QuietOf, QuietBy, Tabled, Tables, slotIn}
 use Rattle.acts.proofs.Defining.{enter-outside, enter-none, assign-outside, assign-none}
 use Rattle.state.specs.Joints.Tables.{slotsOf, tablePast}
@@ -55,7 +54,8 @@ pub tables-of : (slots known names kinds values : List ℕ) (ways : List Bool) (
 tables-of slots known names kinds values ways held t values′ ways′ = (t .0, t .1 ∙ kinds-any names kinds values values′ ways ways′ held 2048 0x800)
 
 -- one number more in both tables
-pub tabled-defined : (slots known slots' known' : List ℕ) (ns : Numbers) (n kind v : ℕ) (wide : Bool) → ns .count < length (ns .names) → ns .count < length (ns .kinds)
+pub tabled-defined : (slots known slots' known' : List ℕ) (ns : Numbers) (n kind v : ℕ) (wide : Bool) → ns .count < length (ns .programs)
+    → ns .count < length (ns .kinds)
     → isHeld ns n ≡ false → Tabled slots known ns → slots' ≡ putKind slots n (ns .count + 1) → known' ≡ putKind known n (kindOfByte kind)
     → Tabled slots' known' (definedOf ns n kind v wide)
 tabled-defined slots known slots' known' ns n kind v wide h l e t p q = (

@@ -7,7 +7,7 @@ ghost use Rattle.tokens.specs.Decode.{isKind};
 ghost use Rattle.tokens.specs.Table.{isProgram};
 ghost use Rattle.tokens.specs.declared.decoding.Operand.the-variants.{Definition};
 ghost use Rattle.state.specs.Refusals.{rounded as Refusals·rounded};
-ghost use Rattle.state.specs.Joints.Apart.{numbersOn};
+ghost use Rattle.state.specs.Numbers.{numbersOn};
 ghost use Rattle.acts.specs.Joints.Acts.{QuietOf, Defines, Colons, Variables, Fresh, TakesValue};
 ghost use Rattle.acts.specs.Joints.Acts.{Tables, Definable, ByNumber, Adds, AddsFrom};
 use crate::tables::note;

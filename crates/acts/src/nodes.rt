@@ -35,7 +35,7 @@ pub fn close_node(parents: &[u32; 32], core: Core, next: u32) -> Handed
     requires { ⌜ core .height ≤ 64 ⌝ }
     ensures { λ r. ⌜ Looks (onNodes (now (parents .entry))) core r (λ s t. Quiet finishDevice s next t) ⌝ }
 {
-    let closed = close_child(parents, core.active);
+    let closed = close_child(parents, core.first, core.active);
     let outcome = closed.outcome;
     let mut k = core;
     k.active = closed.active;

@@ -40,6 +40,7 @@ pub all-hold : (n i : ℕ) (f : ℕ → Bool) → i ≤ n → n ≤ i → everyB
 all-hold n i f a b h = let e : i ≡ n = omega arith in sym (rw e at h)
 
 -- an entry by its three numbers
-pub same-entry : (size : ℕ) (ns : Numbers) (i name kind v : ℕ) (b : Bool) → name ≡ getD (ns .names) i 0 → kind ≡ getD (ns .kinds) i 0 → v ≡ getD (ns .values) i 0
+pub same-entry : (size : ℕ) (ns : Numbers) (i name kind v : ℕ) (b : Bool) → name ≡ getD (ns .programs) i 0 → kind ≡ getD (ns .kinds) i 0
+    → v ≡ getD (ns .values) i 0
     → b ≡ entryKept size name kind v → b ≡ entryWhole size ns i
 same-entry size ns i name kind v b p q r e = e ∙ rw (p, q, r)

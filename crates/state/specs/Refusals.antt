@@ -102,9 +102,10 @@ high s t = ltb dataMost (s .state .stack .height - takesHere t + (givesIn (t .co
 abbrev pub tooManyFrames : Scene → Token → Bool
 tooManyFrames s t = asked call t (λ s t. calledBody s t && leb framesMost (s .state .calls .count)) s
 
--- ---- 20: "a 33rd node, or finish-device at node 1"
+-- ---- 20: "a 33rd node, or finish-device at node 1", the first node
 abbrev pub noNode : Scene → Token → Bool
-noNode s t = asked newDevice t (λ s t. noRoom (s .state .tree)) s || asked finishDevice t (λ s t. outermost (s .state .tree)) s
+noNode s t =
+    asked newDevice t (λ s t. noRoom (s .state .tree)) s || asked finishDevice t (λ s t. outermost (s .state .first) (s .state .active)) s
 
 -- ---- 21: "divisor zero"
 abbrev pub zeroDivisor : Scene → Token → Bool
@@ -175,7 +176,7 @@ abbrev pub misnamed : Scene → Token → Bool
 misnamed s t = asked property t (λ s t. badName (namedHere s)) s
 
 abbrev pub noRoomFor : Scene → List ℕ → List ℕ → Bool
-noRoomFor s name value = overfull (wouldHold (s .state .tree) (s .store) name value)
+noRoomFor s name value = overfull (wouldHold (s .state .tree) (s .store) (s .state .active) name value)
 
 abbrev pub storeFull : Scene → Token → Bool
 storeFull s t =

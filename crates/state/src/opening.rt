@@ -24,9 +24,9 @@ use tree::no_tree;
 
 const START: u32 = FIRST_PLACE as u32;
 
-// Nothing on the stacks, no calls, no numbers.
-fn empty_state(length: u32, place: u32, wide: bool, tree: Tree) -> State
-    ensures { λ r. ⌜ r ≡ emptyState length place wide tree ⌝ }
+// Nothing on the stacks, no calls, no numbers; the first node is active.
+fn empty_state(length: u32, place: u32, wide: bool, first: u32, tree: Tree) -> State
+    ensures { λ r. ⌜ r ≡ emptyState length place wide first tree ⌝ }
 {
     let stack = Stack {
         cells: [0u32; 64],
@@ -43,7 +43,7 @@ fn empty_state(length: u32, place: u32, wide: bool, tree: Tree) -> State
         count: 0,
     };
     let numbers = Numbers {
-        names: [0u32; 256],
+        programs: [0u32; 256],
         kinds: [0u8; 256],
         values: [0u32; 256],
         wides: [false; 256],
@@ -59,6 +59,8 @@ fn empty_state(length: u32, place: u32, wide: bool, tree: Tree) -> State
         calls: calls,
         numbers: numbers,
         work_place: 0,
+        active: first,
+        first: first,
         tree: tree,
     }
 }
@@ -67,7 +69,7 @@ fn empty_state(length: u32, place: u32, wide: bool, tree: Tree) -> State
 fn zero_state() -> State
     ensures { λ r. ⌜ r ≡ zeroState ⌝ }
 {
-    empty_state(0, 0, false, no_tree())
+    empty_state(0, 0, false, 0, no_tree())
 }
 
 // Tests the buffers and the header in the order 6, 1, 2, 3, 4, 5, and starts the program: work memory and store are zeroed. A refused
@@ -87,5 +89,5 @@ pub fn open(rom: &[u8], work: &mut [u8], store: &mut [u8]) -> Stepped
     }
     clear_from(work, 0);
     clear_from(store, 0);
-    going(empty_state(program_length(rom), START, wide_start(rom), fresh_tree()))
+    going(empty_state(program_length(rom), START, wide_start(rom), 1, fresh_tree()))
 }

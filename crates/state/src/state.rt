@@ -23,13 +23,14 @@ pub struct Calls {
 // The program numbers, the oldest first: the number, its kind byte, its value (of b(:) the body's place, of b(variable) its address), and
 // the offset width in force where it was defined.
 pub struct Numbers {
-    pub names: [u32; 256],
+    pub programs: [u32; 256],
     pub kinds: [u8; 256],
     pub values: [u32; 256],
     pub wides: [bool; 256],
     pub count: usize,
 }
 
+// The active node is the one that properties go to, and the first is the one that the program started at, which no finish-device leaves.
 pub struct State {
     pub length: u32,
     pub place: u32,
@@ -40,5 +41,7 @@ pub struct State {
     pub calls: Calls,
     pub numbers: Numbers,
     pub work_place: u32,
+    pub active: u32,
+    pub first: u32,
     pub tree: Tree,
 }

@@ -21,10 +21,10 @@ abbrev pub ownerOf : Tree → ℕ → ℕ
 ownerOf t i = getD (t .owners) i 0
 
 abbrev pub nameSize : Tree → ℕ → ℕ
-nameSize t i = getD (t .names) i 0
+nameSize t i = getD (t .«name_sizes») i 0
 
 abbrev pub valueSize : Tree → ℕ → ℕ
-valueSize t i = getD (t .values) i 0
+valueSize t i = getD (t .«value_sizes») i 0
 
 -- the property of record i, whose bytes start at a place of the store
 abbrev pub propertyAt : Tree → List ℕ → ℕ → ℕ → Property
@@ -45,11 +45,11 @@ heldOf t store = heldFrom t store (t .held) 0 0
 
 -- the live bytes of so many records from record i on
 unfoldable pub liveAmong : List ℕ → List ℕ → ℕ → ℕ → ℕ
-liveAmong names values zero i = 0
-liveAmong names values (suc k) i = getD names i 0 + getD values i 0 + liveAmong names values k (i + 1)
+liveAmong nameSizes valueSizes zero i = 0
+liveAmong nameSizes valueSizes (suc k) i = getD nameSizes i 0 + getD valueSizes i 0 + liveAmong nameSizes valueSizes k (i + 1)
 
 abbrev pub liveFrom : Tree → ℕ → ℕ → ℕ
-liveFrom t k i = liveAmong (t .names) (t .values) k i
+liveFrom t k i = liveAmong (t .«name_sizes») (t .«value_sizes») k i
 
 abbrev pub liveOf : Tree → ℕ
 liveOf t = liveFrom t (t .held) 0

@@ -16,7 +16,7 @@ pub mod Rows
 pub mod Clean
 -- What writing a property comes to, refusal by refusal, and by the numbers of Steps where it has room.
 pub mod Puts
--- A whole tree stays whole: a child, the parent made active, a property written.
+-- A whole tree stays whole: a child; and the parent of a node is there.
 pub mod Kept
 -- Live bytes after a store of two lengths, and the node and the name that a record was found by.
 pub mod Lives

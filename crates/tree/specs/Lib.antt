@@ -2,6 +2,8 @@
 pub mod Held
 -- The tree's part of refusal 7.
 pub mod Whole
+-- A tree, by its fields.
+pub mod Tree
 -- Nodes: new-device and finish-device, refusal 20.
 pub mod Node
 -- Writing a property, 26 and 27.

@@ -49,11 +49,15 @@ pub struct Closed {
 }
 
 // The tail of records that are offered with their store.
-pub fn tail_of(names: &[u32; PROPERTIES_MOST], values: &[u32; PROPERTIES_MOST], held: usize) -> Tail
+pub fn tail_of(
+    name_sizes: &[u32; PROPERTIES_MOST],
+    value_sizes: &[u32; PROPERTIES_MOST],
+    held: usize,
+) -> Tail
     requires { ⌜ held ≤ 128 ⌝ }
-    ensures { λ r. ⌜ r ≡ tailOf (now (names .entry)) (now (values .entry)) held ⌝ }
+    ensures { λ r. ⌜ r ≡ tailOf (now («name_sizes» .entry)) (now («value_sizes» .entry)) held ⌝ }
 {
-    let live = live_bytes(names, values, held);
+    let live = live_bytes(name_sizes, value_sizes, held);
     Tail {
         live: live,
         zeros: STORE_SIZE,
@@ -112,24 +116,24 @@ fn replace(store: &mut [u8], tail: Tail, at: usize, old: usize, value: &[u8], nu
 fn find_among(
     store: &[u8],
     owners: &[u32; PROPERTIES_MOST],
-    names: &[u32; PROPERTIES_MOST],
-    values: &[u32; PROPERTIES_MOST],
+    name_sizes: &[u32; PROPERTIES_MOST],
+    value_sizes: &[u32; PROPERTIES_MOST],
     held: usize,
     node: u32,
     name: &[u8],
 ) -> Found
-    requires { ⌜ (held ≤ 128) × (liveAmong (now names) (now values) held 0 ≤ length (now store)) ⌝ }
-    ensures { λ r. ⌜ Finds (now (store .entry)) (now (owners .entry)) (now (names .entry)) (now (values .entry)) held
+    requires { ⌜ (held ≤ 128) × (liveAmong (now «name_sizes») (now «value_sizes») held 0 ≤ length (now store)) ⌝ }
+    ensures { λ r. ⌜ Finds (now (store .entry)) (now (owners .entry)) (now («name_sizes» .entry)) (now («value_sizes» .entry)) held
         node (now (name .entry)) r ⌝ }
 {
     let mut i = 0;
     let mut at = 0;
     while i < held {
-        let end = at + wide(names[i]);
+        let end = at + wide(name_sizes[i]);
         if is_named(store, owners[i], at, end, node, name) {
             return Found { index: i, at: at };
         }
-        at = end + wide(values[i]);
+        at = end + wide(value_sizes[i]);
         i += 1;
     }
     Found { index: i, at: at }
@@ -164,20 +168,21 @@ fn done_with(held: usize, live: usize) -> Kept
 fn add_property(
     store: &mut [u8],
     owners: &mut [u32; PROPERTIES_MOST],
-    names: &mut [u32; PROPERTIES_MOST],
-    values: &mut [u32; PROPERTIES_MOST],
+    name_sizes: &mut [u32; PROPERTIES_MOST],
+    value_sizes: &mut [u32; PROPERTIES_MOST],
     held: usize,
     tail: Tail,
-    active: u32,
+    node: u32,
     name: &[u8],
     value: &[u8],
     null: bool,
 ) -> Kept
-    requires { ⌜ Tallied (now store) (now names) (now values) held tail × (badName (now name) ≡ false) × (length (now value) ≤ 16384)
-        × Missing (now store) (now owners) (now names) (now values) held active (now name) ⌝ }
-    ensures { λ r. ⌜ Puts active (now (name .entry)) (valueOf (now (value .entry)) null)
-        (now (store .entry)) (now (owners .entry)) (now (names .entry)) (now (values .entry)) held
-        r (now (store .exit)) (now (owners .exit)) (now (names .exit)) (now (values .exit)) ⌝ }
+    requires { ⌜ Tallied (now store) (now «name_sizes») (now «value_sizes») held tail × (badName (now name) ≡ false)
+        × (length (now value) ≤ 16384)
+        × Missing (now store) (now owners) (now «name_sizes») (now «value_sizes») held node (now name) ⌝ }
+    ensures { λ r. ⌜ Puts node (now (name .entry)) (valueOf (now (value .entry)) null)
+        (now (store .entry)) (now (owners .entry)) (now («name_sizes» .entry)) (now («value_sizes» .entry)) held
+        r (now (store .exit)) (now (owners .exit)) (now («name_sizes» .exit)) (now («value_sizes» .exit)) ⌝ }
 {
     if PROPERTIES_MOST <= held {
         return refused_with(27, held, tail);
@@ -188,30 +193,30 @@ fn add_property(
         return refused_with(27, held, tail);
     }
     append(store, tail, name, value, null);
-    owners[held] = active;
-    names[held] = name.len() as u32;
-    values[held] = size as u32;
+    owners[held] = node;
+    name_sizes[held] = name.len() as u32;
+    value_sizes[held] = size as u32;
     done_with(held + 1, live)
 }
 
-// Writes a property of the active node. The value is the bytes given, and a null behind them where it is asked for. A record that is there
+// Writes a property of a node. The value is the bytes given, and a null behind them where it is asked for. A record that is there
 // keeps its node and name. It is lent the store and the records' arrays one by one, as they lie in a state that is taken apart.
 pub fn put_in(
     store: &mut [u8],
     owners: &mut [u32; PROPERTIES_MOST],
-    names: &mut [u32; PROPERTIES_MOST],
-    values: &mut [u32; PROPERTIES_MOST],
+    name_sizes: &mut [u32; PROPERTIES_MOST],
+    value_sizes: &mut [u32; PROPERTIES_MOST],
     held: usize,
     tail: Tail,
-    active: u32,
+    node: u32,
     name: &[u8],
     value: &[u8],
     null: bool,
 ) -> Kept
-    requires { ⌜ Tallied (now store) (now names) (now values) held tail ⌝ }
-    ensures { λ r. ⌜ Puts active (now (name .entry)) (valueOf (now (value .entry)) null)
-        (now (store .entry)) (now (owners .entry)) (now (names .entry)) (now (values .entry)) held
-        r (now (store .exit)) (now (owners .exit)) (now (names .exit)) (now (values .exit)) ⌝ }
+    requires { ⌜ Tallied (now store) (now «name_sizes») (now «value_sizes») held tail ⌝ }
+    ensures { λ r. ⌜ Puts node (now (name .entry)) (valueOf (now (value .entry)) null)
+        (now (store .entry)) (now (owners .entry)) (now («name_sizes» .entry)) (now («value_sizes» .entry)) held
+        r (now (store .exit)) (now (owners .exit)) (now («name_sizes» .exit)) (now («value_sizes» .exit)) ⌝ }
 {
     if bad_name(name) {
         return refused_with(26, held, tail);
@@ -219,30 +224,38 @@ pub fn put_in(
     if STORE_SIZE < value.len() {
         return refused_with(27, held, tail);
     }
-    let found = find_among(&*store, &*owners, &*names, &*values, held, active, name);
+    let found = find_among(
+        &*store,
+        &*owners,
+        &*name_sizes,
+        &*value_sizes,
+        held,
+        node,
+        name,
+    );
     let index = found.index;
     if index == held {
         return add_property(
             store,
             owners,
-            names,
-            values,
+            name_sizes,
+            value_sizes,
             held,
             tail,
-            active,
+            node,
             name,
             value,
             null,
         );
     }
     let size = size_of(value.len(), null);
-    let old = wide(values[index]);
+    let old = wide(value_sizes[index]);
     let live = tail.live - old + size;
     if STORE_SIZE < live {
         return refused_with(27, held, tail);
     }
     replace(store, tail, found.at + name.len(), old, value, null);
-    values[index] = size as u32;
+    value_sizes[index] = size as u32;
     done_with(held, live)
 }
 
@@ -271,11 +284,11 @@ pub fn open_child(parents: &mut [u32; NODES_MOST], nodes: usize, active: u32) ->
     }
 }
 
-// The parent becomes active; 20 at node 1.
-pub fn close_child(parents: &[u32; NODES_MOST], active: u32) -> Closed
-    ensures { λ r. ⌜ Closes (now (parents .entry)) active r ⌝ }
+// The parent becomes active; 20 at the first node.
+pub fn close_child(parents: &[u32; NODES_MOST], first: u32, active: u32) -> Closed
+    ensures { λ r. ⌜ Closes (now (parents .entry)) first active r ⌝ }
 {
-    if active == 1 {
+    if active == first {
         return Closed {
             outcome: Outcome::Refused(20),
             active: active,

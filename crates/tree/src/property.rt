@@ -128,11 +128,11 @@ pub fn find(store: &[u8], tree: Tree, node: u32, name: &[u8]) -> Found
     let mut i = 0;
     let mut at = 0;
     while i < tree.held {
-        let end = at + wide(tree.names[i]);
+        let end = at + wide(tree.name_sizes[i]);
         if is_named(store, tree.owners[i], at, end, node, name) {
             return Found { index: i, at: at };
         }
-        at = end + wide(tree.values[i]);
+        at = end + wide(tree.value_sizes[i]);
         i += 1;
     }
     Found { index: i, at: at }
@@ -161,7 +161,7 @@ pub fn value_size(tree: Tree, index: usize) -> usize
     ensures { λ r. ⌜ (r ≡ valueSize tree index) × (r < 4294967296) ⌝ }
 {
     if index < PROPERTIES_MOST {
-        wide(tree.values[index])
+        wide(tree.value_sizes[index])
     } else {
         0
     }
@@ -171,7 +171,7 @@ pub fn name_size(tree: Tree, index: usize) -> usize
     ensures { λ r. ⌜ r ≡ nameSize tree index ⌝ }
 {
     if index < PROPERTIES_MOST {
-        wide(tree.names[index])
+        wide(tree.name_sizes[index])
     } else {
         0
     }

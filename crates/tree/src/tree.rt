@@ -14,10 +14,9 @@ pub const NAME_MOST: usize = 31;
 pub struct Tree {
     pub parents: [u32; NODES_MOST],
     pub nodes: usize,
-    pub active: u32,
     pub owners: [u32; PROPERTIES_MOST],
-    pub names: [u32; PROPERTIES_MOST],
-    pub values: [u32; PROPERTIES_MOST],
+    pub name_sizes: [u32; PROPERTIES_MOST],
+    pub value_sizes: [u32; PROPERTIES_MOST],
     pub held: usize,
 }
 
@@ -73,16 +72,22 @@ fn is_sound(nodes: usize, owner: usize, name: usize, value: usize) -> bool
 fn all_sound(
     nodes: usize,
     owners: &[u32; PROPERTIES_MOST],
-    names: &[u32; PROPERTIES_MOST],
-    values: &[u32; PROPERTIES_MOST],
+    name_sizes: &[u32; PROPERTIES_MOST],
+    value_sizes: &[u32; PROPERTIES_MOST],
     held: usize,
 ) -> bool
     requires { ⌜ held ≤ 128 ⌝ }
-    ensures { λ r. ⌜ r ≡ everyBelow held (soundAmong nodes (now (owners .entry)) (now (names .entry)) (now (values .entry))) ⌝ }
+    ensures { λ r. ⌜ r
+        ≡ everyBelow held (soundAmong nodes (now (owners .entry)) (now («name_sizes» .entry)) (now («value_sizes» .entry))) ⌝ }
 {
     let mut i = 0;
     while i < held {
-        if !is_sound(nodes, wide(owners[i]), wide(names[i]), wide(values[i])) {
+        if !is_sound(
+            nodes,
+            wide(owners[i]),
+            wide(name_sizes[i]),
+            wide(value_sizes[i]),
+        ) {
             return false;
         }
         i += 1;
@@ -92,36 +97,30 @@ fn all_sound(
 
 // The live bytes. 128 lengths of 32 bits do not overflow, so the sum needs no lengths in their limits.
 pub fn live_bytes(
-    names: &[u32; PROPERTIES_MOST],
-    values: &[u32; PROPERTIES_MOST],
+    name_sizes: &[u32; PROPERTIES_MOST],
+    value_sizes: &[u32; PROPERTIES_MOST],
     held: usize,
 ) -> usize
     requires { ⌜ held ≤ 128 ⌝ }
-    ensures { λ r. ⌜ r ≡ liveAmong (now (names .entry)) (now (values .entry)) held 0 ⌝ }
+    ensures { λ r. ⌜ r ≡ liveAmong (now («name_sizes» .entry)) (now («value_sizes» .entry)) held 0 ⌝ }
 {
     let mut sum = 0;
     let mut i = 0;
     while i < held {
-        sum += wide(names[i]) + wide(values[i]);
+        sum += wide(name_sizes[i]) + wide(value_sizes[i]);
         i += 1;
     }
     sum
 }
 
-// Whether the counts are in their limits and the active node is there.
-fn counted(nodes: usize, active: usize, held: usize) -> bool
-    ensures { λ r. ⌜ r ≡ Whole·counted nodes active held ⌝ }
+// Whether the counts are in their limits.
+fn counted(nodes: usize, held: usize) -> bool
+    ensures { λ r. ⌜ r ≡ Whole·counted nodes held ⌝ }
 {
     if nodes < 2 {
         return false;
     }
     if NODES_MOST < nodes {
-        return false;
-    }
-    if active < 1 {
-        return false;
-    }
-    if nodes <= active {
         return false;
     }
     held <= PROPERTIES_MOST
@@ -131,7 +130,7 @@ fn counted(nodes: usize, active: usize, held: usize) -> bool
 pub fn is_whole(tree: Tree) -> bool
     ensures { λ r. ⌜ r ≡ wholeTree tree ⌝ }
 {
-    if !counted(tree.nodes, wide(tree.active), tree.held) {
+    if !counted(tree.nodes, tree.held) {
         return false;
     }
     let parents = tree.parents;
@@ -139,10 +138,10 @@ pub fn is_whole(tree: Tree) -> bool
         return false;
     }
     let owners = tree.owners;
-    let names = tree.names;
-    let values = tree.values;
-    if !all_sound(tree.nodes, &owners, &names, &values, tree.held) {
+    let name_sizes = tree.name_sizes;
+    let value_sizes = tree.value_sizes;
+    if !all_sound(tree.nodes, &owners, &name_sizes, &value_sizes, tree.held) {
         return false;
     }
-    live_bytes(&names, &values, tree.held) <= STORE_SIZE
+    live_bytes(&name_sizes, &value_sizes, tree.held) <= STORE_SIZE
 }

@@ -22,17 +22,17 @@ use Rattle.memory.specs.Cells.{fetchCellOf, fetchByteOf, cellRefusal, byteRefus
 use Rattle.memory.specs.declared.window.Fetched.{Fetched}
 use Rattle.tree.specs.declared.tree.Outcome.{Outcome}
 use Rattle.tree.specs.declared.tree.Outcome.the-variants.{Done, Refused as NotDone}
-use Rattle.tree.specs.Node.{Written}
+use Rattle.tree.specs.Node.{Written, Activated}
 use Rattle.tree.specs.declared.in_place.Tail.{Tail}
 use Rattle.tree.specs.Joints.Apart.{Tallied}
 use Rattle.tree.specs.Whole.{wholeTree}
-use Rattle.state.specs.State.{moved, movedTo, withNumbers, withWork, withTree}
-use Rattle.state.specs.Numbers.{isHeld, kindsOf, definedOf}
+use Rattle.state.specs.State.{moved, movedTo, withNumbers, withWork, withActive, withTree}
+use Rattle.state.specs.Numbers.{numbersOn, isHeld, kindsOf, definedOf}
 use Rattle.tokens.specs.Definition.{colon, constant, value, variable}
 use Rattle.state.specs.Scene.{scene, turn, handedBack}
 use Rattle.state.specs.Effects.{gave}
 use Rattle.state.specs.Joints.Moves.{stepped}
-use Rattle.state.specs.Joints.Apart.{numbersOn, Arrays, joined, backOn, handed, answerOf, onStack, onCalls, onNumbers, onNodes, onRecords, Moves}
+use Rattle.state.specs.Joints.Apart.{Arrays, joined, backOn, handed, answerOf, onStack, onCalls, onNumbers, onNodes, onRecords, Moves}
 use Rattle.state.specs.Step.{readyOf, doneOf}
 use Rattle.state.specs.Step.{tokenTurn as turnOf}
 use Rattle.state.specs.Joints.Tables.{slotsOf}
@@ -149,25 +149,27 @@ Assigns number c names kinds values k next r then =
 -- one number more: the numbers then, where the tables are of those before
 abbrev pub ByNumber : Numbers → Core → ℕ → ℕ → ℕ → Core → Numbers → Type 0
 ByNumber ns k number kind v r then =
-    (a : Arrays) → joined (onNumbers (then .names) (then .kinds) (then .values) (then .wides) a) r
-    ≡ withNumbers (joined (onNumbers (ns .names) (ns .kinds) (ns .values) (ns .wides) a) k) (definedOf ns number kind v (k .wide))
+    (a : Arrays) → joined (onNumbers (then .programs) (then .kinds) (then .values) (then .wides) a) r
+    ≡ withNumbers (joined (onNumbers (ns .programs) (ns .kinds) (ns .values) (ns .wides) a) k) (definedOf ns number kind v (k .wide))
 
 -- what a definition asks of them
 abbrev pub Definable : List ℕ → List ℕ → Numbers → Type 0
-Definable slots known ns = Tables slots known (ns .names) (ns .kinds) (ns .count) × (length (ns .names) ≡ 256) × (length (ns .kinds) ≡ 256)
+Definable slots known ns = Tables slots known (ns .programs) (ns .kinds) (ns .count) × (length (ns .programs) ≡ 256)
+    × (length (ns .kinds) ≡ 256)
 
 -- and what it leaves, of the arrays and of the tables
 abbrev pub Adds : Numbers → Core → Handed → Numbers → List ℕ → List ℕ → (State → Stepped → Type 0) → Type 0
 Adds ns k r then slots known P =
-    Moves (onNumbers (ns .names) (ns .kinds) (ns .values) (ns .wides)) k r (onNumbers (then .names) (then .kinds) (then .values) (then .wides)) P
-    × Tables slots known (then .names) (then .kinds) (then .count)
+    Moves (onNumbers (ns .programs) (ns .kinds) (ns .values) (ns .wides)) k r
+    (onNumbers (then .programs) (then .kinds) (then .values) (then .wides)) P
+    × Tables slots known (then .programs) (then .kinds) (then .count)
 
 -- the same where the data stack is looked at
 abbrev pub AddsFrom : List ℕ → Numbers → Core → Handed → Numbers → List ℕ → List ℕ → (State → Stepped → Type 0) → Type 0
 AddsFrom cells ns k r then slots known P =
-    Moves (λ a. onNumbers (ns .names) (ns .kinds) (ns .values) (ns .wides) (onStack cells a)) k r
-    (λ a. onNumbers (then .names) (then .kinds) (then .values) (then .wides) (onStack cells a)) P
-    × Tables slots known (then .names) (then .kinds) (then .count)
+    Moves (λ a. onNumbers (ns .programs) (ns .kinds) (ns .values) (ns .wides) (onStack cells a)) k r
+    (λ a. onNumbers (then .programs) (then .kinds) (then .values) (then .wides) (onStack cells a)) P
+    × Tables slots known (then .programs) (then .kinds) (then .count)
 
 -- none of them
 abbrev pub asTheyAre : Arrays → Arrays
@@ -194,6 +196,7 @@ filedCore k place height records =
       «work_place» = k .«work_place»;
       nodes = k .nodes;
       active = k .active;
+      first = k .first;
       records = records;
     }
 
@@ -218,6 +221,10 @@ outcomeOn st on (NotDone why) = stepped (Refused why) st
 
 abbrev pub keptOn : State → State → ℕ → Written → Stepped
 keptOn st taken next w = outcomeOn st (withTree (movedTo taken next) (w .tree)) (w .outcome)
+
+-- the same of a node that is opened or closed, with the active node then
+abbrev pub activeOn : State → ℕ → Activated → Stepped
+activeOn st next w = outcomeOn st (withTree (withActive (movedTo st next) (w .active)) (w .tree)) (w .outcome)
 
 -- ---- what `@` and `!` and their like ask of memory, by the token's number
 abbrev pub ofCell : ℕ → Bool

@@ -1,6 +1,5 @@
--- A state taken apart, and put together again: its numbers are a `Core`, its arrays are lists by themselves. A state's fields stand here and in State, and
--- nowhere else. Records are equal when their fields are, so that what is put together from a state's own parts is that state, by computing. Assumes
--- nothing.
+-- A state taken apart, and put together again: its numbers are a `Core`, its arrays are lists by themselves. Records are equal when their
+-- fields are, so that what is put together from a state's own parts is that state, by computing. Assumes nothing.
 use Prim.Native.Nat.{ℕ, _-_}
 use mathlib.Core.Path.{_≡_, refl}
 use mathlib.Core.Bool.{Bool}
@@ -8,9 +7,10 @@ use mathlib.Core.List.{List}
 use lib.Dec.{ltb}
 use lib.ListN.{getD}
 use Rattle.cells.specs.Choice.{pick}
+use Rattle.tree.specs.Tree.{treeOf}
 use Rattle.state.specs.Joints.Moves.{Popped, popped, stepped, popOf}
-use Rattle.state.specs.State.{baseOf}
-use Rattle.state.specs.declared.state.Numbers.{Numbers}
+use Rattle.state.specs.State.{stateOf, callsOn}
+use Rattle.state.specs.Numbers.{numbersOn}
 use Rattle.state.specs.declared.state.State.{State}
 use Rattle.state.specs.declared.answer.Answer.{Answer}
 use Rattle.state.specs.declared.answer.Answer.the-variants.{Going, Finished, Refused}
@@ -28,50 +28,38 @@ pub record Arrays : Type 0 where
   pub places : List ℕ
   pub wides : List Bool
   pub bases : List ℕ
-  pub names : List ℕ
+  pub programs : List ℕ
   pub kinds : List ℕ
   pub values : List ℕ
   pub ways : List Bool
   pub parents : List ℕ
   pub owners : List ℕ
-  pub titles : List ℕ
-  pub sizes : List ℕ
+  pub nameSizes : List ℕ
+  pub valueSizes : List ℕ
 
 abbrev pub arrays : List ℕ → List ℕ → List ℕ → List Bool → List ℕ → List ℕ → List ℕ → List ℕ → List Bool → List ℕ → List ℕ → List ℕ → List ℕ → Arrays
-arrays cells back places wides bases names kinds values ways parents owners titles sizes =
+arrays cells back places wides bases programs kinds values ways parents owners nameSizes valueSizes =
     record {
       cells = cells;
       back = back;
       places = places;
       wides = wides;
       bases = bases;
-      names = names;
+      programs = programs;
       kinds = kinds;
       values = values;
       ways = ways;
       parents = parents;
       owners = owners;
-      titles = titles;
-      sizes = sizes;
+      nameSizes = nameSizes;
+      valueSizes = valueSizes;
     }
 
 abbrev pub arraysOf : State → Arrays
 arraysOf st =
-    record {
-      cells = st .stack .cells;
-      back = st .back .cells;
-      places = st .calls .places;
-      wides = st .calls .wides;
-      bases = st .calls .bases;
-      names = st .numbers .names;
-      kinds = st .numbers .kinds;
-      values = st .numbers .values;
-      ways = st .numbers .wides;
-      parents = st .tree .parents;
-      owners = st .tree .owners;
-      titles = st .tree .names;
-      sizes = st .tree .values;
-    }
+    arrays (st .stack .cells) (st .back .cells) (st .calls .places) (st .calls .wides) (st .calls .bases) (st .numbers .programs)
+    (st .numbers .kinds) (st .numbers .values) (st .numbers .wides) (st .tree .parents) (st .tree .owners) (st .tree .«name_sizes»)
+    (st .tree .«value_sizes»)
 
 abbrev pub coreOf : State → Core
 coreOf st =
@@ -86,38 +74,18 @@ coreOf st =
       held = st .numbers .count;
       «work_place» = st .«work_place»;
       nodes = st .tree .nodes;
-      active = st .tree .active;
+      active = st .active;
+      first = st .first;
       records = st .tree .held;
     }
-
--- the program numbers of these arrays
-abbrev pub numbersOn : List ℕ → List ℕ → List ℕ → List Bool → ℕ → Numbers
-numbersOn names kinds values ways held = record { names = names; kinds = kinds; values = values; wides = ways; count = held }
 
 -- the state that has these arrays and these numbers
 abbrev pub joined : Arrays → Core → State
 joined a k =
-    record {
-      length = k .length;
-      place = k .place;
-      wide = k .wide;
-      finished = k .finished;
-      stack = record { cells = a .cells; height = k .height };
-      back = record { cells = a .back; height = k .returns };
-      calls = record { places = a .places; wides = a .wides; bases = a .bases; count = k .frames };
-      numbers = numbersOn (a .names) (a .kinds) (a .values) (a .ways) (k .held);
-      «work_place» = k .«work_place»;
-      tree =
-          record {
-            parents = a .parents;
-            nodes = k .nodes;
-            active = k .active;
-            owners = a .owners;
-            names = a .titles;
-            values = a .sizes;
-            held = k .records;
-          };
-    }
+    stateOf (k .length) (k .place) (k .wide) (k .finished) (record { cells = a .cells; height = k .height })
+    (record { cells = a .back; height = k .returns }) (callsOn (a .places) (a .wides) (a .bases) (k .frames))
+    (numbersOn (a .programs) (a .kinds) (a .values) (a .ways) (k .held)) (k .«work_place») (k .active) (k .first)
+    (treeOf (a .parents) (k .nodes) (a .owners) (a .nameSizes) (a .valueSizes) (k .records))
 
 -- taken apart and put together it is itself
 pub joined-again : (st : State) → joined (arraysOf st) (coreOf st) ≡ st
@@ -126,93 +94,28 @@ joined-again st = refl
 -- ---- a state's arrays with those of one owner others
 abbrev pub onStack : List ℕ → Arrays → Arrays
 onStack cells a =
-    record {
-      cells = cells;
-      back = a .back;
-      places = a .places;
-      wides = a .wides;
-      bases = a .bases;
-      names = a .names;
-      kinds = a .kinds;
-      values = a .values;
-      ways = a .ways;
-      parents = a .parents;
-      owners = a .owners;
-      titles = a .titles;
-      sizes = a .sizes;
-    }
+    arrays cells (a .back) (a .places) (a .wides) (a .bases) (a .programs) (a .kinds) (a .values) (a .ways) (a .parents) (a .owners)
+    (a .nameSizes) (a .valueSizes)
 
 abbrev pub onCalls : List ℕ → List Bool → List ℕ → Arrays → Arrays
 onCalls places wides bases a =
-    record {
-      cells = a .cells;
-      back = a .back;
-      places = places;
-      wides = wides;
-      bases = bases;
-      names = a .names;
-      kinds = a .kinds;
-      values = a .values;
-      ways = a .ways;
-      parents = a .parents;
-      owners = a .owners;
-      titles = a .titles;
-      sizes = a .sizes;
-    }
+    arrays (a .cells) (a .back) places wides bases (a .programs) (a .kinds) (a .values) (a .ways) (a .parents) (a .owners) (a .nameSizes)
+    (a .valueSizes)
 
 abbrev pub onNumbers : List ℕ → List ℕ → List ℕ → List Bool → Arrays → Arrays
-onNumbers names kinds values ways a =
-    record {
-      cells = a .cells;
-      back = a .back;
-      places = a .places;
-      wides = a .wides;
-      bases = a .bases;
-      names = names;
-      kinds = kinds;
-      values = values;
-      ways = ways;
-      parents = a .parents;
-      owners = a .owners;
-      titles = a .titles;
-      sizes = a .sizes;
-    }
+onNumbers programs kinds values ways a =
+    arrays (a .cells) (a .back) (a .places) (a .wides) (a .bases) programs kinds values ways (a .parents) (a .owners) (a .nameSizes)
+    (a .valueSizes)
 
 abbrev pub onNodes : List ℕ → Arrays → Arrays
 onNodes parents a =
-    record {
-      cells = a .cells;
-      back = a .back;
-      places = a .places;
-      wides = a .wides;
-      bases = a .bases;
-      names = a .names;
-      kinds = a .kinds;
-      values = a .values;
-      ways = a .ways;
-      parents = parents;
-      owners = a .owners;
-      titles = a .titles;
-      sizes = a .sizes;
-    }
+    arrays (a .cells) (a .back) (a .places) (a .wides) (a .bases) (a .programs) (a .kinds) (a .values) (a .ways) parents (a .owners)
+    (a .nameSizes) (a .valueSizes)
 
 abbrev pub onRecords : List ℕ → List ℕ → List ℕ → Arrays → Arrays
-onRecords owners titles sizes a =
-    record {
-      cells = a .cells;
-      back = a .back;
-      places = a .places;
-      wides = a .wides;
-      bases = a .bases;
-      names = a .names;
-      kinds = a .kinds;
-      values = a .values;
-      ways = a .ways;
-      parents = a .parents;
-      owners = owners;
-      titles = titles;
-      sizes = sizes;
-    }
+onRecords owners nameSizes valueSizes a =
+    arrays (a .cells) (a .back) (a .places) (a .wides) (a .bases) (a .programs) (a .kinds) (a .values) (a .ways) (a .parents) owners
+    nameSizes valueSizes
 
 -- ---- what is handed back
 abbrev pub handed : Told → Core → Handed

@@ -8,7 +8,7 @@ pub mod Whole
 pub mod Open
 -- What is known of a token that may stand where it stands, by the token list and by its bytes.
 pub mod Token
--- What new-device, finish-device and a property's writing leave beside a whole tree, which is the tree's own law: the arrays' lengths, and that no node but node 1 is a child of the root.
+-- What new-device, finish-device and a property's writing leave beside a whole tree, which is the tree's own law: the arrays' lengths, and that no node younger than the first has a parent older than it.
 pub mod Tree
 -- What is left of whole call frames and program numbers when one is added, changed or taken away; and what is known of a number that is defined.
 pub mod Parts

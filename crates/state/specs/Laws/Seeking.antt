@@ -22,21 +22,22 @@ abbrev pub putKind : List ℕ → ℕ → ℕ → List ℕ
 putKind kinds n kind = pick (isProgram n) (set kinds (n - 0x800) kind) kinds
 
 -- ---- seeking
-pub found : (names : List ℕ) (n k i : ℕ) → i < k → getD names i 0 ≡ n → seekFrom names n (k - i) i ≡ i
+pub found : (programs : List ℕ) (n k i : ℕ) → i < k → getD programs i 0 ≡ n → seekFrom programs n (k - i) i ≡ i
 unfolding seekFrom
-found names n k i h e =
+found programs n k i h e =
     let s : k - i ≡ suc (k - (i + 1)) = omega arith in
-    rw s (when-true i (seekFrom names n (k - (i + 1)) (i + 1)) (eqb (getD names i 0) n) (eq-eqb _ _ e))
+    rw s (when-true i (seekFrom programs n (k - (i + 1)) (i + 1)) (eqb (getD programs i 0) n) (eq-eqb _ _ e))
 
-pub passed : (names : List ℕ) (n k i : ℕ) → i < k → (getD names i 0 ≡ n → ⊥) → seekFrom names n (k - i) i ≡ seekFrom names n (k - (i + 1)) (i + 1)
+pub passed : (programs : List ℕ) (n k i : ℕ) → i < k → (getD programs i 0 ≡ n → ⊥)
+    → seekFrom programs n (k - i) i ≡ seekFrom programs n (k - (i + 1)) (i + 1)
 unfolding seekFrom
-passed names n k i h e =
+passed programs n k i h e =
     let s : k - i ≡ suc (k - (i + 1)) = omega arith in
-    rw s (when-false i (seekFrom names n (k - (i + 1)) (i + 1)) (eqb (getD names i 0) n) (ne-eqb _ _ e))
+    rw s (when-false i (seekFrom programs n (k - (i + 1)) (i + 1)) (eqb (getD programs i 0) n) (ne-eqb _ _ e))
 
-pub sought : (names : List ℕ) (n k i : ℕ) → k ≤ i → i ≤ k → seekFrom names n (k - i) i ≡ i
+pub sought : (programs : List ℕ) (n k i : ℕ) → k ≤ i → i ≤ k → seekFrom programs n (k - i) i ≡ i
 unfolding seekFrom
-sought names n k i h l =
+sought programs n k i h l =
     let s : k - i ≡ 0 = omega arith in
     rw s
 
@@ -73,19 +74,24 @@ zeros-listed zero n = refl
 zeros-listed (suc k) n = ap (λ (l : List ℕ). 0 ∷ l) (zeros-listed k (n + 1))
 
 none-held : (f : ℕ → ℕ) (ns : Numbers) (n : ℕ) → holdsFrom f ns (ns .count) n ≡ 0
-none-held f ns n = rw (sought (ns .names) n (ns .count) (ns .count) (omega arith) (omega arith), le-ltb (ns .count) (ns .count) (omega arith))
+none-held f ns n =
+    rw (
+      sought (ns .programs) n (ns .count) (ns .count) (omega arith) (omega arith),
+      le-ltb (ns .count) (ns .count) (omega arith),
+    )
 
 -- before any is put down
 pub table-none : (f : ℕ → ℕ) (ns : Numbers) → replicate 2048 0 ≡ tablePast f ns (ns .count)
 table-none f ns = zeros-listed 2048 0x800 ∙ same-listed 2048 0x800 (λ m. 0) (holdsFrom f ns (ns .count)) (λ m l h. sym (none-held f ns m))
 
 -- the entry i is put down after those above it
-step-held : (f : ℕ → ℕ) (ns : Numbers) (i n : ℕ) → i < ns .count → holdsFrom f ns i n ≡ pick (eqb (getD (ns .names) i 0) n) (f i) (holdsFrom f ns (i + 1) n)
-step-held f ns i n h = cases (eqb (getD (ns .names) i 0) n) refl
+step-held : (f : ℕ → ℕ) (ns : Numbers) (i n : ℕ) → i < ns .count
+    → holdsFrom f ns i n ≡ pick (eqb (getD (ns .programs) i 0) n) (f i) (holdsFrom f ns (i + 1) n)
+step-held f ns i n h = cases (eqb (getD (ns .programs) i 0) n) refl
   where
-    cases : (b : Bool) → eqb (getD (ns .names) i 0) n ≡ b → holdsFrom f ns i n ≡ pick b (f i) (holdsFrom f ns (i + 1) n)
-    cases true e = rw (found (ns .names) n (ns .count) i h (eqb-true _ _ e), lt-ltb i (ns .count) h)
-    cases false e = rw (passed (ns .names) n (ns .count) i h (eqb-false _ _ e))
+    cases : (b : Bool) → eqb (getD (ns .programs) i 0) n ≡ b → holdsFrom f ns i n ≡ pick b (f i) (holdsFrom f ns (i + 1) n)
+    cases true e = rw (found (ns .programs) n (ns .count) i h (eqb-true _ _ e), lt-ltb i (ns .count) h)
+    cases false e = rw (passed (ns .programs) n (ns .count) i h (eqb-false _ _ e))
 
 put-listed : (n v : ℕ) (f g : ℕ → ℕ) → ((m : ℕ) → g m ≡ pick (eqb n m) v (f m)) → putKind (tableFrom 2048 0x800 f) n v ≡ tableFrom 2048 0x800 g
 put-listed n v f g a = cases (isProgram n) refl
@@ -103,10 +109,11 @@ put-listed n v f g a = cases (isProgram n) refl
 
 -- one turn of the loop that fills a table, the youngest entry first
 pub table-down : (f : ℕ → ℕ) (ns : Numbers) (i name v : ℕ) (was is : List ℕ) → 1 ≤ i → i ≤ ns .count → was ≡ tablePast f ns i
-    → name ≡ getD (ns .names) (i - 1) 0 → v ≡ f (i - 1) → is ≡ putKind was name v → is ≡ tablePast f ns (i - 1)
+    → name ≡ getD (ns .programs) (i - 1) 0 → v ≡ f (i - 1) → is ≡ putKind was name v → is ≡ tablePast f ns (i - 1)
 table-down f ns i name v was is l h w n k p =
     let e : i - 1 + 1 ≡ i = omega arith in
-    let q = put-listed (getD (ns .names) (i - 1) 0) (f (i - 1)) (holdsFrom f ns (i - 1 + 1)) (holdsFrom f ns (i - 1)) (λ m. step-held f ns (i - 1) m (omega arith)) in
+    let q = put-listed (getD (ns .programs) (i - 1) 0) (f (i - 1)) (holdsFrom f ns (i - 1 + 1)) (holdsFrom f ns (i - 1))
+    (λ m. step-held f ns (i - 1) m (omega arith)) in
     p ∙ rw (w, n, k) (rw e at q)
 
 -- ---- one number more, which is new
@@ -114,36 +121,38 @@ table-down f ns i name v was is l h w n k p =
 abbrev grown : ℕ → ℕ → ℕ → ℕ → ℕ
 grown count n m s = pick (ltb s count) s (pick (eqb n m) count (count + 1))
 
-seek-grown : (names : List ℕ) (n m count k i : ℕ) → i + k ≡ count → count < length names
-    → seekFrom (set names count n) m (suc k) i ≡ grown count n m (seekFrom names m k i)
+seek-grown : (programs : List ℕ) (n m count k i : ℕ) → i + k ≡ count → count < length programs
+    → seekFrom (set programs count n) m (suc k) i ≡ grown count n m (seekFrom programs m k i)
 unfolding seekFrom
-seek-grown names n m count zero i e h = by (eqb n m) refl
+seek-grown programs n m count zero i e h = by (eqb n m) refl
   where
     z : i ≡ count
     z = omega arith
 
-    by : (b : Bool) → eqb n m ≡ b → seekFrom (set names count n) m 1 i ≡ grown count n m i
+    by : (b : Bool) → eqb n m ≡ b → seekFrom (set programs count n) m 1 i ≡ grown count n m i
     by true q =
-        when-true i (i + 1) (eqb (getD (set names count n) i 0) m) (rw (z, getD-set-same names count n 0 h) q)
+        when-true i (i + 1) (eqb (getD (set programs count n) i 0) m) (rw (z, getD-set-same programs count n 0 h) q)
         ∙ rw (z, le-ltb count count (omega arith), q)
     by false q =
-        when-false i (i + 1) (eqb (getD (set names count n) i 0) m) (rw (z, getD-set-same names count n 0 h) q)
+        when-false i (i + 1) (eqb (getD (set programs count n) i 0) m) (rw (z, getD-set-same programs count n 0 h) q)
         ∙ rw (z, le-ltb count count (omega arith), q)
-seek-grown names n m count (suc k) i e h = by (eqb (getD names i 0) m) refl (seek-grown names n m count k (i + 1) (omega arith) h)
+seek-grown programs n m count (suc k) i e h = by (eqb (getD programs i 0) m) refl (seek-grown programs n m count k (i + 1) (omega arith) h)
   where
-    other : getD (set names count n) i 0 ≡ getD names i 0
-    other = getD-set-other names count i n 0 (λ q. omega arith)
+    other : getD (set programs count n) i 0 ≡ getD programs i 0
+    other = getD-set-other programs count i n 0 (λ q. omega arith)
 
-    by : (b : Bool) → eqb (getD names i 0) m ≡ b → seekFrom (set names count n) m (suc k) (i + 1) ≡ grown count n m (seekFrom names m k (i + 1))
-        → seekFrom (set names count n) m (suc (suc k)) i ≡ grown count n m (seekFrom names m (suc k) i)
+    by : (b : Bool) → eqb (getD programs i 0) m ≡ b
+        → seekFrom (set programs count n) m (suc k) (i + 1) ≡ grown count n m (seekFrom programs m k (i + 1))
+        → seekFrom (set programs count n) m (suc (suc k)) i ≡ grown count n m (seekFrom programs m (suc k) i)
     by true q g =
-        when-true i (seekFrom (set names count n) m (suc k) (i + 1)) (eqb (getD (set names count n) i 0) m) (rw other q)
-        ∙ sym (ap (grown count n m) (when-true i (seekFrom names m k (i + 1)) (eqb (getD names i 0) m) q) ∙ rw (lt-ltb i count (omega arith)))
+        when-true i (seekFrom (set programs count n) m (suc k) (i + 1)) (eqb (getD (set programs count n) i 0) m) (rw other q)
+        ∙ sym (ap (grown count n m) (when-true i (seekFrom programs m k (i + 1)) (eqb (getD programs i 0) m) q)
+        ∙ rw (lt-ltb i count (omega arith)))
     by false q g =
-        when-false i (seekFrom (set names count n) m (suc k) (i + 1)) (eqb (getD (set names count n) i 0) m) (rw other q)
-        ∙ g ∙ sym (ap (grown count n m) (when-false i (seekFrom names m k (i + 1)) (eqb (getD names i 0) m) q))
+        when-false i (seekFrom (set programs count n) m (suc k) (i + 1)) (eqb (getD (set programs count n) i 0) m) (rw other q)
+        ∙ g ∙ sym (ap (grown count n m) (when-false i (seekFrom programs m k (i + 1)) (eqb (getD programs i 0) m) q))
 
-module _ (f g : ℕ → ℕ) (ns : Numbers) (n kind v : ℕ) (wide : Bool) (h : ns .count < length (ns .names)) (e : isHeld ns n ≡ false)
+module _ (f g : ℕ → ℕ) (ns : Numbers) (n kind v : ℕ) (wide : Bool) (h : ns .count < length (ns .programs)) (e : isHeld ns n ≡ false)
     (a : (j : ℕ) → j < ns .count → g j ≡ f j) where
   abbrev defined : Numbers
   defined = definedOf ns n kind v wide
@@ -151,10 +160,10 @@ module _ (f g : ℕ → ℕ) (ns : Numbers) (n kind v : ℕ) (wide : Bool) (h : 
   held-defined : (m : ℕ) → holdsFrom g defined 0 m ≡ pick (eqb n m) (g (ns .count)) (holdsFrom f ns 0 m)
   held-defined m = by (ltb (seekOf ns m) (ns .count)) (eqb n m) refl refl
     where
-      at : seekFrom (set (ns .names) (ns .count) n) m (ns .count + 1 - 0) 0 ≡ grown (ns .count) n m (seekOf ns m)
+      at : seekFrom (set (ns .programs) (ns .count) n) m (ns .count + 1 - 0) 0 ≡ grown (ns .count) n m (seekOf ns m)
       at =
           let z : ns .count + 1 - 0 ≡ suc (ns .count) = omega arith in
-          rw z (seek-grown (ns .names) n m (ns .count) (ns .count) 0 (omega arith) h)
+          rw z (seek-grown (ns .programs) n m (ns .count) (ns .count) 0 (omega arith) h)
 
       was : ns .count - 0 ≡ ns .count
       was = omega arith

@@ -16,7 +16,7 @@ pub record SizedCalls (calls : Calls) : Type 0 where
   pub bases : length (calls .bases) ≡ framesMost
 
 pub record SizedNumbers (ns : Numbers) : Type 0 where
-  pub names : length (ns .names) ≡ numbersMost
+  pub programs : length (ns .programs) ≡ numbersMost
   pub kinds : length (ns .kinds) ≡ numbersMost
   pub values : length (ns .values) ≡ numbersMost
   pub wides : length (ns .wides) ≡ numbersMost
@@ -35,6 +35,6 @@ fresh-sized rom =
       stack = refl;
       back = refl;
       calls = record { places = refl; wides = refl; bases = refl };
-      numbers = record { names = refl; kinds = refl; values = refl; wides = refl };
-      tree = record { parents = refl; owners = refl; names = refl; values = refl };
+      numbers = record { programs = refl; kinds = refl; values = refl; wides = refl };
+      tree = record { parents = refl; owners = refl; nameSizes = refl; valueSizes = refl };
     }

@@ -1,19 +1,18 @@
 -- The laws of steps and runs: a refused step changes nothing, a finished state stays, a step of a ready state is its token, and a run asks what it asks
 -- of a state once. Assumes nothing.
-use Prim.Native.Nat.{ℕ, zero, suc, _+_}
+use Prim.Native.Nat.{ℕ, zero, suc, _+_, _≤_}
 use native.Mathlib.Omega.{arith}
 use mathlib.Core.Path.{_≡_, refl, ap, subst, _∙_, sym}
 use mathlib.Core.Bool.{Bool, true, false}
 use mathlib.Core.List.{List, [], _∷_}
 use lib.ListN.{length}
-use lib.Dec.{eqb}
+use lib.Dec.{leb, eqb}
 use Rattle.cells.specs.Laws.Tests.{when-is}
 use Rattle.tokens.specs.Code.{familyIn}
 use Rattle.tokens.specs.Place.{readOf}
 use Rattle.tokens.specs.declared.decoding.Token.{Token}
 use Rattle.tokens.specs.declared.read.Read.{Read}
 use Rattle.tokens.specs.declared.read.Read.the-variants.{Refused as Unread, Good}
-use Rattle.tree.specs.Laws.Trees.{Nodes}
 use Rattle.tree.specs.Laws.Kept.{whole-is as tree-whole}
 use Rattle.tokens.specs.Definition.{colon, kindIn, value, variable}
 use Rattle.state.specs.State.{isOpen}
@@ -23,7 +22,7 @@ use Rattle.state.specs.Refusals.{refusalOf}
 use Rattle.state.specs.Effects.{effects, nothing, actOf, defines, colons, values, variables, calls}
 use Rattle.state.specs.Step.{readyOf, doneOf, readTurn, tokenTurn, knownTurn, stepOf}
 use Rattle.state.specs.Laws.Keeps.Tests.{find-at, _▸_}
-use Rattle.state.specs.Laws.Keeps.Whole.{whole-facts, ready-facts, not-going, not-finished, root-active, whole-is, parts-whole}
+use Rattle.state.specs.Laws.Keeps.Whole.{whole-facts, ready-facts, not-going, not-finished, whole-is, parts-whole}
 use Rattle.state.specs.Laws.Keeps.Whole.{ready-is, facts-ready, Rooted}
 use Rattle.state.specs.Laws.Keeps.Step.{token-keeps}
 use Rattle.state.specs.Laws.Keeps.Open.{opened, opened-ready, fresh-rooted}
@@ -31,9 +30,8 @@ use Rattle.rom.specs.Sizes.{storeSize}
 use Rattle.rom.specs.Header.{headerOf}
 use Rattle.state.specs.Laws.Sized.{Sized, fresh-sized}
 use Rattle.state.specs.Run.{RunResult, ended, then, runOn, unless, runFrom, runOf}
-use Rattle.tree.specs.declared.tree.Tree.{Tree}
 use Rattle.tree.specs.Whole.{wholeTree}
-use borrow.Author.Tests.{eqb-true, eqb-false, ne-eqb}
+use borrow.Author.Tests.{ne-eqb, le-leb}
 use Rattle.cells.specs.Choice.{pick}
 use Rattle.state.specs.declared.state.State.{State}
 use Rattle.state.specs.declared.answer.Answer.{Answer}
@@ -130,27 +128,28 @@ same-after (Spent m) n s f g h = refl
 
 -- what is known before a token after another was carried out
 abbrev pub watchedOf : State → Answer
-watchedOf st = pick (eqb (st .tree .active) 0) (Refused 7) Going
+watchedOf st = pick (eqb (st .active) 0) (Refused 7) Going
 
 -- tokens alone, but for that
 unfoldable pub watchedFrom : ℕ → ℕ → Scene → RunResult
 watchedFrom zero n s = unless (watchedOf (s .state)) n s (ended (Spent n) n s)
 watchedFrom (suc k) n s =
-    elim (eqb (s .state .tree .active) 0) [
+    elim (eqb (s .state .active) 0) [
       | true ↦ ended (Refused 7) n s
       | false ↦ runOn (tokenTurn s .answer) n (then s (tokenTurn s)) (λ to. watchedFrom k (n + 1) to)
     ]
 
--- a step keeps a state whole where no node but node 1 is a child of the root
-pub keeps : (s : Scene) → Sized (s .state) → Rooted (s .state .tree) → readyOf s ≡ Going → tokenTurn s .answer ≡ Going
-    → (readyOf (then s (tokenTurn s)) ≡ Going) × Sized (tokenTurn s .state) × Rooted (tokenTurn s .state .tree)
+-- a step keeps a state whole where no node younger than the first has a parent older than it
+pub keeps : (s : Scene) → Sized (s .state) → Rooted (s .state) → readyOf s ≡ Going → tokenTurn s .answer ≡ Going
+    → (readyOf (then s (tokenTurn s)) ≡ Going) × Sized (tokenTurn s .state) × Rooted (tokenTurn s .state)
 keeps s z r e g =
     let k = token-keeps s z e g in
     let a = k .rooted r in
-    (facts-ready (then s (tokenTurn s)) (k .lent) (parts-whole (tokenTurn s .state) (k .parts) (a .0)), k .sized, a .1)
+    let h : 1 ≤ tokenTurn s .state .active = omega (arith, a .0, k .parts .first-least) in
+    (facts-ready (then s (tokenTurn s)) (k .lent) (parts-whole (tokenTurn s .state) (k .parts) h), k .sized, a)
 
 -- what a run does from a ready state on is what its tokens do
-pub run-tokens : (k n : ℕ) (s : Scene) → Sized (s .state) → Rooted (s .state .tree) → readyOf s ≡ Going → runFrom k n s ≡ tokensFrom k n s
+pub run-tokens : (k n : ℕ) (s : Scene) → Sized (s .state) → Rooted (s .state) → readyOf s ≡ Going → runFrom k n s ≡ tokensFrom k n s
 unfolding runFrom tokensFrom
 run-tokens zero n s z r e = rw e
 run-tokens (suc k) n s z r e =
@@ -162,22 +161,19 @@ run-tokens (suc k) n s z r e =
 pub keeps-watched : (s : Scene) → Sized (s .state) → readyOf s ≡ Going → tokenTurn s .answer ≡ Going
     → (readyOf (then s (tokenTurn s)) ≡ watchedOf (tokenTurn s .state)) × Sized (tokenTurn s .state)
 keeps-watched s z e g =
-    let k = token-keeps s z e g in (
-      ready-is (then s (tokenTurn s)) (k .lent) ∙ rw (whole-is (tokenTurn s .state) (k .parts)) (by (tokenTurn s .state .tree) (k .parts .tree)
-          (eqb (tokenTurn s .state .tree .active) 0) refl),
-      k .sized,
-    )
+    let k = token-keeps s z e g in
+    (ready-is (then s (tokenTurn s)) (k .lent) ∙ rw (whole-is (tokenTurn s .state) (k .parts)) (by (tokenTurn s .state .active)), k .sized)
   where
-    by : (t : Tree) → Nodes t → (b : Bool) → eqb (t .active) 0 ≡ b → pick (wholeTree t) Going (Refused 7) ≡ pick (eqb (t .active) 0) (Refused 7) Going
-    by t p true e = rw (root-active t (eqb-true (t .active) 0 e), e)
-    by t p false e = let n = eqb-false (t .active) 0 e in rw (tree-whole t (record { nodes = p; active-least = omega arith }), e)
+    by : (active : ℕ) → pick (leb 1 active) Going (Refused 7) ≡ pick (eqb active 0) (Refused 7) Going
+    by zero = refl
+    by (suc n) = rw (le-leb 1 (suc n) (omega arith), ne-eqb (suc n) 0 (λ e. omega arith))
 
 pub run-watched : (k n : ℕ) (s : Scene) → Sized (s .state) → readyOf s ≡ watchedOf (s .state) → runFrom k n s ≡ watchedFrom k n s
 unfolding runFrom watchedFrom
 run-watched zero n s z e = rw e
-run-watched (suc k) n s z e = by (eqb (s .state .tree .active) 0) refl (λ to z e. run-watched k (n + 1) to z e)
+run-watched (suc k) n s z e = by (eqb (s .state .active) 0) refl (λ to z e. run-watched k (n + 1) to z e)
   where
-    by : (b : Bool) → eqb (s .state .tree .active) 0 ≡ b
+    by : (b : Bool) → eqb (s .state .active) 0 ≡ b
         → ((to : Scene) → Sized (to .state) → readyOf to ≡ watchedOf (to .state) → runFrom k (n + 1) to ≡ watchedFrom k (n + 1) to)
         → runFrom (suc k) n s ≡ watchedFrom (suc k) n s
     by true q f = let r : readyOf s ≡ Refused 7 = e ∙ rw q in rw (r, q, runFrom, watchedFrom)
@@ -203,7 +199,7 @@ run-known (suc k) n s (Spent m) e h = rw (e, runFrom)
 ready-watched : (s : Scene) → readyOf s ≡ Going → readyOf s ≡ watchedOf (s .state)
 ready-watched s e =
     let a = whole-facts (s .state) (ready-facts s e .1) .1 in
-    e ∙ sym (rw (ne-eqb (s .state .tree .active) 0 (λ z. omega arith)))
+    e ∙ sym (rw (ne-eqb (s .state .active) 0 (λ z. omega arith)))
 
 -- A run asks everything of its state once, and after each token whether the root is active.
 pub run-once : (k n : ℕ) (s : Scene) → Sized (s .state) → runFrom k n s ≡ unless (readyOf s) n s (watchedFrom k n s)
@@ -220,7 +216,7 @@ run-once k n s z = by (readyOf s) refl
 
 -- of an opened ROM it is its tokens alone
 pub run-opened : (budget : ℕ) (rom : List ℕ) → headerOf rom ≡ 0 → runOf budget (opened rom) ≡ tokensFrom budget 0 (opened rom)
-run-opened budget rom e = run-tokens budget 0 (opened rom) (fresh-sized rom) fresh-rooted (opened-ready rom e)
+run-opened budget rom e = run-tokens budget 0 (opened rom) (fresh-sized rom) (fresh-rooted rom) (opened-ready rom e)
 
 -- ---- what the run of an opened ROM leaves, however it ends: a tree that is whole, and a store of its size
 pub record Left (o : RunResult) : Type 0 where
@@ -231,19 +227,20 @@ ready-left : (a : Answer) (n : ℕ) (s : Scene) → readyOf s ≡ Going → Left
 ready-left a n s e =
     let f = ready-facts s e in
     let w = whole-facts (s .state) (f .1) in
-    record { tree = tree-whole (s .state .tree) (record { nodes = w .0 .tree; active-least = w .1 }); store = f .0 .store }
+    record { tree = tree-whole (s .state .tree) (w .0 .tree); store = f .0 .store }
 
 same-left : (a : Answer) (n : ℕ) (s : Scene) (r : Turn) → readyOf s ≡ Going → Same s r → Left (ended a n (then s r))
 same-left a n s r e k =
     let l = ready-left a n s e in
     record { tree = ap wholeTree (k .0) ∙ l .tree; store = ap length (k .1) ∙ l .store }
 
-tokens-left : (k n : ℕ) (s : Scene) → Sized (s .state) → Rooted (s .state .tree) → readyOf s ≡ Going → Left (tokensFrom k n s)
+tokens-left : (k n : ℕ) (s : Scene) → Sized (s .state) → Rooted (s .state) → readyOf s ≡ Going → Left (tokensFrom k n s)
 unfolding tokensFrom
 tokens-left zero n s z r e = ready-left (Spent n) n s e
 tokens-left (suc k) n s z r e = by (tokenTurn s .answer) refl (λ to y q f. tokens-left k (n + 1) to y q f)
   where
-    by : (a : Answer) → tokenTurn s .answer ≡ a → ((to : Scene) → Sized (to .state) → Rooted (to .state .tree) → readyOf to ≡ Going → Left (tokensFrom k (n + 1) to))
+    by : (a : Answer) → tokenTurn s .answer ≡ a
+        → ((to : Scene) → Sized (to .state) → Rooted (to .state) → readyOf to ≡ Going → Left (tokensFrom k (n + 1) to))
         → Left (tokensFrom (suc k) n s)
     by Going g f = let h = keeps s z r e g in rw (g, tokensFrom) (f (then s (tokenTurn s)) (h .1) (h .2) (h .0))
     by Finished g f = rw (g, tokensFrom) (same-left Finished (n + 1) s (tokenTurn s) e (subst (FairRun s (tokenTurn s)) g (token-fair s)))
@@ -253,4 +250,6 @@ tokens-left (suc k) n s z r e = by (tokenTurn s .answer) refl (λ to y q f. toke
     by (Spent m) g f = rw (g, tokensFrom) (same-left (Spent m) n s (tokenTurn s) e (subst (FairRun s (tokenTurn s)) g (token-fair s)))
 
 pub run-left : (budget : ℕ) (rom : List ℕ) → headerOf rom ≡ 0 → Left (runOf budget (opened rom))
-run-left budget rom e = rw (run-opened budget rom e) (tokens-left budget 0 (opened rom) (fresh-sized rom) fresh-rooted (opened-ready rom e))
+run-left budget rom e =
+    rw (run-opened budget rom e)
+    (tokens-left budget 0 (opened rom) (fresh-sized rom) (fresh-rooted rom) (opened-ready rom e))

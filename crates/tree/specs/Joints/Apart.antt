@@ -8,7 +8,8 @@ use lib.ListN.{length, getD}
 use Rattle.rom.specs.Sizes.{propertiesMost, storeSize}
 use Rattle.tree.specs.Held.{liveAmong, foundFrom}
 use Rattle.tree.specs.Whole.{wholeTree}
-use Rattle.tree.specs.Node.{Written, newDeviceOf, finishDeviceOf}
+use Rattle.tree.specs.Tree.{onRecords, onNodes}
+use Rattle.tree.specs.Node.{Written, activated, newDeviceOf, finishDeviceOf}
 use Rattle.tree.specs.Property.{putOf, storeOf}
 use Rattle.tree.specs.declared.tree.Tree.{Tree}
 use Rattle.tree.specs.declared.tree.Outcome.{Outcome}
@@ -18,34 +19,6 @@ use Rattle.tree.specs.declared.in_place.Tail.{Tail}
 use Rattle.tree.specs.declared.in_place.Kept.{Kept}
 use Rattle.tree.specs.declared.in_place.Opened.{Opened}
 use Rattle.tree.specs.declared.in_place.Closed.{Closed}
-
--- ---- a tree put together: its records, its nodes, or its active node from elsewhere, the rest as it is
-abbrev pub onRecords : Tree → List ℕ → List ℕ → List ℕ → ℕ → Tree
-onRecords t owners names values held =
-    record {
-      parents = t .parents;
-      nodes = t .nodes;
-      active = t .active;
-      owners = owners;
-      names = names;
-      values = values;
-      held = held;
-    }
-
-abbrev pub onNodes : Tree → List ℕ → ℕ → ℕ → Tree
-onNodes t parents nodes active =
-    record {
-      parents = parents;
-      nodes = nodes;
-      active = active;
-      owners = t .owners;
-      names = t .names;
-      values = t .values;
-      held = t .held;
-    }
-
-abbrev pub atNode : Tree → ℕ → Tree
-atNode t active = onNodes t (t .parents) (t .nodes) active
 
 -- what a call in place gives, with the tree that is put together then
 abbrev pub writtenAs : Outcome → Tree → Written
@@ -65,7 +38,7 @@ Clean memory at = (k : ℕ) → at ≤ k → getD memory k 0 ≡ 0
 
 -- the tail of records whose store nothing is known of
 abbrev pub tailOf : List ℕ → List ℕ → ℕ → Tail
-tailOf names values held = record { live = liveAmong names values held 0; zeros = storeSize }
+tailOf nameSizes valueSizes held = record { live = liveAmong nameSizes valueSizes held 0; zeros = storeSize }
 
 -- the store is zero from the tail's place on, which lies between the live end and the store's
 abbrev pub EndsAs : List ℕ → Tail → Type 0
@@ -73,34 +46,35 @@ EndsAs store tail = (tail .live ≤ tail .zeros) × (tail .zeros ≤ length stor
 
 -- the tail says how many live bytes the records have, and is the store's
 abbrev pub Tallied : List ℕ → List ℕ → List ℕ → ℕ → Tail → Type 0
-Tallied store names values held tail =
-    (length store ≡ storeSize) × (length names ≡ propertiesMost) × (length values ≡ propertiesMost) × (held ≤ propertiesMost)
-    × (tail .live ≡ liveAmong names values held 0) × EndsAs store tail
+Tallied store nameSizes valueSizes held tail =
+    (length store ≡ storeSize) × (length nameSizes ≡ propertiesMost) × (length valueSizes ≡ propertiesMost) × (held ≤ propertiesMost)
+    × (tail .live ≡ liveAmong nameSizes valueSizes held 0) × EndsAs store tail
 
 -- ---- what the calls in place come to
 -- where the record of a node and a name stands among the lent ones; one that is missing stands behind them all
 abbrev pub Finds : List ℕ → List ℕ → List ℕ → List ℕ → ℕ → ℕ → List ℕ → Found → Type 0
-Finds store owners names values held node name found =
-    (t : Tree) → found ≡ foundFrom (onRecords t owners names values held) store node name held 0 0
+Finds store owners nameSizes valueSizes held node name found =
+    (t : Tree) → found ≡ foundFrom (onRecords t owners nameSizes valueSizes held) store node name held 0 0
 
 abbrev pub Missing : List ℕ → List ℕ → List ℕ → List ℕ → ℕ → ℕ → List ℕ → Type 0
-Missing store owners names values held node name =
-    (t : Tree) → foundFrom (onRecords t owners names values held) store node name held 0 0 .index ≡ held
+Missing store owners nameSizes valueSizes held node name =
+    (t : Tree) → foundFrom (onRecords t owners nameSizes valueSizes held) store node name held 0 0 .index ≡ held
 
--- a property is written: the records, the store and the tail behind, from those before
+-- a property of a node is written: the records, the store and the tail behind, from those before
 abbrev pub Puts : ℕ → List ℕ → List ℕ → List ℕ → List ℕ → List ℕ → List ℕ → ℕ → Kept → List ℕ → List ℕ → List ℕ → List ℕ → Type 0
-Puts active name value store owners names values held r store′ owners′ names′ values′ =
-    ((t : Tree) → let before = onRecords (atNode t active) owners names values held in
+Puts node name value store owners nameSizes valueSizes held r store′ owners′ nameSizes′ valueSizes′ =
+    ((t : Tree) → let before = onRecords t owners nameSizes valueSizes held in
     wholeTree before ≡ true
-    → (writtenAs (r .outcome) (onRecords (atNode t active) owners′ names′ values′ (r .held)) ≡ putOf before store name value)
-    × (store′ ≡ storeOf before store name value))
-    × Tallied store′ names′ values′ (r .held) (r .tail)
+    → (writtenAs (r .outcome) (onRecords t owners′ nameSizes′ valueSizes′ (r .held)) ≡ putOf before store node name value)
+    × (store′ ≡ storeOf before store node name value))
+    × Tallied store′ nameSizes′ valueSizes′ (r .held) (r .tail)
 
 -- a node is opened, and the active one is closed
 abbrev pub Opens : List ℕ → ℕ → ℕ → Opened → List ℕ → Type 0
 Opens parents nodes active r parents′ =
-    (t : Tree) → writtenAs (r .outcome) (onNodes t parents′ (r .nodes) (r .active)) ≡ newDeviceOf (onNodes t parents nodes active)
+    (t : Tree) → activated (r .outcome) (onNodes t parents′ (r .nodes)) (r .active) ≡ newDeviceOf (onNodes t parents nodes) active
 
-abbrev pub Closes : List ℕ → ℕ → Closed → Type 0
-Closes parents active r =
-    (t : Tree) (nodes : ℕ) → writtenAs (r .outcome) (onNodes t parents nodes (r .active)) ≡ finishDeviceOf (onNodes t parents nodes active)
+abbrev pub Closes : List ℕ → ℕ → ℕ → Closed → Type 0
+Closes parents first active r =
+    (t : Tree) (nodes : ℕ)
+    → activated (r .outcome) (onNodes t parents nodes) (r .active) ≡ finishDeviceOf (onNodes t parents nodes) first active

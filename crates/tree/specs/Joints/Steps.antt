@@ -12,8 +12,8 @@ use Rattle.tree.specs.Held.{nameSize, valueSize, foundFrom}
 use Rattle.tree.specs.declared.tree.Tree.{Tree}
 use Rattle.tree.specs.declared.property.Found.{Found}
 
-abbrev pub foundOf : Tree → List ℕ → List ℕ → Found
-foundOf t store name = foundFrom t store (t .active) name (t .held) 0 0
+abbrev pub foundOf : Tree → List ℕ → ℕ → List ℕ → Found
+foundOf t store node name = foundFrom t store node name (t .held) 0 0
 
 abbrev pub sizeOf : ℕ → Bool → ℕ
 sizeOf count null = pick null (count + 1) count

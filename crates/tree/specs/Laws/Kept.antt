@@ -1,4 +1,4 @@
--- A whole tree stays whole: a child, the parent made active, a property written. Assumes nothing.
+-- A whole tree stays whole: a child; and the parent of a node is there. Assumes nothing.
 use Prim.Native.Nat.{ℕ, zero, suc, _+_, _-_, _≤_, _<_}
 use native.Mathlib.Omega.{arith}
 use native.Mathlib.Decide.{decLe}
@@ -9,28 +9,27 @@ use mathlib.Core.Path.{_≡_}
 use lib.ListN.{length, getD, set, List·getD-eq-default}
 use lib.Seq.{set-out, getD-set-same, getD-set-other}
 use lib.Dec.{T, leb, ltb, ltb→lt, lt→ltb}
-use borrow.Author.Tests.{le-leb, lt-ltb, leb-false}
+use borrow.Author.Tests.{le-leb, leb-false}
 use Rattle.cells.specs.Laws.Facts.{is-true, four-hold, join-four}
 use Rattle.tree.specs.Held.{liveOf}
 use Rattle.tree.specs.Whole.{everyBelow, parentOf, older, olderAmong, sound, soundWith, counted, wholeTree}
-use Rattle.tree.specs.Node.{noRoom, childOf, finishedOf, newDeviceOf}
-use Rattle.tree.specs.Laws.Trees.{Nodes, Whole, whole-facts, every-all, older-child}
+use Rattle.tree.specs.Node.{noRoom, childOf, newDeviceOf}
+use Rattle.tree.specs.Laws.Trees.{Whole, whole-facts, every-all, older-child}
 use Rattle.tree.specs.Laws.Layout.{either}
 use Rattle.tree.specs.declared.tree.Tree.{Tree}
 
-pub counted-is : (nodes active held : ℕ) → 2 ≤ nodes → nodes ≤ 32 → 1 ≤ active → active < nodes → held ≤ 128 → counted nodes active held ≡ true
-counted-is nodes active held a b c d e = rw (le-leb 2 nodes a, le-leb nodes 32 b, le-leb 1 active c, lt-ltb active nodes d, le-leb held 128 e)
+pub counted-is : (nodes held : ℕ) → 2 ≤ nodes → nodes ≤ 32 → held ≤ 128 → counted nodes held ≡ true
+counted-is nodes held a b c = rw (le-leb 2 nodes a, le-leb nodes 32 b, le-leb held 128 c)
 
 pub whole-is : (t : Tree) → Whole t → wholeTree t ≡ true
 unfolding wholeTree
 whole-is t w =
-    let n = w .nodes in
     rw (
-      counted-is (t .nodes) (t .active) (t .held) (n .nodes-least) (n .nodes-most) (w .active-least) (n .active-there) (n .held-most),
-      is-true (everyBelow (t .nodes) (older t)) (every-all (t .nodes) (older t) (n .parents-older)),
-      is-true (everyBelow (t .held) (sound t)) (every-all (t .held) (sound t) (n .records-sound)),
+      counted-is (t .nodes) (t .held) (w .nodes-least) (w .nodes-most) (w .held-most),
+      is-true (everyBelow (t .nodes) (older t)) (every-all (t .nodes) (older t) (w .parents-older)),
+      is-true (everyBelow (t .held) (sound t)) (every-all (t .held) (sound t) (w .records-sound)),
     )
-    (le-leb (liveOf t) 16384 (n .live-most))
+    (le-leb (liveOf t) 16384 (w .live-most))
 
 -- what a store into a list leaves
 older-kept : (ps : List ℕ) (i a k : ℕ) → k ≢ i → olderAmong (set ps i a) k ≡ olderAmong ps k
@@ -50,56 +49,38 @@ sound-more n m o a v h t =
     let l = ltb→lt o n x in
     join-four (ltb o m) (leb 1 a) (leb a 31) (leb v 16384) (lt→ltb o m (omega arith)) b c d
 
-module _ (t : Tree) (w : Whole t) where
-  -- "the new node is active"
-  pub child-nodes : noRoom t ≡ false → Whole (childOf t)
-  child-nodes r =
-      let n = w .nodes in
+module _ (t : Tree) (active : ℕ) (there : active < t .nodes) where
+  -- a child of a node that is there
+  pub child-whole : Whole t → noRoom t ≡ false → Whole (childOf t active)
+  child-whole w r =
       let b = leb-false 32 (t .nodes) r in
+      let parents = set (t .parents) (t .nodes) active in
       record {
-        nodes = record {
-          nodes-least = omega (arith, n .nodes-least);
-          nodes-most = omega (arith, b);
-          active-there = omega arith;
-          held-most = n .held-most;
-          parents-older = λ k h.
-              elim (decLe (t .nodes) k) [
-                | yes g ↦ let q : k ≡ t .nodes = omega arith in
-                    let m = at-most (t .parents) (t .nodes) (t .active) in
-                    let z = n .nodes-least in
-                    let y = n .active-there in
-                    rw (q, older-child (set (t .parents) (t .nodes) (t .active)) (t .nodes) (λ x. omega arith)) (lt→ltb (getD (set (t .parents) (t .nodes) (t .active)) (t .nodes) 0) (t .nodes) (omega arith))
-                | no g ↦ rw (older-kept (t .parents) (t .nodes) (t .active) k (λ x. omega arith)) (n .parents-older k (omega arith))
-              ];
-          records-sound = λ i h. sound-more (t .nodes) (t .nodes + 1) (getD (t .owners) i 0) (getD (t .names) i 0) (getD (t .values) i 0) (omega arith) (n .records-sound i h);
-          live-most = n .live-most;
-        };
-        active-least = omega (arith, n .nodes-least);
+        nodes-least = omega (arith, w .nodes-least);
+        nodes-most = omega (arith, b);
+        held-most = w .held-most;
+        parents-older = λ k h.
+            elim (decLe (t .nodes) k) [
+              | yes g ↦ let q : k ≡ t .nodes = omega arith in
+                  let m = at-most (t .parents) (t .nodes) active in
+                  let z = w .nodes-least in
+                  rw (q, older-child parents (t .nodes) (λ x. omega arith)) (lt→ltb (getD parents (t .nodes) 0) (t .nodes) (omega arith))
+              | no g ↦ rw (older-kept (t .parents) (t .nodes) active k (λ x. omega arith)) (w .parents-older k (omega arith))
+            ];
+        records-sound = λ i h.
+            sound-more (t .nodes) (t .nodes + 1) (getD (t .owners) i 0) (getD (t .«name_sizes») i 0) (getD (t .«value_sizes») i 0)
+            (omega arith) (w .records-sound i h);
+        live-most = w .live-most;
       }
-
-  -- "a parent not older than its node (the root's is 0)" leaves it open that a node above 1 has the root as its parent; then the root would be active
-  pub finished-nodes : Nodes (finishedOf t)
-  finished-nodes =
-      let n = w .nodes in
-      let a = w .active-least in
-      let b = n .active-there in
-      let o = n .parents-older (t .active) b in
-      let l : T (ltb (parentOf t (t .active)) (t .active)) = rw (older-child (t .parents) (t .active) (λ x. omega arith)) at o in
-      let c = ltb→lt (parentOf t (t .active)) (t .active) l in
-      record {
-        nodes-least = n .nodes-least;
-        nodes-most = n .nodes-most;
-        active-there = omega arith;
-        held-most = n .held-most;
-        parents-older = n .parents-older;
-        records-sound = n .records-sound;
-        live-most = n .live-most;
-      }
-
-module _ (t : Tree) (e : wholeTree t ≡ true) where
-  pub finished-whole : 1 ≤ parentOf t (t .active) → wholeTree (finishedOf t) ≡ true
-  finished-whole p = whole-is (finishedOf t) (record { nodes = finished-nodes t (whole-facts t e); active-least = p })
 
   -- whatever new-device gives
-  pub new-kept : wholeTree (newDeviceOf t .tree) ≡ true
-  new-kept = either (noRoom t) (λ r. rw r e) (λ r. rw r (whole-is (childOf t) (child-nodes t (whole-facts t e) r)))
+  pub new-kept : wholeTree t ≡ true → wholeTree (newDeviceOf t active .tree) ≡ true
+  new-kept e = either (noRoom t) (λ r. rw r e) (λ r. rw r (whole-is (childOf t active) (child-whole (whole-facts t e) r)))
+
+-- "a parent not older than its node (the root's is 0)": finish-device comes to a node that is there. It leaves it open that a node above 1
+-- has the root as its parent; then the root becomes active.
+pub parent-there : (t : Tree) (active : ℕ) → Whole t → 1 ≤ active → active < t .nodes → parentOf t active < active
+parent-there t active w a b =
+    let o = w .parents-older active b in
+    let l : T (ltb (parentOf t active) active) = rw (older-child (t .parents) active (λ x. omega arith)) at o in
+    ltb→lt (parentOf t active) active l

@@ -16,40 +16,51 @@ use Rattle.tree.specs.Held.{ownerOf, nameSize, valueSize, liveAmong, liv
 use Rattle.tree.specs.Laws.Layout.{either}
 use Rattle.tree.specs.declared.tree.Tree.{Tree}
 
-module _ (names values : List ℕ) (i n v : ℕ) where
-  pub live-outside-low : (k j : ℕ) → j + k ≤ i → liveAmong (set names i n) (set values i v) k j ≡ liveAmong names values k j
+module _ (nameSizes valueSizes : List ℕ) (i n v : ℕ) where
+  pub live-outside-low : (k j : ℕ) → j + k ≤ i → liveAmong (set nameSizes i n) (set valueSizes i v) k j ≡ liveAmong nameSizes valueSizes k j
   unfolding liveAmong
   live-outside-low zero j h = refl
   live-outside-low (suc k) j h =
-      rw (getD-set-other names i j n 0 (λ e. omega arith), getD-set-other values i j v 0 (λ e. omega arith), live-outside-low k (j + 1) (omega arith))
+      rw (
+        getD-set-other nameSizes i j n 0 (λ e. omega arith),
+        getD-set-other valueSizes i j v 0 (λ e. omega arith),
+        live-outside-low k (j + 1) (omega arith),
+      )
 
-  pub live-outside-high : (k j : ℕ) → i < j → liveAmong (set names i n) (set values i v) k j ≡ liveAmong names values k j
+  pub live-outside-high : (k j : ℕ) → i < j → liveAmong (set nameSizes i n) (set valueSizes i v) k j ≡ liveAmong nameSizes valueSizes k j
   unfolding liveAmong
   live-outside-high zero j h = refl
   live-outside-high (suc k) j h =
-      rw (getD-set-other names i j n 0 (λ e. omega arith), getD-set-other values i j v 0 (λ e. omega arith), live-outside-high k (j + 1) (omega arith))
+      rw (
+        getD-set-other nameSizes i j n 0 (λ e. omega arith),
+        getD-set-other valueSizes i j v 0 (λ e. omega arith),
+        live-outside-high k (j + 1) (omega arith),
+      )
 
-  module _ (f : i < length names) (g : i < length values) where
+  module _ (f : i < length nameSizes) (g : i < length valueSizes) where
     pub live-inside : (k j : ℕ) → j ≤ i → i < j + k
-        → liveAmong (set names i n) (set values i v) k j + (getD names i 0 + getD values i 0) ≡ liveAmong names values k j + (n + v)
+        → liveAmong (set nameSizes i n) (set valueSizes i v) k j + (getD nameSizes i 0 + getD valueSizes i 0)
+        ≡ liveAmong nameSizes valueSizes k j + (n + v)
     unfolding liveAmong
     live-inside zero j h l = absurd (omega arith)
     live-inside (suc k) j h l =
         elim (decLe i j) [
           | yes p ↦ let e : j ≡ i = omega arith in
-              rw (e, getD-set-same names i n 0 f, getD-set-same values i v 0 g, live-outside-high k (i + 1) (omega arith)) (omega arith)
+              rw (e, getD-set-same nameSizes i n 0 f, getD-set-same valueSizes i v 0 g, live-outside-high k (i + 1) (omega arith))
+              (omega arith)
           | no p ↦ let r = live-inside k (j + 1) (omega arith) (omega arith) in
-              rw (getD-set-other names i j n 0 (λ e. omega arith), getD-set-other values i j v 0 (λ e. omega arith)) (omega arith)
+              rw (getD-set-other nameSizes i j n 0 (λ e. omega arith), getD-set-other valueSizes i j v 0 (λ e. omega arith)) (omega arith)
         ]
 
-    pub live-behind : (k j : ℕ) → i ≡ j + k → liveAmong (set names i n) (set values i v) (suc k) j ≡ liveAmong names values k j + (n + v)
+    pub live-behind : (k j : ℕ) → i ≡ j + k → liveAmong (set nameSizes i n) (set valueSizes i v) (suc k) j
+        ≡ liveAmong nameSizes valueSizes k j + (n + v)
     unfolding liveAmong
     live-behind zero j e =
         let d : j ≡ i = omega arith in
-        rw (d, getD-set-same names i n 0 f, getD-set-same values i v 0 g) (omega arith)
+        rw (d, getD-set-same nameSizes i n 0 f, getD-set-same valueSizes i v 0 g) (omega arith)
     live-behind (suc k) j e =
         let r = live-behind k (j + 1) (omega arith) in
-        rw (getD-set-other names i j n 0 (λ d. omega arith), getD-set-other values i j v 0 (λ d. omega arith)) (omega arith)
+        rw (getD-set-other nameSizes i j n 0 (λ d. omega arith), getD-set-other valueSizes i j v 0 (λ d. omega arith)) (omega arith)
 
 -- names that are the same have one length
 pub same-length : (a b : List ℕ) → sameBytes a b ≡ true → length a ≡ length b

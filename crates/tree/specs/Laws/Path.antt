@@ -307,7 +307,7 @@ module _ (t : Tree) (store path : List ℕ) where
       either (eqb (length store) 16384)
       (λ a. let z = eqb-true (length store) 16384 a in
       either (wholeTree t)
-      (λ w. let f = whole-facts t w .nodes in let l = f .live-most in record { held-most = f .held-most; live-most = omega arith })
+      (λ w. let f = whole-facts t w in let l = f .live-most in record { held-most = f .held-most; live-most = omega arith })
       (λ w. let f = sym (node-damaged z w) ∙ e in let x : _≡_ {A = ℕ} 0 1 = cc in absurd (omega arith)))
       (λ a. let f = sym (node-size (eqb-false (length store) 16384 a)) ∙ e in let x : _≡_ {A = ℕ} 0 1 = cc in absurd (omega arith))
 
@@ -368,7 +368,7 @@ module _ (t : Tree) (store : List ℕ) (node : ℕ) (name : List ℕ) where
       unfolding ownValueOf
       own-there at size p =
           let v = place-value t store node name at size p in
-          let l = whole-facts t w .nodes .live-most in
+          let l = whole-facts t w .live-most in
           let a = v .0 in
           (omega arith, rw (eq-eqb (length store) 16384 e, w, v .1))
 

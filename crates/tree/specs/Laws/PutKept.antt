@@ -27,29 +27,29 @@ use Rattle.tree.specs.declared.tree.Tree.{Tree}
 pub record SizedTree (t : Tree) : Type 0 where
   pub parents : length (t .parents) ≡ 32
   pub owners : length (t .owners) ≡ 128
-  pub names : length (t .names) ≡ 128
-  pub values : length (t .values) ≡ 128
+  pub nameSizes : length (t .«name_sizes») ≡ 128
+  pub valueSizes : length (t .«value_sizes») ≡ 128
 
 -- what is known of a call that is not refused, as far as the tree and the store go by it
-pub record Accepted (t : Tree) (s name value : List ℕ) : Type 0 where
+pub record Accepted (t : Tree) (s : List ℕ) (node : ℕ) (name value : List ℕ) : Type 0 where
   pub size : length s ≡ 16384
   pub whole : Whole t
   pub least : 1 ≤ length name
   pub most : length name ≤ 31
-  pub roomy : overfull (wouldHold t s name value) ≡ false
+  pub roomy : overfull (wouldHold t s node name value) ≡ false
 
-pub accepted : (t : Tree) (s name value : List ℕ) → putRefusal t s name value ≡ 0 → Accepted t s name value
-accepted t s name value e =
+pub accepted : (t : Tree) (s : List ℕ) (node : ℕ) (name value : List ℕ) → putRefusal t s node name value ≡ 0 → Accepted t s node name value
+accepted t s node name value e =
     either (eqb (length s) 16384)
     (λ a. let z = eqb-true (length s) 16384 a in
     either (wholeTree t)
     (λ w.
-    either (badName name) (λ b. let x = sym (misnamed t s name value z w b) ∙ e in absurd (omega arith))
+    either (badName name) (λ b. let x = sym (misnamed t s node name value z w b) ∙ e in absurd (omega arith))
     (λ b.
-    either (overfull (wouldHold t s name value)) (λ o. let x = sym (no-room t s name value z w b o) ∙ e in absurd (omega arith))
+    either (overfull (wouldHold t s node name value)) (λ o. let x = sym (no-room t s node name value z w b o) ∙ e in absurd (omega arith))
     (λ o. let d = name-facts name b in record { size = z; whole = whole-facts t w; least = d .0; most = d .1; roomy = o })))
-    (λ w. let x = sym (damaged t s name value z w) ∙ e in absurd (omega arith)))
-    (λ a. let x = sym (wrong-size t s name value (eqb-false (length s) 16384 a)) ∙ e in absurd (omega arith))
+    (λ w. let x = sym (damaged t s node name value z w) ∙ e in absurd (omega arith)))
+    (λ a. let x = sym (wrong-size t s node name value (eqb-false (length s) 16384 a)) ∙ e in absurd (omega arith))
 
 -- one record more, or the same
 held-most : (i h : ℕ) → i < 128 → h ≤ 128 → pick (eqb i h) (h + 1) h ≤ 128
@@ -63,47 +63,52 @@ held-below i h j l n =
 sound-is : (n o a v : ℕ) → o < n → 1 ≤ a → a ≤ 31 → v ≤ 16384 → T (soundWith n o a v)
 sound-is n o a v f g h k = join-four (ltb o n) (leb 1 a) (leb a 31) (leb v 16384) (lt→ltb o n f) (le→leb 1 a g) (le→leb a 31 h) (le→leb v 16384 k)
 
-module _ (t : Tree) (z : SizedTree t) (i n v : ℕ) where
-  pub live-new : i ≡ t .held → i < 128 → liveOf (recordedOf t i n v) ≡ liveOf t + (n + v)
+module _ (t : Tree) (z : SizedTree t) (i node n v : ℕ) where
+  pub live-new : i ≡ t .held → i < 128 → liveOf (recordedOf t i node n v) ≡ liveOf t + (n + v)
   unfolding recordedOf
   live-new e h =
-      let f = z .names in
-      let g = z .values in
+      let f = z .nameSizes in
+      let g = z .valueSizes in
       let d : t .held + 1 ≡ suc (t .held) = omega arith in
-      rw (eq-eqb i (t .held) e, d) (live-behind (t .names) (t .values) i n v (omega arith) (omega arith) (t .held) 0 (omega arith))
+      rw (eq-eqb i (t .held) e, d) (live-behind (t .«name_sizes») (t .«value_sizes») i n v (omega arith) (omega arith) (t .held) 0
+      (omega arith))
 
-  pub live-old : i < t .held → i < 128 → liveOf (recordedOf t i n v) + (nameSize t i + valueSize t i) ≡ liveOf t + (n + v)
+  pub live-old : i < t .held → i < 128 → liveOf (recordedOf t i node n v) + (nameSize t i + valueSize t i) ≡ liveOf t + (n + v)
   unfolding recordedOf
   live-old e h =
-      let f = z .names in
-      let g = z .values in
-      rw (ne-eqb i (t .held) (λ d. omega arith)) (live-inside (t .names) (t .values) i n v (omega arith) (omega arith) (t .held) 0 (omega arith) (omega arith))
+      let f = z .nameSizes in
+      let g = z .valueSizes in
+      rw (ne-eqb i (t .held) (λ d. omega arith))
+      (live-inside (t .«name_sizes») (t .«value_sizes») i n v (omega arith) (omega arith) (t .held) 0 (omega arith) (omega arith))
 
-  pub recorded-whole : Whole t → i < 128 → 1 ≤ n → n ≤ 31 → v ≤ 16384 → liveOf (recordedOf t i n v) ≤ 16384 → Whole (recordedOf t i n v)
+  pub recorded-whole : Whole t → node < t .nodes → i < 128 → 1 ≤ n → n ≤ 31 → v ≤ 16384 → liveOf (recordedOf t i node n v) ≤ 16384
+      → Whole (recordedOf t i node n v)
   unfolding recordedOf
-  recorded-whole w h f g k l =
-      let m = w .nodes in
+  recorded-whole w there h f g k l =
       let zo = z .owners in
-      let zn = z .names in
-      let zv = z .values in
+      let zn = z .nameSizes in
+      let zv = z .valueSizes in
       record {
-        nodes = record {
-          nodes-least = m .nodes-least;
-          nodes-most = m .nodes-most;
-          active-there = m .active-there;
-          held-most = held-most i (t .held) h (m .held-most);
-          parents-older = m .parents-older;
-          records-sound = λ j b.
-              either (eqb j i)
-              (λ q. let d = eqb-true j i q in
-              rw (d, getD-set-same (t .owners) i (t .active) 0 (omega arith), getD-set-same (t .names) i n 0 (omega arith), getD-set-same (t .values) i v 0 (omega arith))
-              (sound-is (t .nodes) (t .active) n v (m .active-there) f g k))
-              (λ q. let d = eqb-false j i q in
-              rw (getD-set-other (t .owners) i j (t .active) 0 d, getD-set-other (t .names) i j n 0 d, getD-set-other (t .values) i j v 0 d)
-              (m .records-sound j (held-below i (t .held) j b d)));
-          live-most = l;
-        };
-        active-least = w .active-least;
+        nodes-least = w .nodes-least;
+        nodes-most = w .nodes-most;
+        held-most = held-most i (t .held) h (w .held-most);
+        parents-older = w .parents-older;
+        records-sound = λ j b.
+            either (eqb j i)
+            (λ q. let d = eqb-true j i q in
+            rw (
+              d,
+              getD-set-same (t .owners) i node 0 (omega arith),
+              getD-set-same (t .«name_sizes») i n 0 (omega arith),
+              getD-set-same (t .«value_sizes») i v 0 (omega arith),
+            ) (sound-is (t .nodes) node n v there f g k))
+            (λ q. let d = eqb-false j i q in
+            rw (
+              getD-set-other (t .owners) i j node 0 d,
+              getD-set-other (t .«name_sizes») i j n 0 d,
+              getD-set-other (t .«value_sizes») i j v 0 d,
+            ) (w .records-sound j (held-below i (t .held) j b d)));
+        live-most = l;
       }
 
 -- a store that holds properties which have room has the store's size
@@ -116,47 +121,51 @@ length-store ps o =
     let y : length (laidOut ps ++ r) ≡ length (laidOut ps) + length r = length-append (laidOut ps) r in
     omega arith
 
-module _ (t : Tree) (s name value : List ℕ) (a : Accepted t s name value) where
-  pub put-size : length (storePut t s name value) ≡ length s
-  put-size = length-store (wouldHold t s name value) (a .roomy) ∙ sym (a .size)
+module _ (t : Tree) (s : List ℕ) (node : ℕ) (name value : List ℕ) (a : Accepted t s node name value) where
+  pub put-size : length (storePut t s node name value) ≡ length s
+  put-size = length-store (wouldHold t s node name value) (a .roomy) ∙ sym (a .size)
 
-  pub put-whole : SizedTree t → Whole (treePut t s name value)
-  put-whole z =
-      let w = a .whole .nodes in
+  pub put-whole : SizedTree t → node < t .nodes → Whole (treePut t s node name value)
+  put-whole z there =
+      let w = a .whole in
       let q = a .size in
       let l = w .live-most in
       let b : liveOf t ≤ length s = omega arith in
       let h = w .held-most in
-      let f = fits t s name value h b (a .size) (a .roomy) .1 in
-      let i = foundOf t s name .index in
-      let c = index-fits t s name value h b (a .size) (a .roomy) in
-      let m = index-most t s name value in
-      let go : length value ≤ 16384 → liveOf (recordedOf t i (length name) (length value)) ≤ 16384 → Whole (treePut t s name value) =
-      λ v x. rw (← index-is t s name value) (recorded-whole t z i (length name) (length value) (a .whole) c (a .least) (a .most) v x) in
+      let f = fits t s node name value h b (a .size) (a .roomy) .1 in
+      let i = foundOf t s node name .index in
+      let c = index-fits t s node name value h b (a .size) (a .roomy) in
+      let m = index-most t s node name value in
+      let go : length value ≤ 16384 → liveOf (recordedOf t i node (length name) (length value)) ≤ 16384 → Whole
+      (treePut t s node name value) =
+      λ v x. rw (← index-is t s node name value)
+      (recorded-whole t z i node (length name) (length value) (a .whole) there c (a .least) (a .most) v x) in
       elim (decLe (t .held) i) [
-        | yes p ↦ let n = length-new t s name value h b (omega arith) in
-            let y = live-new t z i (length name) (length value) (omega arith) c in
+        | yes p ↦ let n = length-new t s node name value h b (omega arith) in
+            let y = live-new t z i node (length name) (length value) (omega arith) c in
             go (omega arith) (omega arith)
         | no p ↦ let o : i ≡ t .held → ⊥ = λ x. omega arith in
-            let n = length-old t s name value h b o in
-            let r = present t s name value o .0 in
-            let u = found-name t s (t .active) name (t .held) 0 0 (rw (zero-add (liveOf t)) b) (omega arith) in
-            let y = live-old t z i (length name) (length value) (omega arith) c in
+            let n = length-old t s node name value h b o in
+            let r = present t s node name value o .0 in
+            let u = found-name t s node name (t .held) 0 0 (rw (zero-add (liveOf t)) b) (omega arith) in
+            let y = live-old t z i node (length name) (length value) (omega arith) c in
             go (omega arith) (omega arith)
       ]
 
--- whatever the call gives, the store has its size and a whole tree is whole
-module _ (t : Tree) (s name value : List ℕ) where
-  taken : putRefusal t s name value ≡ 0 → Accepted t s name value
-  taken e = accepted t s name value e
+-- whatever the call gives, the store has its size, and a whole tree is whole where the node is there
+module _ (t : Tree) (s : List ℕ) (node : ℕ) (name value : List ℕ) where
+  taken : putRefusal t s node name value ≡ 0 → Accepted t s node name value
+  taken e = accepted t s node name value e
 
-  pub store-kept : length (storeOf t s name value) ≡ length s
+  pub store-kept : length (storeOf t s node name value) ≡ length s
   unfolding storeOf
   store-kept =
-      either (eqb (putRefusal t s name value) 0) (λ q. rw q (put-size t s name value (taken (eqb-true (putRefusal t s name value) 0 q)))) (λ q. rw q)
+      either (eqb (putRefusal t s node name value) 0)
+      (λ q. rw q (put-size t s node name value (taken (eqb-true (putRefusal t s node name value) 0 q)))) (λ q. rw q)
 
-  pub tree-kept : SizedTree t → wholeTree t ≡ true → wholeTree (putOf t s name value .tree) ≡ true
+  pub tree-kept : SizedTree t → node < t .nodes → wholeTree t ≡ true → wholeTree (putOf t s node name value .tree) ≡ true
   unfolding putOf
-  tree-kept z w =
-      either (eqb (putRefusal t s name value) 0)
-      (λ q. rw q (whole-is (treePut t s name value) (put-whole t s name value (taken (eqb-true (putRefusal t s name value) 0 q)) z))) (λ q. rw q w)
+  tree-kept z there w =
+      either (eqb (putRefusal t s node name value) 0)
+      (λ q. rw q (whole-is (treePut t s node name value)
+      (put-whole t s node name value (taken (eqb-true (putRefusal t s node name value) 0 q)) z there))) (λ q. rw q w)

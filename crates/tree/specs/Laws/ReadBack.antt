@@ -53,22 +53,29 @@ read-back t (p ∷ ps) i before behind at e r =
     rw (y ∙ z) (read-back t ps (i + 1) ((before ++ n) ++ v) behind (at + length n + length v) h (r .1)) in
     rw (x, o, f, g, pn, pv, tl)
 
-module _ (t : Tree) (store : List ℕ) (name value : List ℕ) (j : ℕ) (z : SizedTree t) (b : j < 128) where
+module _ (t : Tree) (store : List ℕ) (node : ℕ) (name value : List ℕ) (j : ℕ) (z : SizedTree t) (b : j < 128) where
   abbrev then : Tree
-  then = recordedOf t j (length name) (length value)
+  then = recordedOf t j node (length name) (length value)
 
   -- the record itself, and another
-  here : (ownerOf then j ≡ t .active) × (nameSize then j ≡ length name) × (valueSize then j ≡ length value)
+  here : (ownerOf then j ≡ node) × (nameSize then j ≡ length name) × (valueSize then j ≡ length value)
   unfolding recordedOf
   here =
       let zo = z .owners in
-      let zn = z .names in
-      let zv = z .values in
-      (getD-set-same (t .owners) j (t .active) 0 (omega arith), getD-set-same (t .names) j (length name) 0 (omega arith), getD-set-same (t .values) j (length value) 0 (omega arith))
+      let zn = z .nameSizes in
+      let zv = z .valueSizes in (
+        getD-set-same (t .owners) j node 0 (omega arith),
+        getD-set-same (t .«name_sizes») j (length name) 0 (omega arith),
+        getD-set-same (t .«value_sizes») j (length value) 0 (omega arith),
+      )
 
   other : (i : ℕ) → (i ≡ j → ⊥) → (ownerOf then i ≡ ownerOf t i) × (nameSize then i ≡ nameSize t i) × (valueSize then i ≡ valueSize t i)
   unfolding recordedOf
-  other i n = (getD-set-other (t .owners) j i (t .active) 0 n, getD-set-other (t .names) j i (length name) 0 n, getD-set-other (t .values) j i (length value) 0 n)
+  other i n = (
+    getD-set-other (t .owners) j i node 0 n,
+    getD-set-other (t .«name_sizes») j i (length name) 0 n,
+    getD-set-other (t .«value_sizes») j i (length value) 0 n,
+  )
 
   kept : (i at : ℕ) → (i ≡ j → ⊥) → at + nameSize t i + valueSize t i ≤ length store
       → (ownerOf then i ≡ ownerOf t i) × (nameSize then i ≡ length (partOf store at (nameSize t i))) × (valueSize then i ≡ length (partOf store (at + nameSize t i) (valueSize t i)))
@@ -82,50 +89,51 @@ module _ (t : Tree) (store : List ℕ) (name value : List ℕ) (j : ℕ) (z : Si
   records-behind (suc k) i at g h =
       (kept i at (λ e. omega arith) (omega arith), records-behind k (i + 1) (at + nameSize t i + valueSize t i) (omega arith) (omega arith))
 
-  pub records-put : (k i at : ℕ) → at + liveFrom t k i ≤ length store → foundFrom t store (t .active) name k i at .index ≡ j
-      → Records then i (putIn (heldFrom t store k i at) (t .active) name value)
+  pub records-put : (k i at : ℕ) → at + liveFrom t k i ≤ length store → foundFrom t store node name k i at .index ≡ j
+      → Records then i (putIn (heldFrom t store k i at) node name value)
   unfolding heldFrom foundFrom liveAmong putIn
   records-put zero i at h e = (rw e here, tt)
   records-put (suc k) i at h e =
       let p = propertyAt t store i at in
       let ps = heldFrom t store k (i + 1) (at + nameSize t i + valueSize t i) in
-      either (matches p (t .active) name)
+      either (matches p node name)
       (λ m.
       let q : i ≡ j = rw m at e in
-      let o = eqb-true (ownerOf t i) (t .active) (and-first (eqb (ownerOf t i) (t .active)) (sameBytes (partOf store at (nameSize t i)) name) m) in
-      let l = same-length (partOf store at (nameSize t i)) name (and-second (eqb (ownerOf t i) (t .active)) (sameBytes (partOf store at (nameSize t i)) name) m) in
-      rw (put-here p ps (t .active) name value m)
+      let o = eqb-true (ownerOf t i) node (and-first (eqb (ownerOf t i) node) (sameBytes (partOf store at (nameSize t i)) name) m) in
+      let l = same-length (partOf store at (nameSize t i)) name
+      (and-second (eqb (ownerOf t i) node) (sameBytes (partOf store at (nameSize t i)) name) m) in
+      rw (put-here p ps node name value m)
       ((rw (q) (here .0) ∙ sym o, rw q (here .1) ∙ sym l, rw q (here .2)), records-behind k (i + 1) (at + nameSize t i + valueSize t i) (omega arith) (omega arith)))
       (λ m.
-      let f : foundFrom t store (t .active) name k (i + 1) (at + nameSize t i + valueSize t i) .index ≡ j = rw m at e in
-      let w = walked t store (t .active) name value k (i + 1) (at + nameSize t i + valueSize t i) .2 in
-      rw (put-next p ps (t .active) name value m)
+      let f : foundFrom t store node name k (i + 1) (at + nameSize t i + valueSize t i) .index ≡ j = rw m at e in
+      let w = walked t store node name value k (i + 1) (at + nameSize t i + valueSize t i) .2 in
+      rw (put-next p ps node name value m)
       (kept i at (λ d. omega arith) (omega arith), records-put k (i + 1) (at + nameSize t i + valueSize t i) (omega arith) f))
 
-module _ (t : Tree) (s name value : List ℕ) (e : putRefusal t s name value ≡ 0) (z : SizedTree t) where
-  held-then : length (wouldHold t s name value) ≡ recordedOf t (foundOf t s name .index) (length name) (length value) .held
+module _ (t : Tree) (s : List ℕ) (node : ℕ) (name value : List ℕ) (e : putRefusal t s node name value ≡ 0) (z : SizedTree t) where
+  held-then : length (wouldHold t s node name value) ≡ recordedOf t (foundOf t s node name .index) node (length name) (length value) .held
   unfolding recordedOf
   held-then =
-      let i = foundOf t s name .index in
-      let m = index-most t s name value in
+      let i = foundOf t s node name .index in
+      let m = index-most t s node name value in
       elim (decLe (t .held) i) [
-        | yes p ↦ let q : i ≡ t .held = omega arith in rw (eq-eqb i (t .held) q) (absent t s name value q .1 ∙ omega arith)
-        | no p ↦ let q : i ≡ t .held → ⊥ = λ d. omega arith in rw (ne-eqb i (t .held) q) (present t s name value q .1)
+        | yes p ↦ let q : i ≡ t .held = omega arith in rw (eq-eqb i (t .held) q) (absent t s node name value q .1 ∙ omega arith)
+        | no p ↦ let q : i ≡ t .held → ⊥ = λ d. omega arith in rw (ne-eqb i (t .held) q) (present t s node name value q .1)
       ]
 
   -- the tree and the store after a call that is not refused hold the properties as they would be
-  pub put-holds : heldOf (treePut t s name value) (storePut t s name value) ≡ wouldHold t s name value
+  pub put-holds : heldOf (treePut t s node name value) (storePut t s node name value) ≡ wouldHold t s node name value
   unfolding storeWith
   put-holds =
-      let a = accepted t s name value e in
-      let w = a .whole .nodes in
+      let a = accepted t s node name value e in
+      let w = a .whole in
       let q = a .size in
       let l = w .live-most in
       let b : liveOf t ≤ length s = omega arith in
-      let i = foundOf t s name .index in
-      let c = index-fits t s name value (w .held-most) b (a .size) (a .roomy) in
-      let ps = wouldHold t s name value in
-      let r = records-put t s name value i z c (t .held) 0 0 (rw (zero-add (liveOf t)) b) refl in
-      rw (← index-is t s name value)
-      (ap (λ (k : ℕ). heldFrom (recordedOf t i (length name) (length value)) (storePut t s name value) k 0 0) (sym held-then)
-      ∙ read-back (recordedOf t i (length name) (length value)) ps 0 [] (replicate (16384 - length (laidOut ps)) 0) 0 refl r)
+      let i = foundOf t s node name .index in
+      let c = index-fits t s node name value (w .held-most) b (a .size) (a .roomy) in
+      let ps = wouldHold t s node name value in
+      let r = records-put t s node name value i z c (t .held) 0 0 (rw (zero-add (liveOf t)) b) refl in
+      rw (← index-is t s node name value)
+      (ap (λ (k : ℕ). heldFrom (recordedOf t i node (length name) (length value)) (storePut t s node name value) k 0 0) (sym held-then)
+      ∙ read-back (recordedOf t i node (length name) (length value)) ps 0 [] (replicate (16384 - length (laidOut ps)) 0) 0 refl r)

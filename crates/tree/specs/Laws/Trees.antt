@@ -8,9 +8,9 @@ use mathlib.Core.List.{List, [], _∷_, append-nil}
 use mathlib.Core.Path.{_≡_, refl, ap, _∙_}
 use lib.ListN.{length, getD, drop, set, drop-of-length-le, length-append}
 use lib.Seq.{drop-cons}
-use lib.Dec.{T, eqb, leb, ltb, leb→le, ltb→lt}
+use lib.Dec.{T, eqb, leb, ltb, leb→le}
 use borrow.Author.Tests.{eq-eqb, ne-eqb}
-use Rattle.cells.specs.Laws.Facts.{holds, is-true, both-hold, join-hold, four-hold}
+use Rattle.cells.specs.Laws.Facts.{holds, is-true, both-hold, join-hold}
 use Rattle.tree.specs.Held.{liveAmong, liveOf, sameBytes, matches, propertyAt, nameSize, valueSize, foundFrom}
 use Rattle.tree.specs.Whole.{everyBelow, olderAmong, older, sound, counted, wholeTree}
 use Rattle.memory.specs.Writing.{writtenOf}
@@ -55,14 +55,14 @@ older-child parents zero n = absurd (n refl)
 older-child parents (suc k) n = refl
 
 -- live bytes, one record more
-pub live-more : (names values : List ℕ) (k i n : ℕ) → i < n → k ≡ n - i
-    → liveAmong names values k i ≡ getD names i 0 + getD values i 0 + liveAmong names values (n - (i + 1)) (i + 1)
+pub live-more : (nameSizes valueSizes : List ℕ) (k i n : ℕ) → i < n → k ≡ n - i
+    → liveAmong nameSizes valueSizes k i ≡ getD nameSizes i 0 + getD valueSizes i 0 + liveAmong nameSizes valueSizes (n - (i + 1)) (i + 1)
 unfolding liveAmong
-live-more names values k i n h e = let f : k ≡ suc (n - (i + 1)) = omega arith in rw f
+live-more nameSizes valueSizes k i n h e = let f : k ≡ suc (n - (i + 1)) = omega arith in rw f
 
-pub live-none : (names values : List ℕ) (k i : ℕ) → k ≡ 0 → liveAmong names values k i ≡ 0
+pub live-none : (nameSizes valueSizes : List ℕ) (k i : ℕ) → k ≡ 0 → liveAmong nameSizes valueSizes k i ≡ 0
 unfolding liveAmong
-live-none names values k i e = rw e
+live-none nameSizes valueSizes k i e = rw e
 
 -- names that are the same
 pub same-unlike : (a b : List ℕ) → (length a ≡ length b → ⊥) → sameBytes a b ≡ false
@@ -112,21 +112,20 @@ length-value bs true = length-append bs (0 ∷ [])
 length-value bs false = rw (append-nil bs)
 
 -- the counts of a tree
-pub counted-facts : (nodes active held : ℕ) → counted nodes active held ≡ true
-    → (2 ≤ nodes) × (nodes ≤ 32) × (1 ≤ active) × (active < nodes) × (held ≤ 128)
-counted-facts nodes active held e =
-    let t : T (counted nodes active held) = rw e tt in
-    let p = both-hold (leb 2 nodes && leb nodes 32 && leb 1 active && ltb active nodes) (leb held 128) t in
-    let q = four-hold (leb 2 nodes) (leb nodes 32) (leb 1 active) (ltb active nodes) (p .0) in
-    (leb→le 2 nodes (q .0), leb→le nodes 32 (q .1), leb→le 1 active (q .2), ltb→lt active nodes (q .3), leb→le held 128 (p .1))
+pub counted-facts : (nodes held : ℕ) → counted nodes held ≡ true → (2 ≤ nodes) × (nodes ≤ 32) × (held ≤ 128)
+counted-facts nodes held e =
+    let t : T (counted nodes held) = rw e tt in
+    let p = both-hold (leb 2 nodes && leb nodes 32) (leb held 128) t in
+    let q = both-hold (leb 2 nodes) (leb nodes 32) (p .0) in
+    (leb→le 2 nodes (q .0), leb→le nodes 32 (q .1), leb→le held 128 (p .1))
 
 -- whether a tree is whole, by the tests that the code makes
 module _ (t : Tree) where
-  pub not-counted : counted (t .nodes) (t .active) (t .held) ≡ false → false ≡ wholeTree t
+  pub not-counted : counted (t .nodes) (t .held) ≡ false → false ≡ wholeTree t
   unfolding wholeTree
   not-counted e = rw e
 
-  module _ (e : counted (t .nodes) (t .active) (t .held) ≡ true) where
+  module _ (e : counted (t .nodes) (t .held) ≡ true) where
     pub not-older : everyBelow (t .nodes) (older t) ≡ false → false ≡ wholeTree t
     unfolding wholeTree
     not-older f = rw (e, f)
@@ -156,40 +155,31 @@ module _ (t : Tree) (store : List ℕ) (node : ℕ) (name : List ℕ) (k i at n 
   unfolding foundFrom
   found-none e = rw e
 
--- what a whole tree says; that the root is not active is told apart, since finish-device may come to it
-pub record Nodes (t : Tree) : Type 0 where
+-- what a whole tree says
+pub record Whole (t : Tree) : Type 0 where
   pub nodes-least : 2 ≤ t .nodes
   pub nodes-most : t .nodes ≤ 32
-  pub active-there : t .active < t .nodes
   pub held-most : t .held ≤ 128
   pub parents-older : (k : ℕ) → k < t .nodes → T (older t k)
   pub records-sound : (i : ℕ) → i < t .held → T (sound t i)
   pub live-most : liveOf t ≤ 16384
 
-pub record Whole (t : Tree) : Type 0 where
-  pub nodes : Nodes t
-  pub active-least : 1 ≤ t .active
-
 pub whole-facts : (t : Tree) → wholeTree t ≡ true → Whole t
 unfolding wholeTree
 whole-facts t e =
-    let c = counted (t .nodes) (t .active) (t .held) in
+    let c = counted (t .nodes) (t .held) in
     let o = everyBelow (t .nodes) (older t) in
     let s = everyBelow (t .held) (sound t) in
     let l = leb (liveOf t) 16384 in
     let p = both-hold c (o && (s && l)) (holds (c && (o && (s && l))) e) in
     let q = both-hold o (s && l) (p .1) in
     let r = both-hold s l (q .1) in
-    let f = counted-facts (t .nodes) (t .active) (t .held) (is-true c (p .0)) in
+    let f = counted-facts (t .nodes) (t .held) (is-true c (p .0)) in
     record {
-      nodes = record {
-        nodes-least = f .0;
-        nodes-most = f .1;
-        active-there = f .3;
-        held-most = f .4;
-        parents-older = every-one (t .nodes) (older t) (q .0);
-        records-sound = every-one (t .held) (sound t) (r .0);
-        live-most = leb→le (liveOf t) 16384 (r .1);
-      };
-      active-least = f .2;
+      nodes-least = f .0;
+      nodes-most = f .1;
+      held-most = f .2;
+      parents-older = every-one (t .nodes) (older t) (q .0);
+      records-sound = every-one (t .held) (sound t) (r .0);
+      live-most = leb→le (liveOf t) 16384 (r .1);
     }

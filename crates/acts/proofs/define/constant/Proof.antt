@@ -2,7 +2,8 @@ use Prim.Native.Nat.{ℕ}
 use Rattle.acts.proofs.Backs.{held-still}
 use Rattle.acts.proofs.Defining.{value-low-told, value-told}
 use Rattle.acts.specs.Joints.Acts.{Fresh, Definable}
-use Rattle.state.specs.Joints.Apart.{numbersOn, joined, onStack, onNumbers, takenOn}
+use Rattle.state.specs.Numbers.{numbersOn}
+use Rattle.state.specs.Joints.Apart.{joined, onStack, onNumbers, takenOn}
 use denote.Ref.{now}
 use mathlib.Core.Path.{refl, sym, subst}
 use borrow.Author.Needs.{needs}

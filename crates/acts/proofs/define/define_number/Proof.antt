@@ -1,8 +1,8 @@
 use Rattle.acts.proofs.Backs.{noArrays}
 use Rattle.acts.proofs.Defining.{held-told, most-told, fresh-told}
 use Rattle.acts.proofs.Slotting.{held-there, not-held}
-use Rattle.state.specs.Joints.Apart.{numbersOn, joined, onStack, onNumbers}
-use Rattle.state.specs.Numbers.{seekOf}
+use Rattle.state.specs.Joints.Apart.{joined, onStack, onNumbers}
+use Rattle.state.specs.Numbers.{numbersOn, seekOf}
 use Rattle.tokens.specs.declared.decoding.Operand.the-variants.{Definition}
 use denote.Ref.{now}
 use mathlib.Core.Path.{refl}

@@ -1,6 +1,6 @@
 use Prim.Native.Nat.{_+_}
 use Rattle.acts.proofs.Slotting.{tabled-defined, tables-of}
-use Rattle.state.specs.Joints.Apart.{numbersOn}
+use Rattle.state.specs.Numbers.{numbersOn}
 use denote.Ref.{now}
 use lib.ListN.{set}
 use mathlib.Core.Path.{refl}

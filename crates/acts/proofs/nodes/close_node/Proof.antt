@@ -1,4 +1,4 @@
-use Rattle.acts.proofs.Keeping.{kept-done, kept-refused, close-same, close-told}
+use Rattle.acts.proofs.Keeping.{active-done, active-refused, close-same, close-told}
 use Rattle.state.specs.Joints.Apart.{joined, onNodes}
 use denote.Ref.{now}
 use mathlib.Core.Path.{refl}
@@ -15,5 +15,16 @@ close-node-spec =
     (λ c κs. search needs)
     (λ c. search needs)
     (λ c κs. search needs)
-    (λ c. rw (c .go .ensures) (λ a. close-told (joined (onNodes (now (c .before .before .before .before .args .parents)) a) (c .before .before .before .before .args .core)) (c .before .before .before .before .args .next) (c .before .before .before .before .pre) _ _ (kept-done (joined (onNodes (now (c .before .before .before .before .args .parents)) a) (c .before .before .before .before .args .core)) (joined (onNodes (now (c .before .before .before .before .args .parents)) a) (c .before .before .before .before .args .core)) (c .before .before .before .before .args .next) _ _ (c .before .enum-told .given .1) refl) (c .before .before .before .close-child .ensures (joined (onNodes (now (c .before .before .before .before .args .parents)) a) (c .before .before .before .before .args .core) .tree) _)))
-    (λ c. rw (c .stop .ensures) (λ a. close-told (joined (onNodes (now (c .before .before .before .before .before .args .parents)) a) (c .before .before .before .before .before .args .core)) (c .before .before .before .before .before .args .next) (c .before .before .before .before .before .pre) _ _ (kept-refused (joined (onNodes (now (c .before .before .before .before .before .args .parents)) a) (c .before .before .before .before .before .args .core)) (joined (onNodes (now (c .before .before .before .before .before .args .parents)) a) (c .before .before .before .before .before .args .core)) (c .before .before .before .before .before .args .next) _ _ _ (c .before .before .outcome .given .1) (close-same _ _ (c .before .before .outcome .given .1) (joined (onNodes (now (c .before .before .before .before .before .args .parents)) a) (c .before .before .before .before .before .args .core) .tree) (c .before .before .before .before .close-child .ensures (joined (onNodes (now (c .before .before .before .before .before .args .parents)) a) (c .before .before .before .before .before .args .core) .tree) _)) refl) (c .before .before .before .before .close-child .ensures (joined (onNodes (now (c .before .before .before .before .before .args .parents)) a) (c .before .before .before .before .before .args .core) .tree) _))))
+    (λ c. rw (c .go .ensures) (λ a.
+    let start = c .before .before .before .before in
+    let x = start .args in
+    let st = joined (onNodes (now (x .parents)) a) (x .core) in
+    let e = c .before .before .before .close-child .ensures (st .tree) _ in
+    close-told st (x .next) (start .pre) _ _ (active-done st (x .next) _ _ (c .before .enum-told .given .1) refl) e))
+    (λ c. rw (c .stop .ensures) (λ a.
+    let start = c .before .before .before .before .before in
+    let x = start .args in
+    let st = joined (onNodes (now (x .parents)) a) (x .core) in
+    let e = c .before .before .before .before .close-child .ensures (st .tree) _ in
+    let f = c .before .before .outcome .given .1 in
+    close-told st (x .next) (start .pre) _ _ (active-refused st (x .next) _ _ _ f (close-same st (x .next) _ _ f e) refl) e)))

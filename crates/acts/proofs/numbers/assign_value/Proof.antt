@@ -2,7 +2,8 @@ use Prim.Native.Nat.{_-_}
 use Rattle.acts.proofs.Backs.{back}
 use Rattle.acts.proofs.Defining.{assign-other, assign-low-told, assign-told}
 use Rattle.acts.proofs.Slotting.{held-there, assign-unheld}
-use Rattle.state.specs.Joints.Apart.{numbersOn, onStack, onNumbers, joined, takenOn}
+use Rattle.state.specs.Numbers.{numbersOn}
+use Rattle.state.specs.Joints.Apart.{onStack, onNumbers, joined, takenOn}
 use Rattle.tokens.specs.declared.decoding.Operand.the-variants.{Number}
 use denote.Ref.{now}
 use lib.ListN.{set}

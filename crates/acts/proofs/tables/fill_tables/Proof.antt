@@ -1,7 +1,6 @@
 use Prim.Native.Nat.{ℕ, _≤_, _-_, _+_}
-use Rattle.state.specs.Joints.Apart.{numbersOn}
 use Rattle.acts.specs.Joints.Acts.{Tabled}
-use Rattle.state.specs.Numbers.{kindAt}
+use Rattle.state.specs.Numbers.{numbersOn, kindAt}
 use Rattle.state.specs.Laws.Seeking.{table-none, table-down, kinds-all}
 use Rattle.state.specs.declared.state.Numbers.{Numbers}
 use denote.Ref.{now}

@@ -11,20 +11,20 @@ use Rattle.rom.specs.Laws.Header.{header-facts}
 use Rattle.tree.specs.Held.{liveAmong}
 use Rattle.tree.specs.Whole.{everyBelow, older}
 use Rattle.tree.specs.Node.{freshTree}
-use Rattle.tree.specs.Laws.Trees.{Nodes, every-one}
+use Rattle.tree.specs.Laws.Trees.{every-one}
+use Rattle.tree.specs.Laws.Trees.{Whole as WholeTree}
 use Rattle.state.specs.Scene.{Scene, scene, turn}
 use Rattle.state.specs.Step.{readyOf}
 use Rattle.state.specs.Open.{freshState, openOf}
 use Rattle.state.specs.Laws.Keeps.Whole.{Parts, Rooted, parts-whole, facts-ready}
 use Rattle.state.specs.declared.answer.Answer.the-variants.{Going}
 
-fresh-nodes : Nodes freshTree
+fresh-tree : WholeTree freshTree
 unfolding liveAmong everyBelow
-fresh-nodes =
+fresh-tree =
     record {
       nodes-least = omega arith;
       nodes-most = omega arith;
-      active-there = omega arith;
       held-most = omega arith;
       parents-older = every-one 2 (older freshTree) tt;
       records-sound = λ i l. absurd (omega arith);
@@ -35,8 +35,8 @@ fresh-nodes =
 abbrev pub opened : List ℕ → Scene
 opened rom = scene rom (replicate workSize 0) (replicate storeSize 0) (freshState rom)
 
-pub fresh-rooted : Rooted freshTree
-fresh-rooted k h l = absurd (omega arith)
+pub fresh-rooted : (rom : List ℕ) → Rooted (freshState rom)
+fresh-rooted rom = (omega arith, λ k h l. absurd (omega arith))
 
 pub fresh-parts : (rom : List ℕ) → headerOf rom ≡ 0 → Parts (freshState rom)
 fresh-parts rom e =
@@ -48,7 +48,10 @@ fresh-parts rom e =
       place = record { from = omega arith; to = omega arith };
       calls = record { count = omega arith; each = λ i l. absurd (omega arith) };
       numbers = record { count = omega arith; each = λ i l. absurd (omega arith) };
-      tree = fresh-nodes;
+      tree = fresh-tree;
+      first-there = omega arith;
+      first-least = omega arith;
+      active-there = omega arith;
     }
 
 -- with any work memory and store of their sizes

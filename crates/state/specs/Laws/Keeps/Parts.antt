@@ -175,7 +175,7 @@ module _ (size : ℕ) (ns : Numbers) (n kind v : ℕ) (wide : Bool) (f : Entries
       by : (i : ℕ) → i < ns .count + 1 → (q : Bool) → eqb i (ns .count) ≡ q → Entry size defined i
       by i l true e =
           let q = eqb-true i (ns .count) e in
-          let c = getD-set-same (ns .names) (ns .count) n 0 (omega (arith, z .names)) in
+          let c = getD-set-same (ns .programs) (ns .count) n 0 (omega (arith, z .programs)) in
           let d = getD-set-same (ns .kinds) (ns .count) kind 0 (omega (arith, z .kinds)) in
           let g = getD-set-same (ns .values) (ns .count) v 0 (omega (arith, z .values)) in
           record {
@@ -186,14 +186,14 @@ module _ (size : ℕ) (ns : Numbers) (n kind v : ℕ) (wide : Bool) (f : Entries
           let q = eqb-false i (ns .count) e in
           let r = f .each i (omega arith) in
           record {
-            name = rw (getD-set-other (ns .names) (ns .count) i n 0 q) (r .name);
+            name = rw (getD-set-other (ns .programs) (ns .count) i n 0 q) (r .name);
             body = λ t. rw (getD-set-other (ns .values) (ns .count) i v 0 q) (r .body (rw (getD-set-other (ns .kinds) (ns .count) i kind 0 q) at t));
           }
 
   pub numbers-defined : SizedNumbers defined
   numbers-defined =
       record {
-        names = length-set (ns .names) (ns .count) n ∙ z .names;
+        programs = length-set (ns .programs) (ns .count) n ∙ z .programs;
         kinds = length-set (ns .kinds) (ns .count) kind ∙ z .kinds;
         values = length-set (ns .values) (ns .count) v ∙ z .values;
         wides = length-set (ns .wides) (ns .count) wide ∙ z .wides;
@@ -211,7 +211,8 @@ entries-assigned size ns k v f h = record { count = f .count; each = λ i l. by 
         record { name = f .each i l .name; body = λ t. rw (getD-set-other (ns .values) k i v 0 q) (f .each i l .body t) }
 
 pub numbers-assigned : (ns : Numbers) (k v : ℕ) → SizedNumbers ns → SizedNumbers (assignedOf ns k v)
-numbers-assigned ns k v z = record { names = z .names; kinds = z .kinds; values = length-set (ns .values) k v ∙ z .values; wides = z .wides }
+numbers-assigned ns k v z =
+    record { programs = z .programs; kinds = z .kinds; values = length-set (ns .values) k v ∙ z .values; wides = z .wides }
 
 -- ---- a number that is defined
 kinds-at : (ns : Numbers) (k n i : ℕ) → i < k → getD (kindsFrom ns k n) i 0 ≡ kindHeld ns (n + i)

@@ -23,18 +23,18 @@ use Rattle.memory.specs.declared.window.Window.{Window}
 use Rattle.memory.specs.declared.window.Window.the-variants.{Rom, Work, Nowhere}
 use Rattle.memory.specs.Window.{romBase, workBase, heldBy, rangeOf, resolveOf}
 use Rattle.memory.specs.Writing.{writtenOf, bytesOf}
-use Rattle.tree.specs.Whole.{nameMost}
+use Rattle.tree.specs.Whole.{nameMost, parentOf}
 use Rattle.tree.specs.Property.{badName, treePut, storePut}
-use Rattle.tree.specs.Node.{noRoom, outermost, childOf, finishedOf}
+use Rattle.tree.specs.Node.{noRoom, outermost, childOf}
 use Rattle.tree.specs.declared.tree.Tree.{Tree}
-use Rattle.tree.specs.Laws.Trees.{Nodes}
-use Rattle.tree.specs.Laws.Kept.{child-nodes, finished-nodes}
+use Rattle.tree.specs.Laws.Trees.{Whole as WholeTree}
+use Rattle.tree.specs.Laws.Kept.{child-whole, parent-there}
 use Rattle.tree.specs.Laws.Puts.{name-facts}
 use Rattle.tree.specs.Laws.PutKept.{Accepted, put-whole, put-size}
 use Rattle.tree.specs.Laws.PutKept.{SizedTree}
 use Rattle.tokens.specs.Definition.{colon, kindIn, newNumber, takesHere, value, variable}
 use Rattle.state.specs.Stacks.{Stacks, stacks, leftOf, plainOf, pickedOf, rolledOf, doubledOf, backTrouble, tooDeep}
-use Rattle.state.specs.State.{stacksOf, moved, withCalls, withNumbers, withWork, withTree, isOpen, baseOf}
+use Rattle.state.specs.State.{stacksOf, moved, withCalls, withNumbers, withWork, withActive, withTree, isOpen, baseOf}
 use Rattle.state.specs.Numbers.{seekOf, isHeld, isBody, kindsOf, definedOf, assignedOf}
 use Rattle.state.specs.Scene.{Scene, Turn, turn, goes, cellOf, refuse}
 use Rattle.state.specs.Refusals
@@ -48,9 +48,10 @@ use Rattle.state.specs.Laws.Sized.{Sized, SizedCalls, SizedNumbers}
 use Rattle.state.specs.Laws.Keeps.Tests.{none-held, find-at, _▸_}
 use Rattle.state.specs.Laws.Titles.{title-good}
 use Rattle.state.specs.Laws.Keeps.Whole.{Place, Frames, Entries, Parts, whole-facts, Lent, not-going, not-finished, ready-facts, Rooted}
+use Rattle.state.specs.Laws.Keeps.Whole.{RootedAt}
 use Rattle.state.specs.Laws.Keeps.Whole.{Kept}
 use Rattle.state.specs.Laws.Keeps.Token.{Stands, stands, takesBy, givesBy, shape, no-returns, branch-place, new-number, leave-open, behind-body}
-use Rattle.state.specs.Laws.Keeps.Tree.{child-rooted, child-sized, finished-rooted, finished-sized, put-rooted, put-sized}
+use Rattle.state.specs.Laws.Keeps.Tree.{child-rooted, child-sized, finish-rooted, put-nodes, put-rooted, put-sized}
 use Rattle.state.specs.Laws.Keeps.Parts.{left-length, base-below, frames-moved, frames-pushed, calls-pushed, frames-popped, entries-defined}
 use Rattle.state.specs.Laws.Keeps.Parts.{numbers-defined, entries-assigned, numbers-assigned, call-held, assign-value}
 use Rattle.state.specs.declared.state.State.{State}
@@ -117,7 +118,7 @@ unfolding resolveOf
 string-most s address count = held-most (s .rom) (s .work) count (rangeOf (s .rom) (s .work) (s .state .length) address count)
 
 -- ---- a token in a scene that is ready for it, and no refusal given
-module _ (s : Scene) (t : Token) (z : Sized (s .state)) (l : Lent s) (w : Parts (s .state)) (a : 1 ≤ s .state .tree .active)
+module _ (s : Scene) (t : Token) (z : Sized (s .state)) (l : Lent s) (w : Parts (s .state)) (a : 1 ≤ s .state .active)
     (d : Stands (s .rom) (s .state .length) (s .state .wide) (isOpen (s .state .calls)) (s .state .place) t) (ok : AllowedAct s t) where
   abbrev st : State
   st = s .state
@@ -167,9 +168,12 @@ module _ (s : Scene) (t : Token) (z : Sized (s .state)) (l : Lent s) (w : Parts 
               calls = frames-moved (st .length) (st .calls) (st .back .height) (x .returns) (w .calls) (f .base);
               numbers = en;
               tree = w .tree;
+              first-there = w .first-there;
+              first-least = w .first-least;
+              active-there = w .active-there;
             };
         sized = record { stack = f .cells; back = f .back; calls = z .calls; numbers = zn; tree = z .tree };
-        rooted = λ r. (a, r);
+        rooted = λ r. r;
       }
 
   stacked : (x : Stacks) (place : ℕ) → Fit x → Place (st .length) place → Kept s (goes s (moved st x place))
@@ -190,17 +194,24 @@ module _ (s : Scene) (t : Token) (z : Sized (s .state)) (l : Lent s) (w : Parts 
               calls = fc;
               numbers = w .numbers;
               tree = w .tree;
+              first-there = w .first-there;
+              first-least = w .first-least;
+              active-there = w .active-there;
             };
         sized = record { stack = z .stack; back = z .back; calls = zc; numbers = z .numbers; tree = z .tree };
-        rooted = λ r. (a, r);
+        rooted = λ r. r;
       }
 
-  -- another tree, and another store
-  treed : (x : Stacks) (tree : Tree) (kept : List ℕ) → Fit x → SizedTree tree → Nodes tree → length kept ≡ storeSize
-      → (Rooted (st .tree) → (1 ≤ tree .active) × Rooted tree) → Kept s (turn Going (withTree (moved st x (t .next)) tree) (s .work) kept)
-  treed x tree kept f zt nt m r =
+  -- another active node, another tree, and another store
+  abbrev treedAs : Stacks → ℕ → Tree → List ℕ → Turn
+  treedAs x active tree kept = turn Going (withTree (withActive (moved st x (t .next)) active) tree) (s .work) kept
+
+  treed : (x : Stacks) (active : ℕ) (tree : Tree) (kept : List ℕ) → Fit x → SizedTree tree → WholeTree tree → st .tree .nodes ≤ tree .nodes
+      → active < tree .nodes → length kept ≡ storeSize → (Rooted st → RootedAt (st .first) active tree)
+      → Kept s (treedAs x active tree kept)
+  treed x active tree kept f zt wt more there m r =
       record {
-        lent = lent-then (turn Going (withTree (moved st x (t .next)) tree) (s .work) kept) refl refl (l .work) m;
+        lent = lent-then (treedAs x active tree kept) refl refl (l .work) m;
         parts =
             record {
               height = f .height;
@@ -209,7 +220,10 @@ module _ (s : Scene) (t : Token) (z : Sized (s .state)) (l : Lent s) (w : Parts 
               place = next-place;
               calls = frames-moved (st .length) (st .calls) (st .back .height) (x .returns) (w .calls) (f .base);
               numbers = w .numbers;
-              tree = nt;
+              tree = wt;
+              first-there = omega (arith, w .first-there);
+              first-least = w .first-least;
+              active-there = there;
             };
         sized = record { stack = f .cells; back = f .back; calls = z .calls; numbers = z .numbers; tree = zt };
         rooted = r;
@@ -292,7 +306,7 @@ module _ (s : Scene) (t : Token) (z : Sized (s .state)) (l : Lent s) (w : Parts 
   framesBy n = only n call (isBodyHere && leb framesMost (st .calls .count))
 
   abbrev nodeBy : ℕ → Bool
-  nodeBy n = only n newDevice (noRoom (st .tree)) || only n finishDevice (outermost (st .tree))
+  nodeBy n = only n newDevice (noRoom (st .tree)) || only n finishDevice (outermost (st .first) (st .active))
 
   abbrev noVariable : Bool
   noVariable = eqb (kindIn (t .operand)) variable && ltb workSize (rounded (st .«work_place») + 4)
@@ -482,10 +496,14 @@ module _ (s : Scene) (t : Token) (z : Sized (s .state)) (l : Lent s) (w : Parts 
 
   put : (takes : ℕ) (name v : List ℕ) → T (not (noRoomFor s name v)) → 1 ≤ length name → length name ≤ nameMost → Kept s (Effects.keepsOf s t takes name v)
   put takes name v f g h =
-      let c : Accepted (st .tree) (s .store) name v = record { size = l .store; whole = record { nodes = w .tree; active-least = a }; least = g; most = h; roomy = is-false (noRoomFor s name v) f } in
-      treed (gave st takes []) (treePut (st .tree) (s .store) name v) (storePut (st .tree) (s .store) name v) (gave-fit takes [] (omega (arith, w .height)))
-      (put-sized (st .tree) (z .tree) (s .store) name v) (put-whole (st .tree) (s .store) name v c (z .tree) .nodes)
-      (put-size (st .tree) (s .store) name v c ∙ l .store) (put-rooted (st .tree) (s .store) name v a)
+      let node = st .active in
+      let c : Accepted (st .tree) (s .store) node name v =
+      record { size = l .store; whole = w .tree; least = g; most = h; roomy = is-false (noRoomFor s name v) f } in
+      let same = put-nodes (st .tree) (s .store) node name v in
+      treed (gave st takes []) node (treePut (st .tree) (s .store) node name v) (storePut (st .tree) (s .store) node name v)
+      (gave-fit takes [] (omega (arith, w .height))) (put-sized (st .tree) (z .tree) node (s .store) name v)
+      (put-whole (st .tree) (s .store) node name v c (z .tree) (w .active-there)) (omega arith) (omega (arith, w .active-there))
+      (put-size (st .tree) (s .store) node name v c ∙ l .store) (put-rooted (st .tree) (s .store) node name v (st .first) node)
 
   keeps-property : familyIn (t .code) ≡ property → Kept s (Effects.keeps s t)
   keeps-property k =
@@ -500,14 +518,17 @@ module _ (s : Scene) (t : Token) (z : Sized (s .state)) (l : Lent s) (w : Parts 
   keeps-new : familyIn (t .code) ≡ newDevice → Kept s (Effects.opensNode s t)
   keeps-new k =
       let q = neither (noRoom (st .tree)) false (node-asked newDevice k) .0 in
-      let c = child-nodes (st .tree) (record { nodes = w .tree; active-least = a }) (is-false (noRoom (st .tree)) q) in
-      treed (stacksOf st) (childOf (st .tree)) (s .store) same-fit (child-sized (st .tree) (z .tree)) (c .nodes) (l .store)
-      (λ r. (c .active-least, child-rooted (st .tree) (z .tree) q a r))
+      treed (stacksOf st) (st .tree .nodes) (childOf (st .tree) (st .active)) (s .store) same-fit
+      (child-sized (st .tree) (z .tree) (st .active))
+      (child-whole (st .tree) (st .active) (w .active-there) (w .tree) (is-false (noRoom (st .tree)) q)) (omega arith) (omega arith)
+      (l .store) (child-rooted (st .tree) (z .tree) (st .active) (st .first) q (w .first-there))
 
   keeps-finish : familyIn (t .code) ≡ finishDevice → Kept s (Effects.closesNode s t)
   keeps-finish k =
-      treed (stacksOf st) (finishedOf (st .tree)) (s .store) same-fit (finished-sized (st .tree) (z .tree)) (finished-nodes (st .tree) (record { nodes = w .tree; active-least = a })) (l .store)
-      (λ r. (finished-rooted (st .tree) (w .tree) a (node-asked finishDevice k) r, r))
+      let p = parent-there (st .tree) (st .active) (w .tree) a (w .active-there) in
+      treed (stacksOf st) (parentOf (st .tree) (st .active)) (st .tree) (s .store) same-fit (z .tree) (w .tree) (omega arith)
+      (omega (arith, w .active-there)) (l .store)
+      (finish-rooted (st .tree) (st .first) (st .active) (w .active-there) (node-asked finishDevice k))
 
   -- a call: a body is entered, any other gives its value
   keeps-call : familyIn (t .code) ≡ call → Kept s (Effects.calls s t)
@@ -617,7 +638,7 @@ module _ (s : Scene) (t : Token) (z : Sized (s .state)) (l : Lent s) (w : Parts 
       (λ g. absurd (not-going 11 g))
 
 -- ---- the token at a ready state's place
-module _ (s : Scene) (z : Sized (s .state)) (l : Lent s) (w : Parts (s .state)) (a : 1 ≤ s .state .tree .active) where
+module _ (s : Scene) (z : Sized (s .state)) (l : Lent s) (w : Parts (s .state)) (a : 1 ≤ s .state .active) where
   done-keeps : (t : Token) → Stands (s .rom) (s .state .length) (s .state .wide) (isOpen (s .state .calls)) (s .state .place) t
       → doneOf s t .answer ≡ Going → Kept s (doneOf s t)
   unfolding doneOf

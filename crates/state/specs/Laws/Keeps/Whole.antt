@@ -4,8 +4,8 @@ use native.Mathlib.Omega.{arith}
 use mathlib.Core.Path.{_≡_, refl, _∙_}
 use mathlib.Core.Bool.{Bool, true, false, not, _&&_}
 use lib.ListN.{length, getD}
-use lib.Dec.{T, not-T, ltb, leb, eqb, le→leb}
-use borrow.Author.Tests.{eq-eqb, le-ltb}
+use lib.Dec.{T, ltb, leb, eqb, le→leb, lt→ltb}
+use borrow.Author.Tests.{eq-eqb, le-ltb, lt-ltb, le-leb}
 use Rattle.cells.specs.Choice.{pick}
 use Rattle.cells.specs.Laws.Tests.{tests, pick-is}
 use Rattle.cells.specs.Laws.Facts.{holds, is-true, is-false, both-hold, join-hold, four-hold, join-four, neither, not-not, not-unequal}
@@ -13,12 +13,13 @@ use Rattle.rom.specs.Sizes.{firstPlace, dataMost, returnMost, framesMost, numbe
 use Rattle.rom.specs.Sizes.{romMost}
 use Rattle.tokens.specs.Table.{isProgram}
 use Rattle.tree.specs.Whole.{everyBelow, wholeTree, parentOf}
-use Rattle.tree.specs.Laws.Trees.{Nodes, every-one, every-all}
+use Rattle.tree.specs.Laws.Trees.{every-one, every-all}
+use Rattle.tree.specs.Laws.Trees.{Whole as WholeTree}
 use Rattle.tree.specs.Laws.Trees.{whole-facts as tree-facts}
 use Rattle.tree.specs.Laws.Kept.{whole-is as tree-whole}
 use Rattle.tree.specs.declared.tree.Tree.{Tree}
 use Rattle.state.specs.Numbers.{isBody}
-use Rattle.state.specs.Whole.{isPlace, heightsWhole, nextBase, frameWhole, callsWhole, entryWhole, numbersWhole, wholeOf}
+use Rattle.state.specs.Whole.{isPlace, heightsWhole, nextBase, frameWhole, callsWhole, entryWhole, numbersWhole, belowRoot, wholeOf}
 use Rattle.state.specs.Scene.{Scene, Turn}
 use Rattle.state.specs.Run.{then}
 use Rattle.state.specs.Laws.Sized.{Sized}
@@ -83,7 +84,7 @@ calls-whole size calls returns f =
 
 -- ---- program numbers
 pub record Entry (size : ℕ) (ns : Numbers) (i : ℕ) : Type 0 where
-  pub name : T (isProgram (getD (ns .names) i 0))
+  pub name : T (isProgram (getD (ns .programs) i 0))
   pub body : T (isBody ns i) → Place size (getD (ns .values) i 0)
 
 pub record Entries (size : ℕ) (ns : Numbers) : Type 0 where
@@ -92,7 +93,7 @@ pub record Entries (size : ℕ) (ns : Numbers) : Type 0 where
 
 entry-facts : (size : ℕ) (ns : Numbers) (i : ℕ) → T (entryWhole size ns i) → Entry size ns i
 entry-facts size ns i t =
-    let p = both-hold (isProgram (getD (ns .names) i 0)) (pick (isBody ns i) (isPlace size (getD (ns .values) i 0)) true) t in
+    let p = both-hold (isProgram (getD (ns .programs) i 0)) (pick (isBody ns i) (isPlace size (getD (ns .values) i 0)) true) t in
     record { name = p .0; body = by (isBody ns i) (p .1) }
   where
     by : (b : Bool) → T (pick b (isPlace size (getD (ns .values) i 0)) true) → T b → Place size (getD (ns .values) i 0)
@@ -101,7 +102,7 @@ entry-facts size ns i t =
 
 entry-whole : (size : ℕ) (ns : Numbers) (i : ℕ) → Entry size ns i → T (entryWhole size ns i)
 entry-whole size ns i e =
-    join-hold (isProgram (getD (ns .names) i 0)) (pick (isBody ns i) (isPlace size (getD (ns .values) i 0)) true) (e .name)
+    join-hold (isProgram (getD (ns .programs) i 0)) (pick (isBody ns i) (isPlace size (getD (ns .values) i 0)) true) (e .name)
     (pick-is T (isBody ns i) (isPlace size (getD (ns .values) i 0)) true (λ t. place-whole size (getD (ns .values) i 0) (e .body t)) (λ t. tt))
 
 pub numbers-facts : (size : ℕ) (ns : Numbers) → T (numbersWhole size ns) → Entries size ns
@@ -120,12 +121,14 @@ numbers-whole size ns e =
     join-hold (leb (ns .count) numbersMost) (everyBelow (ns .count) (entryWhole size ns)) (le→leb (ns .count) numbersMost (e .count))
     (every-all (ns .count) (entryWhole size ns) (λ i l. entry-whole size ns i (e .each i l)))
 
--- ---- the tree: its own laws have the facts
--- a tree with node 0 active is damaged
-pub root-active : (t : Tree) → t .active ≡ 0 → wholeTree t ≡ false
-root-active t e = is-false (wholeTree t) (not-T (wholeTree t) (λ h. let a = tree-facts t (is-true (wholeTree t) h) .active-least in omega arith))
+-- ---- the active node and the first: each is there and is not the root
+below-facts : (nodes node : ℕ) → T (belowRoot nodes node) → (node < nodes) × (1 ≤ node)
+below-facts nodes node t = let (a, b) = both-hold (ltb node nodes) (leb 1 node) t in (omega (arith, tests), omega (arith, tests))
 
--- ---- a state
+below-whole : (nodes node : ℕ) → node < nodes → 1 ≤ node → T (belowRoot nodes node)
+below-whole nodes node h l = join-hold (ltb node nodes) (leb 1 node) (lt→ltb node nodes h) (le→leb 1 node l)
+
+-- ---- a state; that the root is not active is told apart, since finish-device may come to it
 pub record Parts (st : State) : Type 0 where
   pub height : st .stack .height ≤ dataMost
   pub returns : st .back .height ≤ returnMost
@@ -133,20 +136,29 @@ pub record Parts (st : State) : Type 0 where
   pub place : Place (st .length) (st .place)
   pub calls : Frames (st .length) (st .calls) (st .back .height)
   pub numbers : Entries (st .length) (st .numbers)
-  pub tree : Nodes (st .tree)
+  pub tree : WholeTree (st .tree)
+  pub first-there : st .first < st .tree .nodes
+  pub first-least : 1 ≤ st .first
+  pub active-there : st .active < st .tree .nodes
 
-pub whole-facts : (st : State) → wholeOf st ≡ true → Parts st × (1 ≤ st .tree .active)
+pub whole-facts : (st : State) → wholeOf st ≡ true → Parts st × (1 ≤ st .active)
 unfolding wholeOf
 whole-facts st e =
-    let p =
-    both-hold (heightsWhole st)
-    (callsWhole (st .length) (st .calls) (st .back .height) && (numbersWhole (st .length) (st .numbers) && wholeTree (st .tree))) (holds _ e) in
-    let q = both-hold (callsWhole (st .length) (st .calls) (st .back .height)) (numbersWhole (st .length) (st .numbers) && wholeTree (st .tree)) (p .1) in
-    let r = both-hold (numbersWhole (st .length) (st .numbers)) (wholeTree (st .tree)) (q .1) in
+    let calls = callsWhole (st .length) (st .calls) (st .back .height) in
+    let numbers = numbersWhole (st .length) (st .numbers) in
+    let tree = wholeTree (st .tree) in
+    let first = belowRoot (st .tree .nodes) (st .first) in
+    let active = belowRoot (st .tree .nodes) (st .active) in
+    let p = both-hold (heightsWhole st) (calls && (numbers && (tree && (first && active)))) (holds _ e) in
+    let q = both-hold calls (numbers && (tree && (first && active))) (p .1) in
+    let r = both-hold numbers (tree && (first && active)) (q .1) in
+    let u = both-hold tree (first && active) (r .1) in
+    let v = both-hold first active (u .1) in
     let (a, b, c, d) =
     four-hold (leb (st .stack .height) dataMost) (leb (st .back .height) returnMost) (leb (st .«work_place») workSize)
     (isPlace (st .length) (st .place)) (p .0) in
-    let t = tree-facts (st .tree) (is-true (wholeTree (st .tree)) (r .1)) in (
+    let f = below-facts (st .tree .nodes) (st .first) (v .0) in
+    let n = below-facts (st .tree .nodes) (st .active) (v .1) in (
       record {
         height = omega (arith, tests);
         returns = omega (arith, tests);
@@ -154,12 +166,16 @@ whole-facts st e =
         place = place-facts (st .length) (st .place) d;
         calls = calls-facts (st .length) (st .calls) (st .back .height) (q .0);
         numbers = numbers-facts (st .length) (st .numbers) (r .0);
-        tree = t .nodes;
+        tree = tree-facts (st .tree) (is-true tree (u .0));
+        first-there = f .0;
+        first-least = f .1;
+        active-there = n .0;
       },
-      t .active-least,
+      n .1,
     )
 
-pub whole-is : (st : State) → Parts st → wholeOf st ≡ wholeTree (st .tree)
+-- with all else in its limits it is the active node that decides
+pub whole-is : (st : State) → Parts st → wholeOf st ≡ leb 1 (st .active)
 unfolding wholeOf
 whole-is st w =
     rw (
@@ -169,10 +185,13 @@ whole-is st w =
           (place-whole (st .length) (st .place) (w .place))),
       is-true (callsWhole (st .length) (st .calls) (st .back .height)) (calls-whole (st .length) (st .calls) (st .back .height) (w .calls)),
       is-true (numbersWhole (st .length) (st .numbers)) (numbers-whole (st .length) (st .numbers) (w .numbers)),
+      tree-whole (st .tree) (w .tree),
+      is-true (belowRoot (st .tree .nodes) (st .first)) (below-whole (st .tree .nodes) (st .first) (w .first-there) (w .first-least)),
+      lt-ltb (st .active) (st .tree .nodes) (w .active-there),
     )
 
-pub parts-whole : (st : State) → Parts st → 1 ≤ st .tree .active → wholeOf st ≡ true
-parts-whole st w h = whole-is st w ∙ tree-whole (st .tree) (record { nodes = w .tree; active-least = h })
+pub parts-whole : (st : State) → Parts st → 1 ≤ st .active → wholeOf st ≡ true
+parts-whole st w h = whole-is st w ∙ le-leb 1 (st .active) h
 
 -- ---- what stands before a token: all that is asked of it, and whether the state is whole told apart
 pub record Lent (s : Scene) : Type 0 where
@@ -240,13 +259,16 @@ pub facts-ready : (s : Scene) → Lent s → wholeOf (s .state) ≡ true → rea
 facts-ready s l w = ready-is s l ∙ rw w
 
 -- ---- what a token that is carried out leaves
--- No node but node 1 is a child of the root, as in every state that tokens make of an opened one: a tree of which this is not said is whole, but its
--- finish-device may come to the root.
-abbrev pub Rooted : Tree → Type 0
-Rooted t = (k : ℕ) → 2 ≤ k → k < t .nodes → 1 ≤ parentOf t k
+-- The active node is not older than the first, and no node younger than the first has a parent older than it, as in every state that tokens
+-- make of an opened one: a state of which this is not said is whole, but its finish-device may come to the root.
+abbrev pub RootedAt : ℕ → ℕ → Tree → Type 0
+RootedAt first active t = (first ≤ active) × ((k : ℕ) → first < k → k < t .nodes → first ≤ parentOf t k)
+
+abbrev pub Rooted : State → Type 0
+Rooted st = RootedAt (st .first) (st .active) (st .tree)
 
 pub record Kept (s : Scene) (r : Turn) : Type 0 where
   pub lent : Lent (then s r)
   pub parts : Parts (r .state)
   pub sized : Sized (r .state)
-  pub rooted : Rooted (s .state .tree) → (1 ≤ r .state .tree .active) × Rooted (r .state .tree)
+  pub rooted : Rooted (s .state) → Rooted (r .state)

@@ -45,7 +45,7 @@ find-node-spec =
     let a = c .before .before .before .before .before .before .before .before .args in
     let f = c .before in
     let w = f .before .before in
-    let n = whole-facts (a .tree) (whole w) .nodes in
+    let n = whole-facts (a .tree) (whole w) in
     let l = n .live-most in
     let z = w .before .before .if1 .left in
     (n .nodes-most, n .held-most, omega arith, path-least (now (a .path)) (formed f)))

@@ -43,7 +43,7 @@ own-value-spec =
     let a = c .before .before .before .before .before .before .args in
     sym (own-damaged (a .tree) (now (a .store)) (a .node) (now (a .name)) (c .before .before .before .if1 .left) (sym (c .before .before .is-whole .ensures) ∙ not-true _ (c .before .if2 .taken))))
     (λ c κs.
-    let n = whole-facts (c .before .before .before .before .before .args .tree) (whole c) .nodes in
+    let n = whole-facts (c .before .before .before .before .before .args .tree) (whole c) in
     let l = n .live-most in
     let e = c .before .before .if1 .left in
     (n .held-most, omega arith))

@@ -44,14 +44,14 @@ find-spec =
     (λ c.
     let l = c .before .before .before .loop in
     let a = c .before .before .before .before .before .before .args in
-    let e = live-more (a .t2 .names) (a .t2 .values) (a .t2 .held - l .i) (l .i) (a .t2 .held) (search needs) refl in
+    let e = live-more (a .t2 .«name_sizes») (a .t2 .«value_sizes») (a .t2 .held - l .i) (l .i) (a .t2 .held) (search needs) refl in
     search needs)
     (λ c. search needs)
     (λ c. search needs)
     (λ c κs.
     let l = c .before .before .before .before .loop in
     let a = c .before .before .before .before .before .before .before .args in
-    let e = live-more (a .t2 .names) (a .t2 .values) (a .t2 .held - l .i) (l .i) (a .t2 .held) (search needs) refl in
+    let e = live-more (a .t2 .«name_sizes») (a .t2 .«value_sizes») (a .t2 .held - l .i) (l .i) (a .t2 .held) (search needs) refl in
     search needs)
     (λ c.
     let l = c .before .before .before .before .before .before .loop in
@@ -64,14 +64,14 @@ find-spec =
     (λ c.
     let l = c .before .before .before .before .before .before .before .before .loop in
     let a = c .before .before .before .before .before .before .before .before .before .before .before .args in
-    let e = live-more (a .t2 .names) (a .t2 .values) (a .t2 .held - l .i) (l .i) (a .t2 .held) (search needs) refl in
+    let e = live-more (a .t2 .«name_sizes») (a .t2 .«value_sizes») (a .t2 .held - l .i) (l .i) (a .t2 .held) (search needs) refl in
     search needs)
     (λ c. search needs)
     (λ c. search needs)
     (λ c.
     let l = c .before .before .before .before .before .before .before .before .loop in
     let a = c .before .before .before .before .before .before .before .before .before .before .before .args in
-    let e = live-more (a .t2 .names) (a .t2 .values) (a .t2 .held - l .i) (l .i) (a .t2 .held) (search needs) refl in
+    let e = live-more (a .t2 .«name_sizes») (a .t2 .«value_sizes») (a .t2 .held - l .i) (l .i) (a .t2 .held) (search needs) refl in
     let w = c .before .before .before .before .before .wide .ensures .0 in
     let x = c .wide2 .ensures .0 in (
       search needs,

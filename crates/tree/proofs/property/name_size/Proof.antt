@@ -16,5 +16,5 @@ name-size-spec =
     (λ c. search needs)
     (λ c.
     let a = c .before .args in
-    let n : length (a .t1 .names) ≡ 128 = search needs in
-    rw (List·getD-eq-default (a .t1 .names) 0 {n = a .index} (search needs))))
+    let n : length (a .t1 .«name_sizes») ≡ 128 = search needs in
+    rw (List·getD-eq-default (a .t1 .«name_sizes») 0 {n = a .index} (search needs))))

@@ -16,5 +16,5 @@ value-size-spec =
     (λ c. search needs)
     (λ c.
     let a = c .before .args in
-    let n : length (a .t1 .values) ≡ 128 = search needs in
-    (rw (List·getD-eq-default (a .t1 .values) 0 {n = a .index} (search needs)), search needs)))
+    let n : length (a .t1 .«value_sizes») ≡ 128 = search needs in
+    (rw (List·getD-eq-default (a .t1 .«value_sizes») 0 {n = a .index} (search needs)), search needs)))

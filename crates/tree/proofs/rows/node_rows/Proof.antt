@@ -182,7 +182,7 @@ module _ {M : Type 1} (𝓤 : URA M) (H : Heap 𝓤) (A : Atoms 𝓤) (W : Given
       sized = rows-taken tree (length was) taken .0
 
       held : tree .held ≤ 128
-      held = whole-facts tree (rows-taken tree (length was) taken .1) .nodes .held-most
+      held = whole-facts tree (rows-taken tree (length was) taken .1) .held-most
 
       abbrev I : Filled tree → List (Item 𝓤)
       I u = At why (u .k) (u .rows)

@@ -25,7 +25,7 @@ node-table-spec =
     (λ c κs.
     let k = c .before .before in
     let w = whole-facts (c .before .before .before .before .before .before .before .before .args .tree) (sym (k .before .is-whole .ensures) ∙ not-false _ (k .if3 .left)) in
-    (w .nodes .held-most, k .before .before .before .if1 .left, k .before .before .if2 .left))
+    (w .held-most, k .before .before .before .if1 .left, k .before .before .if2 .left))
     (λ c. search needs)
     (λ c. search needs)
     (λ c.
