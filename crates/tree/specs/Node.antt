@@ -9,7 +9,7 @@ use lib.Dec.{leb, eqb}
 use Rattle.cells.specs.Choice.{pick}
 use Rattle.rom.specs.Sizes.{nodesMost}
 use Rattle.tree.specs.Whole.{parentOf}
-use Rattle.tree.specs.Tree.{bareTree, onNodes}
+use Rattle.tree.specs.Tree.{bareTree, treeOnNodes}
 use Rattle.tree.specs.declared.tree.Tree.{Tree}
 use Rattle.tree.specs.declared.tree.Outcome.{Outcome}
 use Rattle.tree.specs.declared.tree.Outcome.the-variants.{Done, Refused}
@@ -23,7 +23,7 @@ outermost first active = eqb active first
 
 -- the tree with a child of the active node, which is node `t .nodes`
 abbrev pub childOf : Tree → ℕ → Tree
-childOf t active = onNodes t (set (t .parents) (t .nodes) active) (t .nodes + 1)
+childOf t active = treeOnNodes t (set (t .parents) (t .nodes) active) (t .nodes + 1)
 
 -- no nodes at all, as in the all-zero state
 abbrev pub noTree : Tree

@@ -13,7 +13,7 @@ use Rattle.rom.specs.Sizes.{propertiesMost, storeSize}
 use Rattle.rom.specs.Words.{lettersOf}
 use Rattle.tree.specs.Held.{Property, heldOf, laidOut, matches, indexOf}
 use Rattle.tree.specs.Whole.{nameMost, wholeTree}
-use Rattle.tree.specs.Tree.{onRecords}
+use Rattle.tree.specs.Tree.{treeOnRecords}
 use Rattle.tree.specs.Node.{Written, writeDone, writeRefused}
 use Rattle.tree.specs.declared.tree.Tree.{Tree}
 
@@ -67,7 +67,7 @@ storeWith ps = laidOut ps ++ replicate (storeSize - length (laidOut ps)) 0
 -- the tree whose record i is of a node, with these lengths; one record more where there was none
 unfoldable pub recordedOf : Tree → ℕ → ℕ → ℕ → ℕ → Tree
 recordedOf t i node name value =
-    onRecords t (set (t .owners) i node) (set (t .«name_sizes») i name) (set (t .«value_sizes») i value)
+    treeOnRecords t (set (t .owners) i node) (set (t .«name_sizes») i name) (set (t .«value_sizes») i value)
     (pick (eqb i (t .held)) (t .held + 1) (t .held))
 
 abbrev pub treePut : Tree → List ℕ → ℕ → List ℕ → List ℕ → Tree

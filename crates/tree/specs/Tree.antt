@@ -23,8 +23,8 @@ bareTree nodes =
     treeOf (replicate nodesMost 0) nodes (replicate propertiesMost 0) (replicate propertiesMost 0) (replicate propertiesMost 0) 0
 
 -- a tree with other records, or other nodes, the rest as it is
-abbrev pub onRecords : Tree → List ℕ → List ℕ → List ℕ → ℕ → Tree
-onRecords t owners nameSizes valueSizes held = treeOf (t .parents) (t .nodes) owners nameSizes valueSizes held
+abbrev pub treeOnRecords : Tree → List ℕ → List ℕ → List ℕ → ℕ → Tree
+treeOnRecords t owners nameSizes valueSizes held = treeOf (t .parents) (t .nodes) owners nameSizes valueSizes held
 
-abbrev pub onNodes : Tree → List ℕ → ℕ → Tree
-onNodes t parents nodes = treeOf parents nodes (t .owners) (t .«name_sizes») (t .«value_sizes») (t .held)
+abbrev pub treeOnNodes : Tree → List ℕ → ℕ → Tree
+treeOnNodes t parents nodes = treeOf parents nodes (t .owners) (t .«name_sizes») (t .«value_sizes») (t .held)

@@ -10,7 +10,7 @@ use lib.ListN.{length}
 use lib.Dec.{eqb}
 use borrow.Author.Tests.{eq-eqb, eqb-true}
 use Rattle.cells.specs.Choice.{pick}
-use Rattle.cells.specs.Laws.Facts.{and-second}
+use Rattle.cells.specs.Laws.Facts.{and-first, and-second}
 use Rattle.rom.specs.Sizes.{nodesMost, storeSize}
 use Rattle.tree.specs.Whole.{wholeTree}
 use Rattle.tree.specs.Node.{noTree}
@@ -20,7 +20,7 @@ use Rattle.tree.specs.Laws.Layout.{either}
 use Rattle.tree.specs.declared.tree.Tree.{Tree}
 use Rattle.tree.specs.declared.lookup.NodeSought.the-variants.{Refused}
 use Rattle.tree.specs.declared.lookup.ValueSought.the-variants.{Refused as Unfound}
-use Rattle.state.specs.Whole.{heightsWhole, callsWhole, numbersWhole, wholeOf}
+use Rattle.state.specs.Whole.{heightsWhole, callsWhole, numbersWhole, nodesWhole, wholeOf}
 use Rattle.state.specs.Lookup.{findNodeIn, findPropertyIn, propertyValueIn, tableRefusalIn, rowsRefusalIn}
 use Rattle.state.specs.Joints.Lookup.{treeOrNone}
 use Rattle.state.specs.declared.state.State.{State}
@@ -32,7 +32,9 @@ tree-whole st w =
     let frames = callsWhole (st .length) (st .calls) (st .back .height) in
     let numbers = numbersWhole (st .length) (st .numbers) in
     let tree = wholeTree (st .tree) in
-    and-second numbers tree (and-second frames (numbers && tree) (and-second (heightsWhole st) (frames && (numbers && tree)) w))
+    let nodes = nodesWhole st in
+    let rest = and-second (heightsWhole st) (frames && (numbers && (tree && nodes))) w in
+    and-first tree nodes (and-second numbers (tree && nodes) (and-second frames (numbers && (tree && nodes)) rest))
 
 module _ (st : State) (store path : List ℕ) where
   -- of a whole state a lookup answers what the tree's own does

@@ -8,7 +8,7 @@ use lib.ListN.{length, getD}
 use Rattle.rom.specs.Sizes.{propertiesMost, storeSize}
 use Rattle.tree.specs.Held.{liveAmong, foundFrom}
 use Rattle.tree.specs.Whole.{wholeTree}
-use Rattle.tree.specs.Tree.{onRecords, onNodes}
+use Rattle.tree.specs.Tree.{treeOnRecords, treeOnNodes}
 use Rattle.tree.specs.Node.{Written, activated, newDeviceOf, finishDeviceOf}
 use Rattle.tree.specs.Property.{putOf, storeOf}
 use Rattle.tree.specs.declared.tree.Tree.{Tree}
@@ -54,27 +54,27 @@ Tallied store nameSizes valueSizes held tail =
 -- where the record of a node and a name stands among the lent ones; one that is missing stands behind them all
 abbrev pub Finds : List ℕ → List ℕ → List ℕ → List ℕ → ℕ → ℕ → List ℕ → Found → Type 0
 Finds store owners nameSizes valueSizes held node name found =
-    (t : Tree) → found ≡ foundFrom (onRecords t owners nameSizes valueSizes held) store node name held 0 0
+    (t : Tree) → found ≡ foundFrom (treeOnRecords t owners nameSizes valueSizes held) store node name held 0 0
 
 abbrev pub Missing : List ℕ → List ℕ → List ℕ → List ℕ → ℕ → ℕ → List ℕ → Type 0
 Missing store owners nameSizes valueSizes held node name =
-    (t : Tree) → foundFrom (onRecords t owners nameSizes valueSizes held) store node name held 0 0 .index ≡ held
+    (t : Tree) → foundFrom (treeOnRecords t owners nameSizes valueSizes held) store node name held 0 0 .index ≡ held
 
 -- a property of a node is written: the records, the store and the tail behind, from those before
 abbrev pub Puts : ℕ → List ℕ → List ℕ → List ℕ → List ℕ → List ℕ → List ℕ → ℕ → Kept → List ℕ → List ℕ → List ℕ → List ℕ → Type 0
 Puts node name value store owners nameSizes valueSizes held r store′ owners′ nameSizes′ valueSizes′ =
-    ((t : Tree) → let before = onRecords t owners nameSizes valueSizes held in
+    ((t : Tree) → let before = treeOnRecords t owners nameSizes valueSizes held in
     wholeTree before ≡ true
-    → (writtenAs (r .outcome) (onRecords t owners′ nameSizes′ valueSizes′ (r .held)) ≡ putOf before store node name value)
+    → (writtenAs (r .outcome) (treeOnRecords t owners′ nameSizes′ valueSizes′ (r .held)) ≡ putOf before store node name value)
     × (store′ ≡ storeOf before store node name value))
     × Tallied store′ nameSizes′ valueSizes′ (r .held) (r .tail)
 
 -- a node is opened, and the active one is closed
 abbrev pub Opens : List ℕ → ℕ → ℕ → Opened → List ℕ → Type 0
 Opens parents nodes active r parents′ =
-    (t : Tree) → activated (r .outcome) (onNodes t parents′ (r .nodes)) (r .active) ≡ newDeviceOf (onNodes t parents nodes) active
+    (t : Tree) → activated (r .outcome) (treeOnNodes t parents′ (r .nodes)) (r .active) ≡ newDeviceOf (treeOnNodes t parents nodes) active
 
 abbrev pub Closes : List ℕ → ℕ → ℕ → Closed → Type 0
 Closes parents first active r =
     (t : Tree) (nodes : ℕ)
-    → activated (r .outcome) (onNodes t parents nodes) (r .active) ≡ finishDeviceOf (onNodes t parents nodes) first active
+    → activated (r .outcome) (treeOnNodes t parents nodes) (r .active) ≡ finishDeviceOf (treeOnNodes t parents nodes) first active

@@ -15,7 +15,7 @@ use Rattle.memory.specs.Writing.{writtenOf, movedOf}
 use Rattle.memory.specs.Laws.Memory.{length-written}
 use Rattle.tree.specs.Held.{liveAmong, foundFrom}
 use Rattle.tree.specs.Whole.{wholeTree}
-use Rattle.tree.specs.Tree.{onRecords}
+use Rattle.tree.specs.Tree.{treeOnRecords}
 use Rattle.tree.specs.Node.{freshTree, writeDone}
 use Rattle.tree.specs.Property.{badName, overfull, wouldHold, putRefusal, recordedOf, putOf, storeOf}
 use Rattle.tree.specs.Joints.Steps.{foundOf, appendedOf, replacedOf}
@@ -64,7 +64,7 @@ module _ (node : ℕ) (name value s owners nameSizes valueSizes : List ℕ) (hel
 
   -- the tree put together
   abbrev lent : Tree → Tree
-  lent t = onRecords t owners nameSizes valueSizes held
+  lent t = treeOnRecords t owners nameSizes valueSizes held
 
   abbrev Given : Kept → List ℕ → List ℕ → List ℕ → List ℕ → Type 0
   Given r s′ owners′ nameSizes′ valueSizes′ = Puts node name value s owners nameSizes valueSizes held r s′ owners′ nameSizes′ valueSizes′
@@ -118,7 +118,7 @@ module _ (node : ℕ) (name value s owners nameSizes valueSizes : List ℕ) (hel
             ∙ rw (m t, eq-eqb held held refl, ← k .4, lt-leb 128 held h, le-ltb 16384 added-live l)
 
         recorded-new : (t : Tree)
-            → onRecords t (set owners held node) (set nameSizes held n) (set valueSizes held v) (held + 1)
+            → treeOnRecords t (set owners held node) (set nameSizes held n) (set valueSizes held v) (held + 1)
             ≡ recordedOf (lent t) held node n v
         unfolding recordedOf
         recorded-new t = rw (eq-eqb held held refl)
@@ -208,7 +208,7 @@ module _ (node : ℕ) (name value s owners nameSizes valueSizes : List ℕ) (hel
         same-name = ap (λ (x : ℕ). set nameSizes i x) (sym named) ∙ set-getD nameSizes i 0
 
         recorded-old : (t : Tree)
-            → onRecords t owners nameSizes (set valueSizes i v) held
+            → treeOnRecords t owners nameSizes (set valueSizes i v) held
             ≡ recordedOf (lent t) i node n v
         unfolding recordedOf
         recorded-old t = rw (ne-eqb i held (λ x. omega arith), same-owner, same-name)

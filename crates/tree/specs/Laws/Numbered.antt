@@ -21,18 +21,20 @@ use Rattle.tree.specs.declared.lookup.NodeSought.the-variants.{Node, Ref
 use Rattle.tree.specs.Numbered.{outcomeSays, nodeSays, valueSays}
 
 -- writing a property says the refusal that is computed for it, or 0
-pub put-says : (t : Tree) (store name value : List ℕ)
-    → outcomeSays (putOf t store name value .outcome) ≡ refuses (putRefusal t store name value)
+pub put-says : (t : Tree) (store : List ℕ) (node : ℕ) (name value : List ℕ)
+    → outcomeSays (putOf t store node name value .outcome) ≡ refuses (putRefusal t store node name value)
 unfolding putOf
-put-says t store name value =
-    either (eqb (putRefusal t store name value) 0) (λ e. rw e (ap refuses (sym (eqb-true (putRefusal t store name value) 0 e)))) (λ e. rw e)
+put-says t store node name value =
+    let why = putRefusal t store node name value in
+    either (eqb why 0) (λ e. rw e (ap refuses (sym (eqb-true why 0 e)))) (λ e. rw e)
 
--- new-device says 20 for a 33rd node, finish-device at node 1
-pub new-says : (t : Tree) → outcomeSays (newDeviceOf t .outcome) .number ≡ pick (noRoom t) 20 0
-new-says t = either (noRoom t) (λ e. rw e) (λ e. rw e)
+-- new-device says 20 for a 33rd node, finish-device at the first node
+pub new-says : (t : Tree) (active : ℕ) → outcomeSays (newDeviceOf t active .outcome) .number ≡ pick (noRoom t) 20 0
+new-says t active = either (noRoom t) (λ e. rw e) (λ e. rw e)
 
-pub finish-says : (t : Tree) → outcomeSays (finishDeviceOf t .outcome) .number ≡ pick (outermost t) 20 0
-finish-says t = either (outermost t) (λ e. rw e) (λ e. rw e)
+pub finish-says : (t : Tree) (first active : ℕ)
+    → outcomeSays (finishDeviceOf t first active .outcome) .number ≡ pick (outermost first active) 20 0
+finish-says t first active = either (outermost first active) (λ e. rw e) (λ e. rw e)
 
 -- whether a way down from a node ends for want of a child: "no such node"
 unfoldable pub leadsNowhere : Tree → List ℕ → ℕ → List (List ℕ) → Bool

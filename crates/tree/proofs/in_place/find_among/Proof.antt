@@ -1,5 +1,5 @@
 use Prim.Native.Nat.{_+_, _-_, _≤_}
-use Rattle.tree.specs.Tree.{onRecords}
+use Rattle.tree.specs.Tree.{treeOnRecords}
 use Rattle.tree.specs.Held.{liveAmong, matches, propertyAt, foundFrom}
 use Rattle.tree.specs.Laws.Trees.{live-more, found-here, found-next, found-none}
 use Rattle.tree.specs.declared.tree.Tree.{Tree}
@@ -14,7 +14,7 @@ use Rattle.tree.proofs.in_place.find_among.Tie as tie
 abbrev Inv-loop : tie.InvT-loop
 Inv-loop store owners nameSizes valueSizes held node name i₀ at₀ i at =
     (i ≤ held) × (at + liveAmong nameSizes valueSizes (held - i) i ≡ liveAmong nameSizes valueSizes held 0)
-    × ((t : Tree) → let lent = onRecords t owners nameSizes valueSizes held in foundFrom lent store node name (held - i) i at
+    × ((t : Tree) → let lent = treeOnRecords t owners nameSizes valueSizes held in foundFrom lent store node name (held - i) i at
     ≡ foundFrom lent store node name held 0 0)
 
 abbrev μ-loop : tie.MeasureT-loop
@@ -24,7 +24,7 @@ abbrev μ-loop : tie.MeasureT-loop
 named : (c : tie.After-is-named Inv-loop μ-loop) (t : Tree)
     → let l = c .before .before .before .before .before .loop in
     let a = c .before .before .before .before .before .before .before .before .args in
-    let lent = onRecords t (now (a .owners)) (now (a .name-sizes)) (now (a .value-sizes)) (a .held) in
+    let lent = treeOnRecords t (now (a .owners)) (now (a .name-sizes)) (now (a .value-sizes)) (a .held) in
     c .is-named .result ≡ matches (propertyAt lent (now (a .store)) (l .i) (l .at)) (a .node) (now (a .name))
 named c t =
     let l = c .before .before .before .before .before .loop in
@@ -65,7 +65,7 @@ find-among-spec =
     (λ c. λ t.
     let a = c .before .before .before .before .before .before .before .before .before .args in
     let l = c .before .before .before .before .before .before .loop in
-    sym (found-here (onRecords t (now (a .owners)) (now (a .name-sizes)) (now (a .value-sizes)) (a .held)) (now (a .store)) (a .node)
+    sym (found-here (treeOnRecords t (now (a .owners)) (now (a .name-sizes)) (now (a .value-sizes)) (a .held)) (now (a .store)) (a .node)
     (now (a .name)) (a .held - l .i) (l .i) (l .at) (a .held) (c .before .before .before .before .before .loop-test .taken) refl
     (sym (named (c .before) t) ∙ c .if1 .taken)) ∙ l .inv .2 t)
     (λ c. search needs)
@@ -95,7 +95,7 @@ find-among-spec =
       omega arith,
       omega arith,
       λ t. rw (w, x)
-          (sym (found-next (onRecords t (now (a .owners)) (now (a .name-sizes)) (now (a .value-sizes)) (a .held)) (now (a .store)) (a .node)
+          (sym (found-next (treeOnRecords t (now (a .owners)) (now (a .name-sizes)) (now (a .value-sizes)) (a .held)) (now (a .store)) (a .node)
           (now (a .name)) (a .held - l .i) (l .i) (l .at) (a .held) h refl
           (sym (named (c .before .before .before) t) ∙ c .before .before .if1 .left)) ∙ l .inv .2 t),
     ))
@@ -103,5 +103,5 @@ find-among-spec =
     let a = c .before .before .before .before .args in
     let l = c .before .loop in
     let h = c .loop-test .left in
-    sym (found-none (onRecords t (now (a .owners)) (now (a .name-sizes)) (now (a .value-sizes)) (a .held)) (now (a .store)) (a .node)
+    sym (found-none (treeOnRecords t (now (a .owners)) (now (a .name-sizes)) (now (a .value-sizes)) (a .held)) (now (a .store)) (a .node)
     (now (a .name)) (a .held - l .i) (l .i) (l .at) (a .held) (omega arith)) ∙ l .inv .2 t))
