@@ -136,7 +136,7 @@ module _ (t : Tree) (store path name : List ℕ) where
       by (Node k) g =
           let v = place-value t store k name at size (sym (property-there t store path name k g) ∙ f) in
           let r = value-had k name (heldOf t store) (partOf store at size) (v .1) in
-          let l = whole-facts t w .nodes .live-most in
+          let l = whole-facts t w .live-most in
           let a = v .0 in
           (k, g, r .0, r .1, r .2, v .1 ∙ ap some (sym (r .2)), omega arith)
       by (Refused why) g =
