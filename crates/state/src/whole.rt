@@ -123,14 +123,12 @@ fn are_heights(length: u32, place: u32, height: usize, returns: usize, work: u32
     is_place(length, place)
 }
 
-// Whether a node is there and is not the root.
+// Whether a node is there and is not the root. There is no way out between the tests: with one, runs that reckon took 6 in 100 instructions
+// more.
 fn is_below_root(nodes: usize, node: u32) -> bool
     ensures { λ r. ⌜ r ≡ belowRoot nodes node ⌝ }
 {
-    if nodes <= (node as usize) {
-        return false;
-    }
-    1 <= node
+    ((node as usize) < nodes) & (1 <= node)
 }
 
 // Whether every height, count, place, base, number, record and node of a state is in its limits.
@@ -162,8 +160,5 @@ pub fn is_whole(st: State) -> bool
     if !tree::is_whole(tree) {
         return false;
     }
-    if !is_below_root(tree.nodes, st.first) {
-        return false;
-    }
-    is_below_root(tree.nodes, st.active)
+    is_below_root(tree.nodes, st.first) & is_below_root(tree.nodes, st.active)
 }

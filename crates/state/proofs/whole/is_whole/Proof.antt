@@ -64,28 +64,10 @@ is-whole-spec =
     let treed = c .before in
     sym (but-nodes (treed .before) ∙ rw (← treed .is-whole .ensures, not-off (treed .is-whole .result) (c .if4 .taken))))
     (λ c κs. search needs)
+    (λ c κs. search needs)
     (λ c.
     let first = c .before in
     let whole = first .before in
     let treed = whole .before in
-    sym (but-nodes (treed .before)
-    ∙ rw (
-      ← treed .is-whole .ensures,
-      not-on (treed .is-whole .result) (whole .if4 .left),
-      ← first .is-below-root .ensures,
-      not-off (first .is-below-root .result) (c .if5 .taken),
-    )))
-    (λ c κs. search needs)
-    (λ c.
-    let started = c .before in
-    let first = started .before in
-    let whole = first .before in
-    let treed = whole .before in
-    c .is-below-root2 .ensures
-    ∙ sym (but-nodes (treed .before)
-    ∙ rw (
-      ← treed .is-whole .ensures,
-      not-on (treed .is-whole .result) (whole .if4 .left),
-      ← first .is-below-root .ensures,
-      not-on (first .is-below-root .result) (started .if5 .left),
-    ))))
+    rw (first .is-below-root .ensures, c .is-below-root2 .ensures)
+    (sym (but-nodes (treed .before) ∙ rw (← treed .is-whole .ensures, not-on (treed .is-whole .result) (whole .if4 .left))))))
