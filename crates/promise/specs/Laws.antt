@@ -37,3 +37,5 @@ pub mod PastLength
 pub mod Received
 -- What the lamp shows, proved.
 pub mod Shown
+-- A step and a token say the refusal that is computed for them, or 0.
+pub mod Numbered

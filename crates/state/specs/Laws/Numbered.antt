@@ -1,7 +1,7 @@
 -- What the enums of this crate say is what the definitions compute. Assumes nothing.
 use Prim.Native.Nat.{ℕ, zero, suc, _+_}
 use native.Mathlib.Omega.{arith}
-use mathlib.Core.Bool.{Bool, true, false}
+use mathlib.Core.Bool.{Bool, true, false, not}
 use mathlib.Core.List.{List, [], _∷_}
 use mathlib.Core.Path.{_≡_, refl, sym, ap, subst}
 use lib.Dec.{eqb}
@@ -18,7 +18,7 @@ use Rattle.tokens.specs.declared.read.Read.{Read}
 use Rattle.tokens.specs.declared.read.Read.the-variants.{Refused as Unread, Good}
 use Rattle.state.specs.Scene.{Scene, Turn, answerNumber}
 use Rattle.state.specs.State.{isOpen}
-use Rattle.state.specs.Whole.{damagedOf}
+use Rattle.state.specs.Whole.{damagedOf, wholeOf}
 use Rattle.state.specs.Open.{openRefusal, openOf}
 use Rattle.state.specs.Numbers.{isBody, seekOf}
 use Rattle.state.specs.Refusals.{refusalOf}
@@ -29,6 +29,13 @@ use Rattle.state.specs.Laws.Keeps.Tests.{_▸_, find-at}
 use Rattle.state.specs.declared.answer.Answer.{Answer}
 use Rattle.state.specs.declared.answer.Answer.the-variants.{Going, Finished, Refused, Spent}
 use Rattle.state.specs.Numbered.{answerSays}
+use Rattle.rom.specs.Sizes.{storeSize}
+use Rattle.tree.specs.Path.{partsOf, malformed, behindSlash}
+use Rattle.tree.specs.Numbered.{nodeSays}
+use Rattle.tree.specs.Laws.Numbered.{leadsNowhere, down-says}
+use Rattle.state.specs.Lookup.{findNodeIn}
+use Rattle.state.specs.declared.state.State.{State}
+use lib.ListN.{length}
 
 -- `number_of` gives that number
 pub answer-number : (a : Answer) → answerSays a .number ≡ answerNumber a
@@ -175,3 +182,18 @@ module _ (budget : ℕ) (s : Scene) where
   pub spent-says : (count : ℕ) → runOf budget s .answer ≡ Spent count
       → answerSays (runOf budget s .answer) ≡ record { number = 28; values = budget ∷ [] }
   spent-says count e = let f = run-spent count e in rw (e, f .0, f .1)
+
+-- ---- a lookup of a state: "Lookups test 6, 7, 29, 30", with all of 7; it says the first of them that holds, or 0
+pub lookup-says : (st : State) (store path : List ℕ)
+    → nodeSays (findNodeIn st store path) .number
+    ≡ pick (not (eqb (length store) storeSize)) 6
+    (pick (damagedOf st) 7
+    (pick (malformed path) 29
+    (pick (leadsNowhere (st .tree) store 0 (partsOf (behindSlash path))) 30 0)))
+unfolding findNodeIn
+lookup-says st store path =
+    either (eqb (length store) storeSize)
+    (λ e. either (wholeOf st)
+    (λ w. either (malformed path) (λ m. rw (e, w, m)) (λ m. rw (e, w, m) (down-says (st .tree) store 0 (partsOf (behindSlash path)))))
+    (λ w. rw (e, w)))
+    (λ e. rw e)

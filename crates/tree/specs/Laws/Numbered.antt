@@ -64,8 +64,8 @@ pub node-says : (t : Tree) (store path : List ℕ)
 unfolding findNodeOf
 node-says t store path =
     either (eqb (length store) storeSize)
-    (λ e. either (wholeTree t) (λ w. either (malformed path) (λ m. rw (e, w, m)) (λ m. rw (e, w, m) (down-says t store 0 (partsOf
-    (behindSlash path)))))
+    (λ e. either (wholeTree t)
+    (λ w. either (malformed path) (λ m. rw (e, w, m)) (λ m. rw (e, w, m) (down-says t store 0 (partsOf (behindSlash path)))))
     (λ w. rw (e, w)))
     (λ e. rw e)
 

@@ -85,8 +85,8 @@ module _ (node : ℕ) (name : List ℕ) where
           let z : _≡_ {A = ℕ} 0 1 = cc in omega arith
 
       by : (valueIn qs node name ≡ none → OneOf p qs → ⊥) → (p ≡ q) ⊎ OneOf p qs → ⊥
-      by below (inl s) = unmatched (matching q (sym (ap (λ (x : Property). x .node) s) ∙ h .1) (sym (ap (λ
-          (x : Property). x .name) s) ∙ h .2))
+      by below (inl s) =
+          unmatched (matching q (sym (ap (λ (x : Property). x .node) s) ∙ h .1) (sym (ap (λ (x : Property). x .name) s) ∙ h .2))
       by below (inr r) =
           either (matches q node name) unmatched
           (λ k. below (sym (when-false (some (q .value)) (valueIn qs node name) (matches q node name) k) ∙ e) r)
@@ -109,8 +109,9 @@ module _ (t : Tree) (store path name : List ℕ) where
 
   -- 30 means that there is none, and where there is none it is 30
   pub lacked : findPropertyOf t store path name ≡ Unfound 30 → Lacks
-  lacked f k g p h = value-lacked k name (heldOf t store) (place-empty t store k name 30 (sym
-      (property-there t store path name k g) ∙ f)) p h
+  lacked f k g p h =
+      let e = place-empty t store k name 30 (sym (property-there t store path name k g) ∙ f) in
+      value-lacked k name (heldOf t store) e p h
 
   pub unfound : length store ≡ storeSize → wholeTree t ≡ true → malformed path ≡ false → Lacks
       → findPropertyOf t store path name ≡ Unfound 30
