@@ -109,7 +109,7 @@ def calls_open():
     yield f"R {rom} 1000", left("finished", 24, 52, nodes="1 0 0 1", **CALLS_LEFT)
 
 
-# The conditions of refusal 7 as document 01 has them, by the number under which crates/runs knows each.
+# The conditions of refusal 7 as document 01 has them, and behind them those of the first node, by the number under which crates/runs knows each.
 DAMAGES = (
     "data height 65",
     "return height 33",
@@ -139,15 +139,18 @@ DAMAGES = (
     "node 1 its own parent",
     "the root's parent not 0",
     "live bytes above 16,384, each length in its limit",
+    "the first node absent",
+    "node 0 the first",
 )
 WHOLE = 99
 # The damages that the finished scale ROM, which has no calls and no numbers, can have too: a finished state is tested like any other.
-OF_A_FINISHED = (0, 1, 2, 3, 4, 5, 6, 7, 8, 9, 10, 13, 14, 21, 22, 23, 25, 26, 27)
+OF_A_FINISHED = (0, 1, 2, 3, 4, 5, 6, 7, 8, 9, 10, 13, 14, 21, 22, 23, 25, 26, 27, 28, 29)
 
 
 # A lookup of a node and of a property and the node table, by the tree's calls and by the state's. Those of the tree refuse a damage in
-# the tree, those of the state every one, and the table's columns are then as they were.
-IN_THE_TREE = (5, 6, 7, 8, 9, 10, 21, 22, 23, 24, 25, 26, 27)
+# the tree, and which node is active and which the first is not in the tree; those of the state refuse every one, and the table's columns
+# are then as they were.
+IN_THE_TREE = (5, 6, 7, 8, 9, 10, 22, 24, 25, 26, 27)
 NOT_FOUND = "lookups 30 30 0"
 REFUSED_LOOKUPS = "lookups 7 7 7 kept kept"
 

@@ -135,8 +135,8 @@ pub fn own_lines(
     let mut i = 0;
     let mut name = 0;
     while i < tree.held {
-        let value = name + wide(tree.names[i]);
-        let next = value + wide(tree.values[i]);
+        let value = name + wide(tree.name_sizes[i]);
+        let next = value + wide(tree.value_sizes[i]);
         end = own_line(
             text,
             end,

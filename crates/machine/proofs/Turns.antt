@@ -9,6 +9,7 @@ use native.Mathlib.Nat.{sub-zero}
 use lib.Dec.{eqb}
 use Rattle.cells.specs.Choice.{pick}
 use Rattle.tree.specs.Whole.{wholeTree}
+use Rattle.tree.specs.Laws.Kept.{whole-is as whole-tree}
 use Rattle.tree.specs.declared.tree.Tree.{Tree}
 use Rattle.state.specs.Scene.{Scene, Turn, scene, turn, handedBack, refuse}
 use Rattle.state.specs.Step.{readyOf, tokenTurn}
@@ -16,7 +17,7 @@ use Rattle.state.specs.State.{baseOf}
 use Rattle.state.specs.Run.{RunResult, ended, then, runOn, unless, runFrom, toldRan}
 use Rattle.state.specs.Laws.Sized.{Sized}
 use Rattle.state.specs.Laws.Steps.{watchedOf, keeps-watched}
-use Rattle.state.specs.Laws.Keeps.Whole.{Lent, ready-facts, whole-facts, whole-is}
+use Rattle.state.specs.Laws.Keeps.Whole.{Lent, ready-facts, whole-facts}
 use Rattle.state.specs.Laws.Keeps.Parts.{base-below}
 use Rattle.state.specs.Joints.Apart.{Arrays, arraysOf, coreOf, joined}
 use Rattle.state.specs.declared.apart.Core.{Core}
@@ -62,12 +63,12 @@ turn-ready s r z e t g =
     (keeps-watched s z e (ap (λ (x : Turn). x .answer) (sym t) ∙ g))
 
 -- the root became active: the run's next test is 7
-pub run-rooted : (k n : ℕ) (s : Scene) → readyOf s ≡ watchedOf (s .state) → s .state .tree .active ≡ 0 → runFrom k n s ≡ ended (Refused 7) n s
+pub run-rooted : (k n : ℕ) (s : Scene) → readyOf s ≡ watchedOf (s .state) → s .state .active ≡ 0 → runFrom k n s ≡ ended (Refused 7) n s
 unfolding runFrom
 run-rooted zero n s e a = let r : readyOf s ≡ Refused 7 = e ∙ rw (eq-eqb _ _ a) in rw r
 run-rooted (suc k) n s e a = let r : readyOf s ≡ Refused 7 = e ∙ rw (eq-eqb _ _ a) in rw (r, runFrom)
 
-pub ready-again : (s : Scene) → readyOf s ≡ watchedOf (s .state) → (s .state .tree .active ≡ 0 → ⊥) → readyOf s ≡ Going
+pub ready-again : (s : Scene) → readyOf s ≡ watchedOf (s .state) → (s .state .active ≡ 0 → ⊥) → readyOf s ≡ Going
 ready-again s e a = e ∙ rw (ne-eqb _ _ a)
 
 -- what is known before the first token
@@ -101,7 +102,7 @@ fit s e =
     (p .height, p .numbers .count, p .work, a, omega arith)
 
 pub tree-whole : (s : Scene) → readyOf s ≡ Going → wholeTree (s .state .tree) ≡ true
-tree-whole s e = let f = ready-facts s e in let p = whole-facts (s .state) (f .1) .0 in sym (whole-is (s .state) p) ∙ f .1
+tree-whole s e = whole-tree (s .state .tree) (whole-facts (s .state) (ready-facts s e .1) .0 .tree)
 
 pub ends-spent : (b n : ℕ) (w : RunResult) (s : Scene) → Going-on b w n s → b ≤ n → ended (Spent n) n s ≡ w
 ends-spent b n w s i l = sym (run-spent b n s (i .0) l) ∙ i .2
@@ -112,12 +113,12 @@ module _ (b n : ℕ) (w : RunResult) (s : Scene) (i : Going-on b w n s) (l : n <
     pub turn-ends : (a : Answer) → r .answer ≡ a → runOn a n (then s r) (λ to. runFrom (b - (n + 1)) (n + 1) to) ≡ w
     turn-ends a g = sym (run-turn b n s r a (i .0) l t g) ∙ i .2
 
-    pub turn-rooted : r .answer ≡ Going → r .state .tree .active ≡ 0 → ended (Refused 7) (n + 1) (then s r) ≡ w
+    pub turn-rooted : r .answer ≡ Going → r .state .active ≡ 0 → ended (Refused 7) (n + 1) (then s r) ≡ w
     turn-rooted g a =
         let k = turn-ready s r (i .1) (i .0) t g in
         sym (run-rooted (b - (n + 1)) (n + 1) (then s r) (k .0) a) ∙ turn-ends Going g
 
-    pub turn-goes : r .answer ≡ Going → (r .state .tree .active ≡ 0 → ⊥) → Going-on b w (n + 1) (then s r)
+    pub turn-goes : r .answer ≡ Going → (r .state .active ≡ 0 → ⊥) → Going-on b w (n + 1) (then s r)
     turn-goes g a =
         let k = turn-ready s r (i .1) (i .0) t g in
         (ready-again (then s r) (k .0) a, k .1, turn-ends Going g)
@@ -151,6 +152,7 @@ turnedTo k r =
       «work_place» = k .«work_place»;
       nodes = k .nodes;
       active = k .active;
+      first = k .first;
       records = k .records;
     }
 
@@ -207,14 +209,14 @@ pub came : (t : Scene) (k : Core) (c p : List ℕ) (w : List Bool) (b n ki v : L
     → p ≡ t .state .calls .places
     → w ≡ t .state .calls .wides
     → b ≡ t .state .calls .bases
-    → n ≡ t .state .numbers .names
+    → n ≡ t .state .numbers .programs
     → ki ≡ t .state .numbers .kinds
     → v ≡ t .state .numbers .values
     → wy ≡ t .state .numbers .wides
     → pa ≡ t .state .tree .parents
     → ow ≡ t .state .tree .owners
-    → ti ≡ t .state .tree .names
-    → si ≡ t .state .tree .values
+    → ti ≡ t .state .tree .«name_sizes»
+    → si ≡ t .state .tree .«value_sizes»
     → turn x (then (arraysOf (t .state))) work store ≡ tokenTurn t
 came t k c p w b n ki v wy pa ow ti si then x work store e h q q1 q2 q3 q4 q5 q6 q7 q8 q9 q10 q11 q12 =
     let q0 : joined (everyOn c p w b n ki v wy pa ow ti si (arraysOf (t .state))) k ≡ t .state = rw (q, q1, q2, q3, q4, q5, q6, q7, q8, q9, q10, q11, q12) in
@@ -245,7 +247,7 @@ module _ (s : Scene) (z : Sized (s .state)) (e : readyOf s ≡ Going) where
       by : (a : Answer) → readyOf (then s r) ≡ a → toldRan x work store ≡ unless (readyOf (then s r)) 1 (then s r) (ended (Spent 1) 1 (then s r))
           → handedBack (oneOf x) work store ≡ r
       by Going q f = carried (Spent 1) refl (f ∙ rw q)
-      by Finished q f = absurd (never-finished (eqb (r .state .tree .active) 0) (sym q ∙ watched))
+      by Finished q f = absurd (never-finished (eqb (r .state .active) 0) (sym q ∙ watched))
         where
           never-finished : (b : Bool) → Finished ≡ pick b (Refused 7) Going → ⊥
           never-finished true k = let y : _≡_ {A = ℕ} 0 1 = cc in omega arith

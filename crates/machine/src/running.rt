@@ -199,15 +199,15 @@ fn tokens(rom: &[u8], work: &mut [u8], store: &mut [u8], st: State, budget: u32)
     let mut wides = calls.wides;
     let mut bases = calls.bases;
     let numbers = st.numbers;
-    let mut names = numbers.names;
+    let mut names = numbers.programs;
     let mut kinds = numbers.kinds;
     let mut values = numbers.values;
     let mut ways = numbers.wides;
     let tree = st.tree;
     let mut parents = tree.parents;
     let mut owners = tree.owners;
-    let mut titles = tree.names;
-    let mut sizes = tree.values;
+    let mut titles = tree.name_sizes;
+    let mut sizes = tree.value_sizes;
     let r = cruise(
         rom,
         work,
@@ -250,20 +250,21 @@ fn tokens(rom: &[u8], work: &mut [u8], store: &mut [u8], st: State, budget: u32)
             count: core.frames,
         },
         numbers: Numbers {
-            names: names,
+            programs: names,
             kinds: kinds,
             values: values,
             wides: ways,
             count: core.held,
         },
         work_place: core.work_place,
+        active: core.active,
+        first: core.first,
         tree: Tree {
             parents: parents,
             nodes: core.nodes,
-            active: core.active,
             owners: owners,
-            names: titles,
-            values: sizes,
+            name_sizes: titles,
+            value_sizes: sizes,
             held: core.records,
         },
     };

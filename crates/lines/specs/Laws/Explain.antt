@@ -147,7 +147,7 @@ read-most t store k =
     pick-is (λ z. length z ≤ 51584) (not (eqb (length store) storeSize) || not (wholeTree t)) [] (ownLines true (heldOf t store) k) (λ i. omega arith)
     (λ i.
     let w = not-not (wholeTree t) (neither (not (eqb (length store) storeSize)) (not (wholeTree t)) i .1) in
-    let f = whole-facts t (is-true (wholeTree t) w) .nodes in
+    let f = whole-facts t (is-true (wholeTree t) w) in
     let a = own-read (heldOf t store) k in
     let b = held-read t store (t .held) 0 0 in
     omega (arith, f .held-most, f .live-most))

@@ -135,7 +135,7 @@ length-run-text t store steps number =
 
 pub text-most : (t : Tree) (store : List ℕ) (steps number : ℕ) → wholeTree t ≡ true → length (runText t store steps number) ≤ 34160
 text-most t store steps number w =
-    let f = whole-facts t w .nodes in
+    let f = whole-facts t w in
     let ps = heldOf t store in
     let a = length-run-text t store steps number in
     let b = nodes-fit t ps (t .nodes) 0 in

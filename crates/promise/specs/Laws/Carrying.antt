@@ -56,8 +56,8 @@ seek-name list n (suc k) i h =
     (λ t l. seek-name list n k (i + 1) (omega arith)) h
 
 -- a number that is held has the name where it is found
-pub held-name : (ns : Numbers) (n : ℕ) → seekOf ns n < ns .count → getD (ns .names) (seekOf ns n) 0 ≡ n
-held-name ns n h = seek-name (ns .names) n (ns .count) 0 (omega arith)
+pub held-name : (ns : Numbers) (n : ℕ) → seekOf ns n < ns .count → getD (ns .programs) (seekOf ns n) 0 ≡ n
+held-name ns n h = seek-name (ns .programs) n (ns .count) 0 (omega arith)
 
 -- ---- kinds
 -- the kind of a number that is held
@@ -104,7 +104,7 @@ module _ {rom : List ℕ} (a : Assignment rom) where
   found {home} {d} {e} {ns} c f l =
       let n = newNumber (f .token .operand) in
       let (i, h, q) = c .full d e f l in
-      let r = seek-finds (ns .names) n (ns .count) 0 i (omega arith) (omega arith) q in
+      let r = seek-finds (ns .programs) n (ns .count) 0 i (omega arith) (omega arith) q in
       let s : seekOf ns n < ns .count = omega arith in
       let (d′, e′, en, l′) = c .real (seekOf ns n) s in
       let o : d′ ≡ d = a .once (en .defined .met) (f .met) (en .defined .defines) (f .defines) (sym (en .name) ∙ held-name ns n s) in
@@ -179,8 +179,8 @@ module _ {rom : List ℕ} (a : Assignment rom) where
     then = definedOf ns (newNumber (f .token .operand)) (kindIn (f .token .operand)) v (f .setting .wide)
 
     -- its name
-    new-name : getD (then .names) (ns .count) 0 ≡ newNumber (f .token .operand)
-    new-name = getD-set-same (ns .names) (ns .count) (newNumber (f .token .operand)) 0 (omega (arith, z .names))
+    new-name : getD (then .programs) (ns .count) 0 ≡ newNumber (f .token .operand)
+    new-name = getD-set-same (ns .programs) (ns .count) (newNumber (f .token .operand)) 0 (omega (arith, z .programs))
 
     -- the new one
     new-entry : Held rom then (ns .count) d e
@@ -200,7 +200,7 @@ module _ {rom : List ℕ} (a : Assignment rom) where
     old-entry {i} n en =
         record {
           defined = en .defined;
-          name = getD-set-other (ns .names) (ns .count) i (newNumber (f .token .operand)) 0 n ∙ en .name;
+          name = getD-set-other (ns .programs) (ns .count) i (newNumber (f .token .operand)) 0 n ∙ en .name;
           kind = getD-set-other (ns .kinds) (ns .count) i (kindIn (f .token .operand)) 0 n ∙ en .kind;
           body = λ t.
               let g = en .body t in (
@@ -221,7 +221,8 @@ module _ {rom : List ℕ} (a : Assignment rom) where
         ]
 
     -- and each such definition's is among them
-    full-new : MovesHome rom d e → (x y : ℕ) (g : Defined rom x y) → y ≤ e → (i : ℕ) × (i < ns .count + 1) × (getD (then .names) i 0 ≡ newNumber (g .token .operand))
+    full-new : MovesHome rom d e → (x y : ℕ) (g : Defined rom x y) → y ≤ e → (i : ℕ) × (i < ns .count + 1)
+        × (getD (then .programs) i 0 ≡ newNumber (g .token .operand))
     full-new m x y g l =
         elim (ℕ-discrete x d) [
           | yes q ↦
@@ -229,7 +230,7 @@ module _ {rom : List ℕ} (a : Assignment rom) where
               (ns .count, omega arith, new-name ∙ ap (λ (t : Token). newNumber (t .operand)) (sym same))
           | no q ↦
               let (i, h, r) = c .full x y g (m .adds x y g l q) in
-              (i, omega arith, getD-set-other (ns .names) (ns .count) i (newNumber (f .token .operand)) 0 (λ s. omega arith) ∙ r)
+              (i, omega arith, getD-set-other (ns .programs) (ns .count) i (newNumber (f .token .operand)) 0 (λ s. omega arith) ∙ r)
         ]
 
   -- a definition

@@ -7,6 +7,7 @@ use lib.ListN.{replicate}
 use Rattle.rom.specs.Words.{lettersOf}
 use Rattle.tree.specs.Held.{heldFrom, liveAmong, sameBytes, foundFrom}
 use Rattle.tree.specs.Whole.{everyBelow, wholeTree}
+use Rattle.tree.specs.Tree.{treeOf}
 use Rattle.tree.specs.Node.{noTree}
 use Rattle.tree.specs.Path.{isCalled, splitOf, anyEmpty, malformed, lessNull, valueIn, childFrom, downFrom, findNodeOf, namedPlace, findPropertyOf, propertyValueOf}
 use Rattle.tree.specs.Rows.{countFrom, columnFrom, parentsOf, countsOf}
@@ -54,16 +55,7 @@ store =
     lettersOf "name" ++ (0x61 ∷ 0 ∷ lettersOf "name" ++ (0x61 ∷ lettersOf "name" ++ (0x63 ∷ lettersOf "name" ++ (0x64 ∷ 0x78 ∷ 7 ∷ 8 ∷ 9 ∷ replicate 16359 0))))
 
 tree : Tree
-tree =
-    record {
-      parents = 0 ∷ 0 ∷ 0 ∷ 2 ∷ 1 ∷ 0 ∷ [];
-      nodes = 6;
-      active = 1;
-      owners = 1 ∷ 2 ∷ 3 ∷ 4 ∷ 1 ∷ [];
-      names = 4 ∷ 4 ∷ 4 ∷ 4 ∷ 1 ∷ [];
-      values = 2 ∷ 1 ∷ 1 ∷ 1 ∷ 3 ∷ [];
-      held = 5;
-    }
+tree = treeOf (0 ∷ 0 ∷ 0 ∷ 2 ∷ 1 ∷ 0 ∷ []) 6 (1 ∷ 2 ∷ 3 ∷ 4 ∷ 1 ∷ []) (4 ∷ 4 ∷ 4 ∷ 4 ∷ 1 ∷ []) (2 ∷ 1 ∷ 1 ∷ 1 ∷ 3 ∷ []) 5
 
 root-found : findNodeOf tree store (lettersOf "/") ≡ Node 0
 unfolding findNodeOf downFrom childFrom valueIn heldFrom sameBytes lessNull malformed splitOf anyEmpty wholeTree everyBelow liveAmong lettersOf store tree

@@ -123,7 +123,8 @@ module _ {rom : List ℕ} (a : Assignment rom) where
       pub numbers : Carried rom (g .home) (then .numbers)
       pub count : then .numbers .count ≡ st .numbers .count
       pub nodes : then .tree .nodes ≡ st .tree .nodes
-      pub children : Below (then .tree) (then .tree .active) (g .outer .children)
+      pub children : Below (then .tree) (then .active) (g .outer .children)
+      pub first : then .first ≡ st .first
 
     pub go-on : {q : ℕ} {then : State} → T (not (fixes t)) → Holds rom (leads (g .setting .wide) (st .place) t q) → Next q then → Standing a open-calls then
     go-on {q} {then} f l n =
@@ -155,6 +156,7 @@ module _ {rom : List ℕ} (a : Assignment rom) where
           count = n .count ∙ g .count;
           nodes = n .nodes ∙ g .nodes;
           children = n .children;
+          first = n .first ∙ g .first;
         }
 
     -- ---- a token that is met exactly once
@@ -169,7 +171,8 @@ module _ {rom : List ℕ} (a : Assignment rom) where
       pub numbers : Carried rom q (then .numbers)
       pub count : then .numbers .count ≡ numbersAfter t (st .numbers .count)
       pub nodes : then .tree .nodes ≡ nodesAfter t (st .tree .nodes)
-      pub children : Below (then .tree) (then .tree .active) (childrenAfter t (g .outer .children))
+      pub children : Below (then .tree) (then .active) (childrenAfter t (g .outer .children))
+      pub first : then .first ≡ st .first
 
     pub fixed : T (fixes t) → Outer a open-calls (st .calls .count) (g .text) (g .floor) (g .base) (st .place) (g .home) (g .setting) (g .outer) t
     fixed f = fixed-outer a (g .chain) met (g .at) (rw (is-true (fixes t) f) tt)
@@ -207,6 +210,7 @@ module _ {rom : List ℕ} (a : Assignment rom) where
           count = n .count ∙ ap (λ v. numbersAfter t v) (g .count);
           nodes = n .nodes ∙ ap (λ v. nodesAfter t v) (g .nodes);
           children = n .children;
+          first = n .first ∙ g .first;
         }
 
     -- ---- a body is entered
@@ -272,6 +276,7 @@ module _ {rom : List ℕ} (a : Assignment rom) where
           count = g .count;
           nodes = g .nodes;
           children = g .children;
+          first = g .first;
         }
 
     -- ---- a body is left
@@ -325,4 +330,5 @@ module _ {rom : List ℕ} (a : Assignment rom) where
               count = g .count;
               nodes = g .nodes;
               children = g .children;
+              first = g .first;
             }

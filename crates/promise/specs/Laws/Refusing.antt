@@ -484,17 +484,19 @@ module _ {rom : List ℕ} (a : Assignment rom) (work store : List ℕ) (open-cal
       let n = g .nodes in
       fails _ (lt-leb nodesMost (st .tree .nodes) (omega arith))
 
-  not-outermost : family ≡ finishDevice → T (not (outermost (st .tree)))
+  not-outermost : family ≡ finishDevice → T (not (outermost (st .first) (st .active)))
   not-outermost e =
       let o = fixed-outer a (g .chain) met (g .at) (rw e tt) in
       let l = a .opened (o .met) (holds (isA finishDevice t) (eq-eqb family finishDevice e)) in
       let b = below-one (st .tree) (g .children) l in
-      fails _ (ne-eqb (st .tree .active) 1 (λ z. omega arith))
+      let f = g .first in
+      fails _ (ne-eqb (st .active) (st .first) (λ z. omega arith))
 
   not-node : T (not (Refusals.noNode s t))
   not-node =
-      nor (only family newDevice (noRoom (st .tree))) (only family finishDevice (outermost (st .tree)))
-      (unasked family newDevice (noRoom (st .tree)) node-room) (unasked family finishDevice (outermost (st .tree)) not-outermost)
+      nor (only family newDevice (noRoom (st .tree))) (only family finishDevice (outermost (st .first) (st .active)))
+      (unasked family newDevice (noRoom (st .tree)) node-room)
+      (unasked family finishDevice (outermost (st .first) (st .active)) not-outermost)
 
   -- ---- what is left: 21 to 27, or none
   pub by-data : ByData (refusalOf s t)

@@ -42,7 +42,7 @@ use Rattle.promise.specs.Laws.Steps.{Fine, FineTurn, act-good}
 pub record Steady {rom : List ℕ} (a : Assignment rom) (open-calls : List OpenCall) (work store : List ℕ) (st : State) : Type 0 where
   pub standing : Standing a open-calls st
   pub sized : Sized st
-  pub rooted : Rooted (st .tree)
+  pub rooted : Rooted st
   pub ready : readyOf (scene rom work store st) ≡ Going
 
 -- the same place read with the same length and width
@@ -111,9 +111,10 @@ module _ {rom : List ℕ} (a : Assignment rom) where
               count = refl;
               nodes = refl;
               children = own;
+              first = refl;
             };
         sized = fresh-sized rom;
-        rooted = fresh-rooted;
+        rooted = fresh-rooted rom;
         ready = fresh-ready rom work store x y e;
       }
 

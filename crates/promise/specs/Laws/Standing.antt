@@ -37,14 +37,15 @@ pub record Defined (rom : List ℕ) (d e : ℕ) : Type 0 where
 -- body keeps the offset width in force where it was defined".
 pub record Held (rom : List ℕ) (ns : Numbers) (i d e : ℕ) : Type 0 where
   pub defined : Defined rom d e
-  pub name : getD (ns .names) i 0 ≡ newNumber (defined .token .operand)
+  pub name : getD (ns .programs) i 0 ≡ newNumber (defined .token .operand)
   pub kind : getD (ns .kinds) i 0 ≡ kindIn (defined .token .operand)
   pub body : T (isColon (defined .token)) → (getD (ns .values) i 0 ≡ defined .token .next) × (getD (ns .wides) i false ≡ defined .setting .wide)
 
 -- A state's numbers are those of the reachable definitions that lie wholly before a place, and no others.
 pub record Carried (rom : List ℕ) (home : ℕ) (ns : Numbers) : Type 0 where
   pub real : (i : ℕ) → i < ns .count → (d : ℕ) × (e : ℕ) × Held rom ns i d e × (e ≤ home)
-  pub full : (d e : ℕ) (f : Defined rom d e) → e ≤ home → (i : ℕ) × (i < ns .count) × (getD (ns .names) i 0 ≡ newNumber (f .token .operand))
+  pub full : (d e : ℕ) (f : Defined rom d e) → e ≤ home → (i : ℕ) × (i < ns .count)
+      × (getD (ns .programs) i 0 ≡ newNumber (f .token .operand))
 
 -- ---- frames in step with the call chain
 -- Home is where the run stands outside bodies, and `outer` the setting there. Where a call is open, home is the place of the outermost call: the call chain says
@@ -103,4 +104,6 @@ pub record Standing {rom : List ℕ} (a : Assignment rom) (open-calls : List Ope
   pub numbers : Carried rom home (st .numbers)
   pub count : st .numbers .count ≡ outer .numbers
   pub nodes : st .tree .nodes ≡ outer .nodes
-  pub children : Below (st .tree) (st .tree .active) (outer .children)
+  pub children : Below (st .tree) (st .active) (outer .children)
+  -- the program started at node 1, where finish-device is refused
+  pub first : st .first ≡ 1

@@ -26,7 +26,7 @@ use Rattle.tokens.specs.declared.decoding.Token.{Token}
 use Rattle.tokens.specs.declared.read.Read.the-variants.{Good}
 use Rattle.tree.specs.Whole.{parentOf}
 use Rattle.tree.specs.Property.{recordedOf, treePut}
-use Rattle.tree.specs.Node.{childOf, finishedOf}
+use Rattle.tree.specs.Node.{childOf}
 use Rattle.tree.specs.Laws.PutKept.{SizedTree}
 use Rattle.tree.specs.declared.tree.Tree.{Tree}
 use Rattle.state.specs.Stacks.{plainOf}
@@ -39,6 +39,7 @@ use Rattle.state.specs.Effects
 use Rattle.state.specs.Effects.{aimed, onward, behindBody, effects, nothing, actOf}
 use Rattle.state.specs.Laws.Sized.{Sized}
 use Rattle.state.specs.Laws.Keeps.Tests.{_▸_}
+use Rattle.state.specs.Laws.Keeps.Tree.{put-nodes}
 use Rattle.state.specs.Laws.Keeps.Token.{takesBy, givesBy, shape, no-returns}
 use Rattle.state.specs.declared.state.State.{State}
 use Rattle.state.specs.declared.answer.Answer.{Answer}
@@ -59,39 +60,35 @@ use Rattle.promise.specs.Laws.Onward.{open-count, falls-on, go-on, fixed
 
 -- ---- the tree
 -- a child more leaves every node where it was
-below-more : (t : Tree) {k n : ℕ} → Below t k n → Below (childOf t) k n
-below-more t own = own
-below-more t (child {k} {n} h l b) =
-    let e : parentOf (childOf t) k ≡ parentOf t k = getD-set-other (t .parents) (t .nodes) k (t .active) 0 (λ q. omega arith) in
-    child h (omega arith) (subst (λ p. Below (childOf t) p n) (sym e) (below-more t b))
+below-more : (t : Tree) (active : ℕ) {k n : ℕ} → Below t k n → Below (childOf t active) k n
+below-more t active own = own
+below-more t active (child {k} {n} h l b) =
+    let e : parentOf (childOf t active) k ≡ parentOf t k = getD-set-other (t .parents) (t .nodes) k active 0 (λ q. omega arith) in
+    child h (omega arith) (subst (λ p. Below (childOf t active) p n) (sym e) (below-more t active b))
 
 -- and is one below the node that was active
-below-child : (t : Tree) {n : ℕ} → SizedTree t → 2 ≤ t .nodes → t .nodes < 32 → Below t (t .active) n → Below (childOf t) (t .nodes) (suc n)
-below-child t {n} z l h b =
-    let e : parentOf (childOf t) (t .nodes) ≡ t .active = getD-set-same (t .parents) (t .nodes) (t .active) 0 (omega (arith, z .parents)) in
-    child l (omega arith) (subst (λ p. Below (childOf t) p n) (sym e) (below-more t b))
-
--- with another node active
-below-active : (t : Tree) {k n : ℕ} → Below t k n → Below (finishedOf t) k n
-below-active t own = own
-below-active t (child h l b) = child h l (below-active t b)
+below-child : (t : Tree) (active : ℕ) {n : ℕ} → SizedTree t → 2 ≤ t .nodes → t .nodes < 32 → Below t active n
+    → Below (childOf t active) (t .nodes) (suc n)
+below-child t active {n} z l h b =
+    let e : parentOf (childOf t active) (t .nodes) ≡ active = getD-set-same (t .parents) (t .nodes) active 0 (omega (arith, z .parents)) in
+    child l (omega arith) (subst (λ p. Below (childOf t active) p n) (sym e) (below-more t active b))
 
 -- a parent is one less below node 1
-below-parent : (t : Tree) {k n : ℕ} → Below t k n → 1 ≤ n → Below (finishedOf t) (parentOf t k) (n - 1)
+below-parent : (t : Tree) {k n : ℕ} → Below t k n → 1 ≤ n → Below t (parentOf t k) (n - 1)
 below-parent t own l = absurd (omega arith)
 below-parent t (child {k} {n} h u b) l =
     let e : suc n - 1 ≡ n = omega arith in
-    subst (λ m. Below (finishedOf t) (parentOf t k) m) (sym e) (below-active t b)
+    subst (λ m. Below t (parentOf t k) m) (sym e) b
 
 -- properties change nothing of it
-below-put : (t : Tree) (stored name v : List ℕ) {k n : ℕ} → Below t k n → Below (treePut t stored name v) k n
+below-put : (t : Tree) (stored : List ℕ) (node : ℕ) (name v : List ℕ) {k n : ℕ} → Below t k n → Below (treePut t stored node name v) k n
 unfolding recordedOf
-below-put t stored name v own = own
-below-put t stored name v (child h l b) = child h l (below-put t stored name v b)
+below-put t stored node name v own = own
+below-put t stored node name v (child h l b) = child h l (below-put t stored node name v b)
 
-put-same : (t : Tree) (stored name v : List ℕ) → (treePut t stored name v .nodes ≡ t .nodes) × (treePut t stored name v .active ≡ t .active)
-unfolding recordedOf
-put-same t stored name v = (refl, refl)
+-- the nodes of a state
+abbrev nodesOf : State → Tree × ℕ × ℕ
+nodesOf st = (st .tree, st .active, st .first)
 
 -- ---- branches
 -- a branch leads to its aim
@@ -223,8 +220,8 @@ module _ {rom : List ℕ} (a : Assignment rom) (work stored : List ℕ) (open-ca
 
   -- other stacks, and the rest as it was
   stacked : {q : ℕ} {then : State} → T (not (fixes t)) → Holds rom (leads (g .setting .wide) (st .place) t q) → Effected (then .stack .height) (then .back .height)
-      → then .place ≡ q → then .length ≡ st .length → then .wide ≡ st .wide → then .calls ≡ st .calls → then .numbers ≡ st .numbers → then .tree ≡ st .tree
-      → Standing a open-calls then
+      → then .place ≡ q → then .length ≡ st .length → then .wide ≡ st .wide → then .calls ≡ st .calls → then .numbers ≡ st .numbers
+      → nodesOf then ≡ nodesOf st → Standing a open-calls then
   stacked {q} {then} f l h p len w c n tr =
       go-on a work stored open-calls st g t is f l
       (record {
@@ -236,8 +233,9 @@ module _ {rom : List ℕ} (a : Assignment rom) (work stored : List ℕ) (open-ca
         back = h .1;
         numbers = subst (λ v. Carried rom (g .home) v) (sym n) (g .numbers);
         count = ap (λ v. v .count) n;
-        nodes = ap (λ v. v .nodes) tr;
-        children = subst (λ v. Below v (v .active) (g .outer .children)) (sym tr) (g .children);
+        nodes = ap (λ (v : Tree × ℕ × ℕ). v .0 .nodes) tr;
+        children = subst (λ (v : Tree × ℕ × ℕ). Below (v .0) (v .1) (g .outer .children)) (sym tr) (g .children);
+        first = ap (λ (v : Tree × ℕ × ℕ). v .2) tr;
       })
 
   -- tokens that only reckon, u/mod among them
@@ -292,7 +290,6 @@ module _ {rom : List ℕ} (a : Assignment rom) (work stored : List ℕ) (open-ca
     keeps-good : (takes : ℕ) (name v : List ℕ) → takes ≡ takesBy f → 0 ≡ givesBy f → Standing a open-calls (Effects.keepsOf s t takes name v .state)
     keeps-good takes name v p q =
         let h = taken (st .stack .height - takes + 0) (st .back .height) (rw (← p, ← q) refl) refl in
-        let same = put-same (st .tree) stored name v in
         go-on a work stored open-calls st g t is no-fixing goes-behind
         (record {
           place = refl;
@@ -303,8 +300,9 @@ module _ {rom : List ℕ} (a : Assignment rom) (work stored : List ℕ) (open-ca
           back = h .1;
           numbers = g .numbers;
           count = refl;
-          nodes = same .0;
-          children = subst (λ m. Below (treePut (st .tree) stored name v) m (g .outer .children)) (sym (same .1)) (below-put (st .tree) stored name v (g .children));
+          nodes = put-nodes (st .tree) stored (st .active) name v;
+          children = below-put (st .tree) stored (st .active) name v (g .children);
+          first = refl;
         })
 
   -- another value of a number, which is a value's
@@ -323,6 +321,7 @@ module _ {rom : List ℕ} (a : Assignment rom) (work stored : List ℕ) (open-ca
         count = refl;
         nodes = refl;
         children = g .children;
+        first = refl;
       })
 
   -- ---- a call: a body is entered, any other number gives its value
@@ -391,6 +390,7 @@ module _ {rom : List ℕ} (a : Assignment rom) (work stored : List ℕ) (open-ca
         count = rw e refl;
         nodes = rw e refl;
         children = rw e (g .children);
+        first = refl;
       })
 
   new-good : family ≡ newDevice → Standing a open-calls (Effects.opensNode s t .state)
@@ -409,7 +409,8 @@ module _ {rom : List ℕ} (a : Assignment rom) (work stored : List ℕ) (open-ca
         numbers = moves-on f (rw e tt) l;
         count = rw e refl;
         nodes = rw e (omega arith);
-        children = rw e (below-child (st .tree) (z .tree) many less (g .children));
+        children = rw e (below-child (st .tree) (st .active) (z .tree) many less (g .children));
+        first = refl;
       })
 
   finish-good : family ≡ finishDevice → Standing a open-calls (Effects.closesNode s t .state)
@@ -429,6 +430,7 @@ module _ {rom : List ℕ} (a : Assignment rom) (work stored : List ℕ) (open-ca
         count = rw e refl;
         nodes = rw e refl;
         children = rw e (below-parent (st .tree) (g .children) (a .opened (outer f .met) i));
+        first = refl;
       })
 
   -- ---- definitions
@@ -476,6 +478,7 @@ module _ {rom : List ℕ} (a : Assignment rom) (work stored : List ℕ) (open-ca
           count = rw e (omega arith);
           nodes = rw e refl;
           children = rw e (g .children);
+          first = refl;
         })
 
     -- any other kind: so many cells taken, another work place
@@ -502,6 +505,7 @@ module _ {rom : List ℕ} (a : Assignment rom) (work stored : List ℕ) (open-ca
             count = rw e (omega arith);
             nodes = rw e refl;
             children = rw e (g .children);
+            first = refl;
           })
 
     define-good : FineTurn a open-calls st (Effects.defines s t)

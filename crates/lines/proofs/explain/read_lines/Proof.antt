@@ -21,6 +21,8 @@ read-lines-spec =
     (λ c. rw (ne-eqb _ _ (c .if1 .taken)) wrote-none)
     (λ c κs. search needs)
     (λ c. rw (eq-eqb _ _ (c .before .before .if1 .left), sym (c .before .is-whole .ensures) ∙ not-true _ (c .if2 .taken)) wrote-none)
-    (λ c κs. let n = whole-facts (c .before .before .before .before .before .before .args .tree) (whole (c .before)) .nodes in (n .held-most, omega (arith, n .live-most)))
+    (λ c κs.
+    let n = whole-facts (c .before .before .before .before .before .before .args .tree) (whole (c .before)) in
+    (n .held-most, omega (arith, n .live-most)))
     (λ c. search needs)
     (λ c. rw (eq-eqb _ _ (c .before .before .before .before .before .before .if1 .left), sym (c .before .before .before .before .before .is-whole .ensures) ∙ not-false _ (c .before .before .before .before .if2 .left)) (c .before .before .own-lines .ensures)))

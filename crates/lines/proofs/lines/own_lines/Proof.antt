@@ -27,7 +27,7 @@ within : (c : tie.In-loop Inv-loop μ-loop)
 within c =
     let l = c .before .loop in
     let a = c .before .before .before .before .args in
-    let e = live-more (a .t5 .names) (a .t5 .values) (a .t5 .held - l .i) (l .i) (a .t5 .held) (search needs) refl in
+    let e = live-more (a .t5 .«name_sizes») (a .t5 .«value_sizes») (a .t5 .held - l .i) (l .i) (a .t5 .held) (search needs) refl in
     omega arith
 
 pub own-lines-spec : {M : Type 1} → statement M

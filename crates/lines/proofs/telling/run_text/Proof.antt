@@ -53,7 +53,7 @@ run-text-spec =
     (λ c κs. search needs)
     (λ c κs.
     let w = whole (c .before .before .before .before .before .before) in
-    let n = whole-facts (c .before .before .before .before .before .before .before .before .before .before .before .before .args .tree) w .nodes in
+    let n = whole-facts (c .before .before .before .before .before .before .before .before .before .before .before .before .args .tree) w in
     (n .nodes-most, n .held-most, omega (arith, n .live-most)))
     (λ c κs. search needs)
     (λ c κs. search needs)

@@ -83,7 +83,22 @@ enum-told-2 c =
 
 cold-token-requires : tie.Need-cold-token-requires Inv-loop μ-loop
 cold-token-requires c κs =
-    let x = c .before .before .before .before .before .before .before .before .before .before .before .before .before .before .before .before .before .before .before .before .before .before .before .before .before .before .before .before .before .before .before .before .before .before .before .args in let l = c .before .before .before .before .before .before .before .before .before .before .before .before .before .before .before .before .before .before .before .before .before .before .before .loop in let f = c .before .before .before .before .before .before .before .before .before .before .before .before .before .before .before .before .before .before .fast in let h = hot-left (x .budget) (l .n) _ (scene (now (x .rom)) (l .work) (l .store) (joined (arrays (l .cells) (l .back) (l .places) (l .wides) (l .bases) (l .names) (l .kinds) (l .values) (l .ways) (l .parents) (l .owners) (l .titles) (l .sizes)) (l .core))) (l .inv .1) (c .before .before .before .before .before .before .before .before .before .before .before .before .before .before .before .before .before .before .before .before .before .before .loop-test .taken) (f .result) _ _ (f .ensures) (c .before .before .before .before .before .before .before .before .before .before .before .before .before .before .before .before .enum-told2 .given .1) in let i = h .0 in (fit _ (i .0), h .1, i .1 .numbers .names, i .1 .numbers .kinds, l .inv .2)
+    let x = c .before .before .before .before .before .before .before .before .before .before .before .before .before .before .before
+    .before .before .before .before .before .before .before .before .before .before .before .before .before .before .before .before
+    .before .before .before .before .args in
+    let l = c .before .before .before .before .before .before .before .before .before .before .before .before .before .before .before
+    .before .before .before .before .before .before .before .before .loop in
+    let f = c .before .before .before .before .before .before .before .before .before .before .before .before .before .before .before
+    .before .before .before .fast in
+    let h = hot-left (x .budget) (l .n) _ (scene (now (x .rom)) (l .work) (l .store)
+    (joined (arrays (l .cells) (l .back) (l .places) (l .wides) (l .bases) (l .names) (l .kinds) (l .values) (l .ways) (l .parents)
+    (l .owners) (l .titles) (l .sizes)) (l .core))) (l .inv .1)
+    (c .before .before .before .before .before .before .before .before .before .before .before .before .before .before .before .before
+    .before .before .before .before .before .before .loop-test .taken) (f .result) _ _ (f .ensures)
+    (c .before .before .before .before .before .before .before .before .before .before .before .before .before .before .before .before
+    .enum-told2 .given .1) in
+    let i = h .0 in
+    (fit _ (i .0), h .1, i .1 .numbers .programs, i .1 .numbers .kinds, l .inv .2)
 
 enum-told-3 : tie.Need-enum-told-3 Inv-loop μ-loop
 enum-told-3 c =

@@ -14,7 +14,21 @@ run-spec =
     (tie.spec
     (λ c κs. search needs)
     (λ c. search needs)
-    (λ c κs. (sym (c .before .before .before .before .ready .ensures) ∙ c .before .before .enum-told .given .1, record { stack = search needs; back = search needs; calls = let a = c .before .before .before .before .before .before .before .before .before .before .good .1 .1 .1 .0 .1 .1 .1 .1 .1 .1 .1 .1 .0 in record { places = search needs; wides = search needs; bases = search needs }; numbers = let a = c .before .before .before .before .before .before .before .before .before .before .good .1 .1 .1 .0 .1 .1 .1 .1 .1 .1 .1 .1 .1 .0 in record { names = search needs; kinds = search needs; values = search needs; wides = search needs }; tree = let a = c .before .before .before .before .before .before .before .before .before .before .good .1 .1 .1 .0 .1 .1 .1 .1 .1 .1 .1 .1 .1 .1 .1 .0 in record { parents = search needs; owners = search needs; names = search needs; values = search needs } }))
+    (λ c κs.
+    let good = c .before .before .before .before .before .before .before .before .before .before .good .1 .1 .1 .0 in (
+      sym (c .before .before .before .before .ready .ensures) ∙ c .before .before .enum-told .given .1,
+      record {
+        stack = search needs;
+        back = search needs;
+        calls = let a = good .1 .1 .1 .1 .1 .1 .1 .1 .0 in record { places = search needs; wides = search needs; bases = search needs };
+        numbers =
+            let a = good .1 .1 .1 .1 .1 .1 .1 .1 .1 .0 in
+            record { programs = search needs; kinds = search needs; values = search needs; wides = search needs };
+        tree =
+            let a = good .1 .1 .1 .1 .1 .1 .1 .1 .1 .1 .1 .1 .1 .0 in
+            record { parents = search needs; owners = search needs; nameSizes = search needs; valueSizes = search needs };
+      },
+    ))
     (λ c. search needs)
     (λ c κs. search needs)
     (λ c. search needs)
