@@ -28,6 +28,7 @@ use Rattle.tokens.specs.declared.decoding.Token.{Token}
 use Rattle.tokens.specs.declared.glance.Glance.{Glance}
 use Rattle.tokens.specs.declared.read.Read.{Read}
 use Rattle.tokens.specs.declared.read.Read.the-variants.{Refused as Unread, Good}
+use Rattle.tokens.specs.Laws.Stands.{stands}
 use Rattle.state.specs.State.{isOpen}
 use Rattle.state.specs.Scene.{Scene, Turn, scene, turn, refuse}
 use Rattle.state.specs.Refusals.{refusalOf}
@@ -35,7 +36,7 @@ use Rattle.state.specs.Effects.{Effect, colons, values, variables, effects, act
 use Rattle.state.specs.Step.{doneOf, readTurn}
 use Rattle.state.specs.Step.{tokenTurn as turnOf}
 use Rattle.state.specs.Joints.Hot.{hotFamily, Cold}
-use Rattle.state.specs.Laws.Keeps.Token.{stands, leave-open}
+use Rattle.state.specs.Laws.Keeps.Token.{leave-open}
 use Rattle.state.specs.Laws.Untouched.{count-kept, records-kept}
 use Rattle.state.specs.declared.state.State.{State}
 use Rattle.state.specs.declared.answer.Answer.the-variants.{Refused}

@@ -8,7 +8,7 @@ use lib.ListN.{getD}
 use lib.Dec.{eqb}
 use Rattle.cells.specs.Choice.{pick}
 use Rattle.tokens.specs.Family.{call, assign}
-use Rattle.tokens.specs.Table.{isProgram}
+use Rattle.tokens.specs.Table.{isProgram, firstProgram}
 use Rattle.tokens.specs.Code.{familyIn}
 use Rattle.tokens.specs.Place.{readOf}
 use Rattle.tokens.specs.declared.decoding.Operand.{Operand}
@@ -19,10 +19,10 @@ use Rattle.tokens.specs.declared.read.Read.the-variants.{Refused, Good}
 use Rattle.tokens.specs.declared.body.Body.{Body}
 use Rattle.tokens.specs.declared.body.Body.the-variants.{Ends, Stops}
 
--- the kind byte of a program number, by a list that has one for each number from 800 up: 0 where the number is not defined, as any other
+-- the kind byte of a program number, by a list that has one for each number from the first up: 0 where the number is not defined, as any other
 -- number is not
 abbrev pub kindOf : List ℕ → ℕ → ℕ
-kindOf kinds n = pick (isProgram n) (getD kinds (n - 0x800) 0) 0
+kindOf kinds n = pick (isProgram n) (getD kinds (n - firstProgram) 0) 0
 
 -- the number that stands behind b(to)
 abbrev pub numberIn : Operand → ℕ

@@ -3,6 +3,8 @@
 -- Laws that whoever reads tokens goes by: a whole token has a next place, past its own and not past the length; and reading a body goes
 -- from token to token.
 pub mod Tokens
+-- What is known of a token that was read: what its bytes and its place say of it.
+pub mod Stands
 -- Laws of the reader: what stands at a place ends behind it and not past the program's end, and so a walk ends, and its stretches are the
 -- program, every byte once and in order.
 pub mod Reader

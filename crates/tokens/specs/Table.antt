@@ -143,8 +143,18 @@ abbrev pub notListed : Row
 notListed = works "" unlisted nowhere none 0 0 []
 
 -- "a new number outside 0x800-0xFFF" is none of a program
+abbrev pub firstProgram : ℕ
+firstProgram = 0x800
+
+abbrev pub lastProgram : ℕ
+lastProgram = 0xFFF
+
+-- how many there are, each with its place in the tables of numbers
+abbrev pub programsMost : ℕ
+programsMost = 2048
+
 abbrev pub isProgram : ℕ → Bool
-isProgram n = leb 0x800 n && leb n 0xFFF
+isProgram n = leb firstProgram n && leb n lastProgram
 
 unfoldable pub rowOf : ℕ → Row
 unfolding table

@@ -2,7 +2,7 @@
 use Prim.Native.Nat.{ℕ}
 use mathlib.Core.Path.{_≡_, refl, sym, subst}
 use mathlib.Core.Bool.{Bool, true, false, not, _&&_, _||_}
-use lib.Dec.{T, eqb, eqb→eq}
+use lib.Dec.{T, T-not, eqb, eqb→eq}
 
 -- ---- a test as a fact, and as an equation
 pub holds : (b : Bool) → b ≡ true → T b
@@ -59,6 +59,20 @@ four-hold a b c d t =
 pub join-four : (a b c d : Bool) → T a → T b → T c → T d → T (a && b && c && d)
 join-four a b c d s t u v = join-hold (a && b && c) d (join-hold (a && b) c (join-hold a b s t) u) v
 
+-- the first of two tests is one of them, and so is the second
+pub or-first : (a b : Bool) → T a → T (a || b)
+or-first true b t = tt
+or-first false b t = absurd t
+
+pub or-second : (a b : Bool) → T b → T (a || b)
+or-second true b t = tt
+or-second false b t = t
+
+-- what follows from each of two tests follows from either
+pub either : (a b : Bool) (X : Type 0) → T (a || b) → (T a → X) → (T b → X) → X
+either true b X t f g = f tt
+either false b X t f g = g t
+
 pub neither : (a b : Bool) → T (not (a || b)) → T (not a) × T (not b)
 neither true b t = absurd t
 neither false b t = (tt, t)
@@ -81,6 +95,11 @@ not-both false b s t = absurd s
 pub follows : (a b : Bool) → T (not a || b) → T a → T b
 follows true b h t = h
 follows false b h t = absurd t
+
+-- and that fails where the other does
+pub denied : (a b : Bool) → T (not a || b) → T (not b) → T (not a)
+denied true b h n = absurd (T-not b n h)
+denied false b h n = tt
 
 -- ---- a choice by a test that is known
 pub when-true {ℓ} : {X : Type ℓ} (x y : X) (b : Bool) → b ≡ true → elim b [ true ↦ x | false ↦ y ] ≡ x

@@ -7,7 +7,7 @@ use lib.Dec.{T, T-not, eqb}
 use borrow.Author.Tests.{eqb-true}
 use Rattle.cells.specs.Choice.{pick, find}
 use Rattle.cells.specs.Laws.Tests.{pick-is}
-use Rattle.cells.specs.Laws.Facts.{is-true, both-hold}
+use Rattle.cells.specs.Laws.Facts.{is-true, both-hold, either}
 use Rattle.tokens.specs.Row.{everywhere}
 use Rattle.tokens.specs.Table.{ends, lows, highs, doubles, table}
 use Rattle.tokens.specs.Code.{codeOf, familyIn, outOfPlaceIn, formIn}
@@ -20,9 +20,9 @@ use Rattle.tokens.specs.declared.decoding.Decoded.{Decoded}
 use Rattle.tokens.specs.declared.decoding.Decoded.the-variants.{Cut, Unlisted, Whole}
 use Rattle.tokens.specs.declared.read.Read.{Read}
 use Rattle.tokens.specs.declared.read.Read.the-variants.{Refused, Good}
+use Rattle.tokens.specs.Laws.Stands.{stands}
 use Rattle.state.specs.Effects.{effects}
 use Rattle.state.specs.Laws.Keeps.Tests.{EachAt}
-use Rattle.screen.specs.Laws.Rules.Tokens.{stands, either}
 
 -- ---- an entry of a table that has the number
 abbrev pub hasEntry : {A : Type 0} → ℕ → List (ℕ × A) → Bool

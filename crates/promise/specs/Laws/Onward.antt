@@ -8,7 +8,7 @@ use mathlib.Core.List.{List, [], _∷_}
 use lib.Dec.{T, T-not, eqb→eq}
 use lib.ListN.{getD}
 use lib.Seq.{getD-set-same, getD-set-other}
-use Rattle.cells.specs.Laws.Facts.{holds, fails, is-true, neither}
+use Rattle.cells.specs.Laws.Facts.{holds, fails, is-true, neither, or-first, or-second}
 use Rattle.rom.specs.Header.{lengthOf}
 use Rattle.tokens.specs.Family.{finish, always, choice, leave, define, assign, call}
 use Rattle.tokens.specs.Code.{familyIn, givesIn, returnTakesIn, returnGivesIn}
@@ -24,7 +24,7 @@ use Rattle.state.specs.declared.state.Numbers.{Numbers}
 use Rattle.screen.specs.Effect.{isA, fixes, isColon, isBranch, leadsOf, effectOf}
 use Rattle.screen.specs.Reach.{In, here, Setting, after, childrenAfter, nodesAfter, numbersAfter, tokenAt, leads, Holds, Reach, Met}
 use Rattle.screen.specs.Rules.{Assignment}
-use Rattle.screen.specs.Laws.Rules.Tokens.{after-same, stops-quiet, fixes-no-name, leave-inside, or-first, or-second}
+use Rattle.screen.specs.Laws.Rules.Tokens.{after-same, stops-quiet, fixes-no-name, leave-inside}
 use Rattle.screen.specs.Laws.Rules.Ways.{Ways, ways-of, effect-call, effect-own}
 use Rattle.promise.specs.Laws.Standing.{Defined, Carried, AtHome, Calling, CallChain, outside, within, Below, Standing}
 use Rattle.promise.specs.Laws.Before.{defined-token, leads-moves}

@@ -22,6 +22,7 @@ use Rattle.tokens.specs.declared.decoding.Operand.the-variants.{Nothing, Litera
 use Rattle.tokens.specs.declared.decoding.Token.{Token}
 use Rattle.tokens.specs.declared.read.Read.the-variants.{Good}
 use Rattle.tokens.specs.declared.body.Body.the-variants.{Ends}
+use Rattle.tokens.specs.Laws.Stands.{stands}
 use Rattle.tree.specs.Node.{noRoom, outermost}
 use Rattle.tree.specs.declared.tree.Tree.{Tree}
 use Rattle.state.specs.Stacks.{backTrouble, tooDeep}
@@ -38,7 +39,6 @@ use Rattle.screen.specs.Effect.{isA, isColon, aims, noEffect, isBranch, leadsOf
 use Rattle.screen.specs.Reach.{In, Setting, tokenAt, known, reads, extends, leads, Holds, Met}
 use Rattle.screen.specs.Reach.{calls as named-call, assigns as named-assign}
 use Rattle.screen.specs.Rules.{Assignment}
-use Rattle.screen.specs.Laws.Rules.Tokens.{stands}
 use Rattle.screen.specs.Laws.Rules.Ways.{aimed-some, GivesOn, gives-leads, effect-call, effect-own}
 use Rattle.promise.specs.Laws.Standing.{Defined, Held, Below, own, child, Standing}
 use Rattle.promise.specs.Trail.{DependsOnData, OpenCall}

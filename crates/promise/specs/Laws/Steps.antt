@@ -24,6 +24,7 @@ use Rattle.tokens.specs.declared.decoding.Operand.{Operand}
 use Rattle.tokens.specs.declared.decoding.Operand.the-variants.{Nothing, Literal, Text, Branch, Number, Definition}
 use Rattle.tokens.specs.declared.decoding.Token.{Token}
 use Rattle.tokens.specs.declared.read.Read.the-variants.{Good}
+use Rattle.tokens.specs.Laws.Stands.{stands}
 use Rattle.tree.specs.Whole.{parentOf}
 use Rattle.tree.specs.Property.{recordedOf, treePut}
 use Rattle.tree.specs.Node.{childOf}
@@ -47,7 +48,7 @@ use Rattle.state.specs.declared.answer.Answer.the-variants.{Going, Finished, Re
 use Rattle.screen.specs.Effect.{isA, fixes, isColon, aims, noEffect, isBranch, bothWays, leadsOf, effectOf}
 use Rattle.screen.specs.Reach.{In, here, there, inBody, tokenAt, extends, leads, Holds}
 use Rattle.screen.specs.Rules.{Assignment}
-use Rattle.screen.specs.Laws.Rules.Tokens.{stands, heads}
+use Rattle.screen.specs.Laws.Rules.Tokens.{heads}
 use Rattle.screen.specs.Laws.Rules.Ways.{effect-own}
 use Rattle.promise.specs.Laws.Standing.{Defined, Carried, Below, own, child, Standing}
 use Rattle.promise.specs.Trail.{DependsOnData, OpenCall, openAfter}

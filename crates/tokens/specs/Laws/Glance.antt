@@ -2,14 +2,14 @@
 -- operand there is a law that gives the token whole. Assumes nothing.
 use Prim.Native.Nat.{ℕ, _+_, _-_, _*_, _≤_, _<_}
 use mathlib.Core.Path.{_≡_, refl, sym, ap, subst, _∙_}
-use mathlib.Core.Bool.{Bool, true, false, not, _&&_, _||_}
+use mathlib.Core.Bool.{Bool, true, false, not, _&&_, _||_, or-false}
 use mathlib.Core.List.{List}
 use native.Mathlib.Omega.{arith}
 use borrow.Author.Tests.{le-ltb, leb-true}
 use lib.Dec.{T, eqb, ltb, leb, eqb→eq}
 use Rattle.cells.specs.Choice.{pick}
 use Rattle.cells.specs.Laws.Tests.{neqb→ne}
-use Rattle.cells.specs.Laws.Facts.{holds, both-hold, and-first}
+use Rattle.cells.specs.Laws.Facts.{both-hold, and-first}
 use Rattle.rom.specs.Bytes.{byteOf, word32Of}
 use Rattle.rom.specs.Branch.{offsetOf, aimOf, placeIn}
 use Rattle.tokens.specs.Row.{none, literal, string, offset, number, head, namedHead}
@@ -30,15 +30,11 @@ use Rattle.tokens.specs.declared.read.Read.the-variants.{Refused, Good}
 use Rattle.tokens.specs.declared.glance.Glance.{Glance}
 
 -- ---- no number of two bytes has an operand
-alone : (a : Bool) → T (a || false) → T a
-alone true t = t
-alone false t = t
-
 pub double-plain : (n : ℕ) → 0x100 ≤ n → formIn (codeOf n) ≡ none
 unfolding codeOf table ends lows highs doubles
 double-plain n h =
     let r = rows-pass (λ m r. eqb (formIn (packed r)) none || ltb m 0x100) tt (λ m. tt) (λ m. tt) n in
-    eqb→eq (formIn (packed (rowOf n))) none (alone (eqb (formIn (packed (rowOf n))) none) (rw (le-ltb n 0x100 h) at r))
+    eqb→eq (formIn (packed (rowOf n))) none (rw (le-ltb n 0x100 h, or-false (eqb (formIn (packed (rowOf n))) none)) at r)
 
 -- ---- the token at a place, and a glance at it
 module _ (rom : List ℕ) (size : ℕ) (wide : Bool) (p : ℕ) where

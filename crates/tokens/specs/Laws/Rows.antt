@@ -8,7 +8,7 @@ use lib.Dec.{T, eqb, eqb-refl, eqb→eq}
 use borrow.Author.Tests.{ne-eqb}
 use Rattle.cells.specs.Choice.{find, among}
 use Rattle.cells.specs.Laws.Tests.{pick-is}
-use Rattle.cells.specs.Laws.Facts.{both-hold, follows}
+use Rattle.cells.specs.Laws.Facts.{both-hold, or-first, follows}
 use Rattle.tokens.specs.Family.{plain}
 use Rattle.tokens.specs.Row.{Row}
 use Rattle.tokens.specs.Table.{ends, lows, highs, doubles, table, program, notListed, isProgram, rowOf}
@@ -51,13 +51,9 @@ coded k ks h n e =
     let b = both-hold (everyRow (hasCode k ks) table) (not (eqb (packed program) k) && not (eqb (packed notListed) k)) h in
     let d = both-hold (not (eqb (packed program) k)) (not (eqb (packed notListed) k)) (b .1) in
     follows (eqb (packed (rowOf n)) k) (among n ks)
-    (rows-pass (hasCode k ks) (b .0) (λ m. apart (eqb (packed program) k) (among m ks) (d .0))
-    (λ m. apart (eqb (packed notListed) k) (among m ks) (d .1)) n)
+    (rows-pass (hasCode k ks) (b .0) (λ m. or-first (not (eqb (packed program) k)) (among m ks) (d .0))
+    (λ m. or-first (not (eqb (packed notListed) k)) (among m ks) (d .1)) n)
     (rw e (eqb-refl k))
-  where
-    apart : (a b : Bool) → T (not a) → T (not a || b)
-    apart true b t = absurd t
-    apart false b t = tt
 
 -- ---- what the default arm of a `match` knows of a number: it is none of the keys
 abbrev pub Beside : Type 0 → List ℕ → ℕ → Type 0
@@ -78,7 +74,7 @@ none-left P (k ∷ ks) n r t =
 abbrev pub plainCodes : List ℕ
 plainCodes =
     0x0100_0000 ∷ 0x0100_0001 ∷ 0x0101_0001 ∷ 0x0100_0011 ∷ 0x0100_0021 ∷ 0x0100_0031 ∷ 0x0100_0010 ∷ 0x0100_0020 ∷ 0x0100_0012 ∷
-        0x0100_0023 ∷ 0x0100_0022
+    0x0100_0023 ∷ 0x0100_0022
     ∷ 0x0100_0033 ∷ 0x0100_0024 ∷ 0x0100_0046 ∷ 0x0100_0044 ∷ 0x0100_0066 ∷ 0x0100_0110 ∷ 0x0100_1001 ∷ 0x0100_1101 ∷ []
 
 pub plain-coded : (n code : ℕ) → code ≡ codeOf n → familyIn code ≡ plain → T (among code plainCodes)
@@ -106,11 +102,11 @@ module _ (n : ℕ) (e : familyIn (codeOf n) ≡ plain) where
   results-fit =
       eqb→eq (length (rowOf n .results)) (givesIn (packed (rowOf n)))
       (both-hold (eqb (length (rowOf n .results)) (givesIn (packed (rowOf n))))
-          (eqb (length (rowOf n .returnResults)) (returnGivesIn (packed (rowOf n)))) (fits n e) .0)
+      (eqb (length (rowOf n .returnResults)) (returnGivesIn (packed (rowOf n)))) (fits n e) .0)
 
   pub return-results-fit : length (rowOf n .returnResults) ≡ returnGivesIn (codeOf n)
   unfolding codeOf
   return-results-fit =
       eqb→eq (length (rowOf n .returnResults)) (returnGivesIn (packed (rowOf n)))
       (both-hold (eqb (length (rowOf n .results)) (givesIn (packed (rowOf n))))
-          (eqb (length (rowOf n .returnResults)) (returnGivesIn (packed (rowOf n)))) (fits n e) .1)
+      (eqb (length (rowOf n .returnResults)) (returnGivesIn (packed (rowOf n)))) (fits n e) .1)

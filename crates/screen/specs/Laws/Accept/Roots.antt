@@ -1,6 +1,6 @@
 -- Every place that the model comes to is reachable, and every number that it holds is defined by a reachable token before it. Assumes
 -- nothing.
-use Prim.Native.Nat.{ℕ, suc, _-_, _≤_, _<_}
+use Prim.Native.Nat.{ℕ, suc, _≤_, _<_}
 use native.Mathlib.Omega.{arith}
 use mathlib.Core.Path.{_≡_, refl, sym, ap, _∙_, subst}
 use mathlib.Core.Bool.{Bool, true, false, not}
@@ -15,7 +15,7 @@ use Rattle.tokens.specs.Laws.Tokens.{next-ahead}
 use Rattle.tokens.specs.Definition.{newNumber, kindIn}
 use Rattle.tokens.specs.declared.decoding.Token.{Token}
 use Rattle.screen.specs.Effect.{isA, fixes, isColon, leadsOf, names}
-use Rattle.screen.specs.Reach.{In, here, there, Setting, after, Named, Claim, Holds, Reach, Met}
+use Rattle.screen.specs.Reach.{In, here, Setting, Named, Claim, Holds, Reach, Met}
 use Rattle.screen.specs.Laws.Rules.Reach.{LeadsBy, leads-by, ExtendsBy, extends-by, one-end}
 use Rattle.screen.specs.Laws.Rules.Tokens.{none-in, fixes-no-name, after-same}
 use Rattle.screen.specs.Laws.Rules.Ways.{fixes-leads, fixes-on, colon-leads, unknown-call, unknown-assign}

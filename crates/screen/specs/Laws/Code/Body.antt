@@ -1,7 +1,7 @@
 -- A body's definitions, by what the code has learnt where it returns. Assumes nothing.
 use Prim.Native.Nat.{ℕ, zero, suc, _+_, _-_, _<_, _≤_}
 use mathlib.Core.Path.{_≡_, refl, sym, _∙_, ap, subst}
-use mathlib.Core.Bool.{Bool, true, false, not, _&&_, _||_}
+use mathlib.Core.Bool.{Bool, true, false, not, _&&_, _||_, or-false, Bool·not-not}
 use mathlib.Core.List.{List}
 use mathlib.Core.Logic.{_≢_}
 use native.Mathlib.Omega.{arith}
@@ -15,10 +15,8 @@ use Rattle.cells.specs.Laws.Facts.{holds, both-hold, follows, not-on, not-off, 
 use Rattle.rom.specs.Bytes.{byteOf, word16Of}
 use Rattle.rom.specs.Sizes.{romMost}
 use Rattle.tokens.specs.Family.{unlisted, plain, always, choice, leave, assign, call}
-use Rattle.tokens.specs.Table.{ends, lows, highs, doubles, table}
-use Rattle.tokens.specs.Code.{codeOf, familyIn}
+use Rattle.tokens.specs.Code.{familyIn}
 use Rattle.tokens.specs.Decode.{isDouble, numberOf}
-use Rattle.tokens.specs.Laws.Rows.{code-fact}
 use Rattle.tokens.specs.Laws.Tokens.{none-starts, next-ahead}
 use Rattle.tokens.specs.Body.{kindOf, unknownOf}
 use Rattle.tokens.specs.Place.{misplacedOf, readOf}
@@ -30,8 +28,8 @@ use Rattle.tokens.specs.declared.glance.Glance.{Glance}
 use Rattle.tokens.specs.declared.quick.Quick.{Quick}
 use Rattle.tokens.specs.declared.read.Read.{Read}
 use Rattle.tokens.specs.declared.read.Read.the-variants.{Refused, Good}
+use Rattle.tokens.specs.Laws.Stands.{stands}
 use Rattle.screen.specs.Effect.{isA, astray}
-use Rattle.screen.specs.Laws.Rules.Tokens.{stands}
 use Rattle.screen.specs.Laws.Rules.Ways.{unnamed-known}
 use Rattle.screen.specs.Laws.Code.Codes.{SmallEffect}
 use Rattle.screen.specs.Laws.Code.Visit.{tallyIn, VisitShown, shown, same-family, called-number, assigned-number, astray-aim, families-fit}
@@ -63,14 +61,6 @@ StandsBy kinds g r =
 
 abbrev pub isBranchCode : ℕ → Bool
 isBranchCode c = eqb (familyIn c) always || eqb (familyIn c) choice
-
-twice : (b : Bool) → not (not b) ≡ b
-twice true = refl
-twice false = refl
-
-alone : (b : Bool) → b ≡ not (not b || false)
-alone true = refl
-alone false = refl
 
 plain-stands : (kinds : List ℕ) (t : Token) → familyIn (t .code) ≡ plain → standsIn kinds (Good t) ≡ true
 plain-stands kinds t f = rw (unnamed-known kinds t (rw f), f)
@@ -116,7 +106,7 @@ module _ (kinds : List ℕ) (g : Glance) where
         (λ rom length wide p t s.
         let k = same-family rom (bodyText length wide 0) p g t s assign f in
         let n = assigned-number rom (bodyText length wide 0) p g t s f in
-        d ∙ rw (k, n) (sym (twice (eqb (kindOf kinds (g .number)) 0xB8))))
+        d ∙ rw (k, n) (sym (Bool·not-not (eqb (kindOf kinds (g .number)) 0xB8))))
 
     -- what names no number stands where it does not lead astray
     unnamed : familyIn (g .code) ≢ unlisted → familyIn (g .code) ≢ call → familyIn (g .code) ≢ assign → (r : Bool)
@@ -125,13 +115,13 @@ module _ (kinds : List ℕ) (g : Glance) where
         of-token z r
         (λ rom length wide p t s.
         let u = unnamed-known kinds t (rw (s .code, ne-eqb _ _ n, ne-eqb _ _ b) refl) in
-        rw (h rom length wide p t s, u) (alone r))
+        rw (h rom length wide p t s, u, or-false, Bool·not-not))
 
     pub stands-branch : isBranchCode (g .code) ≡ true → (r : Bool) → r ≡ not (eqb (g .aim) 0) → StandsBy kinds g r
     stands-branch f r d =
         unnamed (λ z. off-on (rw z at f)) (λ z. off-on (rw z at f)) (λ z. off-on (rw z at f)) r
         (λ rom length wide p t s.
-        rw (astray-aim rom (bodyText length wide 0) p g t s, s .code, f, d) (sym (twice (eqb (g .aim) 0))))
+        rw (astray-aim rom (bodyText length wide 0) p g t s, s .code, f, d) (sym (Bool·not-not (eqb (g .aim) 0))))
 
     pub stands-other : familyIn (g .code) ≢ unlisted → familyIn (g .code) ≢ call → familyIn (g .code) ≢ assign → familyIn (g .code) ≢ always
         → familyIn (g .code) ≢ choice → StandsBy kinds g true

@@ -150,7 +150,3 @@ fitting within e cell f =
       returnTakes = k .returnTakes;
       returnMost = k .returnMost;
     }
-
-pub and-true : (b : Bool) → (b && true) ≡ b
-and-true true = refl
-and-true false = refl

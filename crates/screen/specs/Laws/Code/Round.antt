@@ -1,7 +1,7 @@
 -- The rounds' definitions, by what the code has learnt where it returns. Assumes nothing.
 use Prim.Native.Nat.{ℕ, zero, suc, _+_, _-_, _*_, _<_, _≤_}
 use mathlib.Core.Path.{_≡_, refl, sym, _∙_, ap, subst}
-use mathlib.Core.Bool.{Bool, true, false, not, _&&_, _||_}
+use mathlib.Core.Bool.{Bool, true, false, not, _&&_, _||_, or-true}
 use mathlib.Core.List.{List}
 use mathlib.Core.Logic.{_≢_}
 use native.Mathlib.Omega.{arith}
@@ -29,8 +29,8 @@ use Rattle.tokens.specs.declared.glance.Glance.{Glance}
 use Rattle.tokens.specs.declared.quick.Quick.{Quick}
 use Rattle.tokens.specs.declared.read.Read.{Read}
 use Rattle.tokens.specs.declared.read.Read.the-variants.{Refused, Good}
+use Rattle.tokens.specs.Laws.Stands.{stands}
 use Rattle.screen.specs.Effect.{isA, fixes, valueSum}
-use Rattle.screen.specs.Laws.Rules.Tokens.{stands}
 use Rattle.screen.specs.Laws.Code.Body.{Bounded, SurveyIs, off-on}
 use Rattle.screen.specs.Laws.Code.Keep.{bounded-more, bounded-shift, WalkKept, walked-kept}
 use Rattle.screen.specs.Laws.Code.Visit.{tallyIn, fixesBy}
@@ -72,10 +72,6 @@ abbrev pub EndBy : ℕ → ℕ → Glance → ℕ → Type 0
 EndBy far p g y =
     (rom : List ℕ) (length : ℕ) (wide : Bool) → glanceOf rom length wide p ≡ g
     → Ended (highestIn far p (readOf rom length wide false p)) (endIn p (readOf rom length wide false p)) y
-
-or-true : (b : Bool) → (b || true) ≡ true
-or-true true = refl
-or-true false = refl
 
 module _ (far p : ℕ) where
   -- what is refused there

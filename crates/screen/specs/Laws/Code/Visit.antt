@@ -1,7 +1,7 @@
 -- A visit and a tally as the code has them, and what each step of a visit comes to. Assumes nothing.
 use Prim.Native.Nat.{ℕ, suc, _+_, _-_, _≤_, _<_, max}
 use mathlib.Core.Path.{_≡_, refl, sym, ap, _∙_}
-use mathlib.Core.Bool.{Bool, true, false, not, _&&_, _||_, Bool·not-not}
+use mathlib.Core.Bool.{Bool, true, false, not, _&&_, _||_, Bool·not-not, and-true}
 use mathlib.Core.List.{List}
 use mathlib.Core.Logic.{_≢_}
 use native.Mathlib.Omega.{arith}
@@ -32,12 +32,13 @@ use Rattle.tokens.specs.declared.decoding.Decoded.the-variants.{Cut, Unlisted, 
 use Rattle.tokens.specs.declared.read.Read.the-variants.{Refused, Good}
 use Rattle.tokens.specs.declared.glance.Glance.{Glance}
 use Rattle.tokens.specs.declared.quick.Quick.{Quick}
+use Rattle.tokens.specs.Laws.Stands.{stands}
 use Rattle.screen.specs.Effect.{isA, fixes, aims, noEffect, called, ownEffect, effectOf}
 use Rattle.screen.specs.Reach.{In, here}
-use Rattle.screen.specs.Laws.Rules.Tokens.{stands, aims-fit}
+use Rattle.screen.specs.Laws.Rules.Tokens.{aims-fit}
 use Rattle.screen.specs.Laws.Found.Model.{Visit, Tally, cellWith, heightIn, backIn, entered, sumAt, heightAfter, backAfter, fitsOf, badVisit}
 use Rattle.screen.specs.Laws.Found.Model.{agreed, toldIn, soundOf, nextOn, branchIn, aimOn as Model·aimIn, tokenVisit, visitOf, tallied}
-use Rattle.screen.specs.Laws.Code.Codes.{EffectRoom, unfit, fits-last, and-true}
+use Rattle.screen.specs.Laws.Code.Codes.{EffectRoom, unfit, fits-last}
 use Rattle.screen.specs.Laws.Walk.Visits.{visit-fits}
 use Rattle.screen.specs.declared.effect.Effect.{Effect}
 use Rattle.screen.specs.declared.walking.Text.{Text as Scope}

@@ -1,7 +1,7 @@
 -- Where the code's walk is, and which path of the model that stands for. Assumes nothing.
 use Prim.Native.Nat.{ℕ, zero, suc, _+_, _-_, _%_, _≤_, _<_, max}
 use mathlib.Core.Path.{_≡_, refl, sym, ap, _∙_, subst}
-use mathlib.Core.Bool.{Bool, true, false, not, _&&_, _||_}
+use mathlib.Core.Bool.{Bool, true, false, not, _||_, or-true}
 use mathlib.Core.List.{List, [], _∷_}
 use mathlib.Core.Logic.{_≢_}
 use native.Mathlib.Omega.{arith}
@@ -15,7 +15,7 @@ use Rattle.cells.specs.Laws.Facts.{when-true, when-false}
 use Rattle.rom.specs.Sizes.{romMost}
 use Rattle.tokens.specs.Place.{readOf}
 use Rattle.screen.specs.Laws.Found.Model.{Tally, Path, path, failed, blankOf, noTally, toldIn, putVisit, putsOf, visitedOn, walkStep, walking, walkSteps}
-use Rattle.screen.specs.Laws.Found.Model.{setOut, walkAll}
+use Rattle.screen.specs.Laws.Found.Model.{walkAll}
 use Rattle.screen.specs.Laws.Walk.Walking.{blanks, blanks-most, blanks-set, visit-real, puts-lost}
 use Rattle.screen.specs.Laws.Code.Visit.{visitIn, tallyIn, SeenBy}
 use Rattle.screen.specs.declared.walking.Text.{Text as Scope}
@@ -165,10 +165,6 @@ module _ {x : Scope} {seen work : List ℕ} {w : Way} (f : WalkFit x seen work w
 
     pub came-past : x .length ≤ q → CameTo x seen work w q c (spoiltWay w) seen work
     came-past h = spoilt-came (rw (le-leb (x .length) q h) (or-true (ltb q (x .low))))
-      where
-        or-true : (b : Bool) → (b || true) ≡ true
-        or-true true = refl
-        or-true false = refl
 
     module _ (low : x .low ≤ q) (high : q < x .length) where
       inside : (ltb q (x .low) || leb (x .length) q) ≡ false

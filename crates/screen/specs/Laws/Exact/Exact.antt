@@ -9,7 +9,7 @@ use mathlib.Core.Logic.{_⊎_, inl, inr, _≢_}
 use lib.Dec.{T, T-not, eqb}
 use lib.ListN.{getD}
 use borrow.Author.Tests.{eq-eqb, ne-eqb, lt-ltb}
-use Rattle.cells.specs.Laws.Facts.{holds, fails, is-true, is-false}
+use Rattle.cells.specs.Laws.Facts.{holds, fails, is-true, is-false, or-second}
 use Rattle.cells.specs.Laws.Tests.{when-is, pick-is}
 use Rattle.rom.specs.Header.{lengthOf}
 use Rattle.rom.specs.Sizes.{romMost, nodesMost, numbersMost}
@@ -23,7 +23,7 @@ use Rattle.tokens.specs.declared.decoding.Token.{Token}
 use Rattle.screen.specs.Effect.{isA, fixes, isColon, effectOf}
 use Rattle.screen.specs.Reach.{Claim, Holds, Met}
 use Rattle.screen.specs.Rules.{Assignment}
-use Rattle.screen.specs.Laws.Rules.Tokens.{or-second, one-family, fixes-is, stops-quiet}
+use Rattle.screen.specs.Laws.Rules.Tokens.{one-family, fixes-is, stops-quiet}
 use Rattle.screen.specs.Laws.Rules.Ways.{effect-own}
 use Rattle.screen.specs.Laws.Rules.Reach.{extends-ahead}
 use Rattle.screen.specs.Laws.Walk.Visits.{height-in, back-in}

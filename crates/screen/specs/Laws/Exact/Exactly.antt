@@ -1,6 +1,6 @@
 -- The model keeps the screen's promise, and nothing else does: it passes a ROM exactly where an assignment exists, with the marks that any assignment
 -- fixes. Assumes nothing.
-use Prim.Native.Nat.{ℕ, suc, _-_, _≤_, _<_}
+use Prim.Native.Nat.{ℕ, suc, _≤_, _<_}
 use native.Mathlib.Omega.{arith}
 use native.Mathlib.Decide.{decLt, ℕ-discrete}
 use mathlib.Core.Path.{_≡_, refl, sym, ap, _∙_, subst}

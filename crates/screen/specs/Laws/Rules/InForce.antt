@@ -12,7 +12,7 @@ use native.Mathlib.Decide.{decLt, ℕ-discrete}
 use mathlib.Core.Path.{_≡_, refl, sym, _∙_, subst}
 use mathlib.Core.Bool.{Bool, true, false, not}
 use mathlib.Core.List.{List}
-use lib.Dec.{T}
+use lib.Dec.{T, T-not}
 use Rattle.cells.specs.Laws.Facts.{never-true, fails}
 use Rattle.rom.specs.Header.{lengthOf, wideOf}
 use Rattle.rom.specs.Sizes.{firstPlace}
@@ -25,7 +25,7 @@ use Rattle.screen.specs.Reach.{In, Setting, setting, after, tokenAt, ext
 use Rattle.screen.specs.Reach.{first, body, next, to-next, entry, behind}
 use Rattle.screen.specs.Laws.Rules.Reach.{LeadsBy, leads-by, extends-ahead, one-good}
 use Rattle.screen.specs.Rules.{Assignment}
-use Rattle.screen.specs.Laws.Rules.Tokens.{none-in, clash, after-same, aims-fit, fixed-wide, fixes-outside, fixes-no-branch, end-is}
+use Rattle.screen.specs.Laws.Rules.Tokens.{none-in, after-same, aims-fit, fixed-wide, fixes-outside, fixes-no-branch, end-is}
 use Rattle.screen.specs.Laws.Rules.Ways.{FallOrJump, falls, jumps, fall-or-jump, colon-leads, leave-leads, colon-fixes}
 
 -- ---- what is fixed by the place alone
@@ -134,7 +134,7 @@ module _ {rom : List ℕ} (a : Assignment rom) where
         where
           way : FallOrJump t q → Step rom (s .wide) p t q
           way (falls e) = past (subst (λ v. Holds rom (extends (s .wide) t v)) (sym e) (extends-next i))
-          way (jumps b j) = over (λ c x. a .clear m b j (x .met) (x .once)) (fails (fixes t) (never-true (fixes t) (λ f. clash (isBranch t) b (fixes-no-branch t f))))
+          way (jumps b j) = over (λ c x. a .clear m b j (x .met) (x .once)) (fails (fixes t) (never-true (fixes t) (λ f. T-not (isBranch t) (fixes-no-branch t f) b)))
       by (LeadsBy.behind c x) = past x
 
   -- it passes no token that is met exactly once but its own: by rule 4's first sentence where it falls through
@@ -165,7 +165,7 @@ module _ {rom : List ℕ} (a : Assignment rom) where
       here : fixes t ≡ false → (c : ℕ) → Fixing rom c → c ≡ p → ⊥
       here n c f e =
           let u = fixed-read (f .met) (f .once) (subst (λ v. Met rom 0 s v t) (sym e) m) in
-          clash (fixes t) (subst (λ v. T (fixes v)) u (f .once)) (fails (fixes t) n)
+          T-not (fixes t) (fails (fixes t) n) (subst (λ v. T (fixes v)) u (f .once))
 
       by : (b : Bool) → fixes t ≡ b → Step rom (s .wide) p t q → PassedBy rom (fixedAfter t (fixedOf s)) q
       by true e (past y) = let f : T (fixes t) = rw e tt in last x m f (extends-ahead m y) (moves .adds)
@@ -242,4 +242,4 @@ module _ {rom : List ℕ} (a : Assignment rom) where
 
           on : LeadsBy rom (s .wide) p t q → Starts rom (z .outer .wide) (z .token .next) q
           on (LeadsBy.itself k j) = start-on (z .body) (record { reach = r; is = i }) here (z .start) j
-          on (LeadsBy.behind c x) = absurd (clash (fixes t) (colon-fixes t c) quiet)
+          on (LeadsBy.behind c x) = absurd (T-not (fixes t) quiet (colon-fixes t c))

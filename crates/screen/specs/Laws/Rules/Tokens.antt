@@ -1,4 +1,4 @@
--- What is known of a token that was read: what its bytes and its place say of it, and what the token list says of its family.
+-- What is known of a token that was read, by what the token list says of its family.
 -- Assumes nothing.
 use Prim.Native.Nat.{ℕ, _<_, _≤_}
 use native.Mathlib.Omega.{arith}
@@ -6,11 +6,11 @@ use mathlib.Core.Path.{_≡_, refl, sym, _∙_, subst}
 use mathlib.Core.Bool.{Bool, true, false, not, _&&_, _||_}
 use mathlib.Core.List.{List, [], _∷_}
 use mathlib.Core.Logic.{_≢_}
-use lib.Dec.{T, eqb, eqb→eq}
+use lib.Dec.{T, eqb, eqb→eq, T-not}
 use borrow.Author.Tests.{ne-eqb}
 use Rattle.cells.specs.Choice.{find}
 use Rattle.cells.specs.Laws.Tests.{pick-is, neqb→ne}
-use Rattle.cells.specs.Laws.Facts.{both-hold, follows, fails, is-false, never-true, neither}
+use Rattle.cells.specs.Laws.Facts.{both-hold, follows, fails, is-false, never-true, neither, either, denied}
 use Rattle.rom.specs.Branch.{aimOf}
 use Rattle.rom.specs.Laws.Branch.{AimFits, aim-fits}
 use Rattle.rom.specs.declared.branch.Aim.{Aim}
@@ -20,92 +20,17 @@ use Rattle.tokens.specs.Row.{Row, offset, head, namedHead, inside, outside}
 use Rattle.tokens.specs.Table.{ends, lows, highs, doubles, table, program, notListed, isProgram, rowOf}
 use Rattle.tokens.specs.Code.{packed, codeOf, familyIn, outOfPlaceIn, formIn, takesIn, givesIn, returnTakesIn, returnGivesIn}
 use Rattle.tokens.specs.Decode.{behindNumber, numberOf, behindOf, operands, operandOf, formed, isKind, decodeOf}
-use Rattle.tokens.specs.Place.{judged, misplacedOf, readOf}
+use Rattle.tokens.specs.Place.{misplacedOf, readOf}
 use Rattle.tokens.specs.Laws.Rows.{everyRow, code-fact}
-use Rattle.tokens.specs.Laws.Tokens.{find-is, decoded-is}
+use Rattle.tokens.specs.Laws.Tokens.{find-is}
 use Rattle.tokens.specs.Definition.{newNumber, kindIn}
 use Rattle.tokens.specs.declared.decoding.Operand.{Operand}
 use Rattle.tokens.specs.declared.decoding.Operand.the-variants.{Nothing, Definition}
 use Rattle.tokens.specs.declared.decoding.Token.{Token}
-use Rattle.tokens.specs.declared.decoding.Decoded.{Decoded}
-use Rattle.tokens.specs.declared.decoding.Decoded.the-variants.{Cut, Unlisted, Whole}
-use Rattle.tokens.specs.declared.read.Read.{Read}
-use Rattle.tokens.specs.declared.read.Read.the-variants.{Refused, Good}
+use Rattle.tokens.specs.declared.read.Read.the-variants.{Good}
+use Rattle.tokens.specs.Laws.Stands.{stands}
 use Rattle.screen.specs.Effect.{isA, fixes, isBranch, landings, aims, astray, names}
 use Rattle.screen.specs.Reach.{In, here, there, Setting, after}
-
--- ---- tests
--- a test that holds and does not
-pub clash : (b : Bool) → T b → T (not b) → ⊥
-clash true t n = n
-clash false t n = t
-
--- what follows from each of two tests follows from either
-pub either : (a b : Bool) (X : Type 0) → T (a || b) → (T a → X) → (T b → X) → X
-either true b X t f g = f tt
-either false b X t f g = g t
-
--- the first of two tests is one of them
-pub or-first : (a b : Bool) → T a → T (a || b)
-or-first true b t = tt
-or-first false b t = absurd t
-
--- and so is the second
-pub or-second : (a b : Bool) → T b → T (a || b)
-or-second true b t = tt
-or-second false b t = t
-
--- a test that does not hold without another does not hold where that fails
-denied : (a b : Bool) → T (not a || b) → T (not b) → T (not a)
-denied true b h n = absurd (clash b h n)
-denied false b h n = tt
-
--- ---- a token as it was read
--- what its bytes and its place say of it
-pub record Stands (rom : List ℕ) (len : ℕ) (wide within : Bool) (p : ℕ) (t : Token) : Type 0 where
-  pub number : t .number ≡ numberOf rom p
-  pub code : t .code ≡ codeOf (t .number)
-  pub formed : T (formed (t .operand))
-  pub operand : t .operand ≡ operandOf rom len wide (behindNumber rom p) (formIn (t .code))
-  pub placed : T (not (misplacedOf (t .code) within))
-
-module _ (rom : List ℕ) (len : ℕ) (wide within : Bool) (p : ℕ) where
-  -- what its bytes say of it
-  record Decodes (t : Token) : Type 0 where
-    number : t .number ≡ numberOf rom p
-    code : t .code ≡ codeOf (t .number)
-    formed : T (formed (t .operand))
-    operand : t .operand ≡ operandOf rom len wide (behindNumber rom p) (formIn (t .code))
-
-  abbrev DecodesTo : Decoded → Type 0
-  DecodesTo Cut = Unit {0}
-  DecodesTo (Unlisted code) = Unit {0}
-  DecodesTo (Whole t) = Decodes t
-
-  decodes : DecodesTo (decodeOf rom len wide p)
-  decodes =
-      let o = operandOf rom len wide (behindNumber rom p) (formIn (codeOf (numberOf rom p))) in
-      decoded-is DecodesTo rom len wide p tt
-      (λ h l. record { number = refl; code = refl; formed = both-hold (not (eqb (codeOf (numberOf rom p)) 0)) (formed o) l .1; operand = refl }) (λ h. tt)
-
-  abbrev StandsAs : Read → Type 0
-  StandsAs (Refused why) = Unit {0}
-  StandsAs (Good t) = Stands rom len wide within p t
-
-  judged-stands : (d : Decoded) → DecodesTo d → StandsAs (judged within d)
-  judged-stands Cut h = tt
-  judged-stands (Unlisted code) h = tt
-  judged-stands (Whole t) h =
-      pick-is StandsAs (misplacedOf (t .code) within) (Refused 18) (Good t) (λ m. tt)
-      (λ m. record { number = h .number; code = h .code; formed = h .formed; operand = h .operand; placed = m })
-
-  read-stands : StandsAs (readOf rom len wide within p)
-  unfolding readOf
-  read-stands = judged-stands (decodeOf rom len wide p) decodes
-
--- they say it of a token that was read
-pub stands : (rom : List ℕ) (len : ℕ) (wide within : Bool) (p : ℕ) (t : Token) → readOf rom len wide within p ≡ Good t → Stands rom len wide within p t
-stands rom len wide within p t e = subst (StandsAs rom len wide within p) e (read-stands rom len wide within p)
 
 -- ---- what the token list says of every code
 -- the families of tokens that are met exactly once, of branches, of ends, and all of these
@@ -183,7 +108,7 @@ rows-call : (n : ℕ) → T (eqb (familyIn (codeOf n)) call) → T (isProgram n)
 unfolding codeOf rowOf table ends lows highs doubles
 rows-call n =
     pick-is (λ r. T (eqb (familyIn (packed r)) call) → T (isProgram n)) (isProgram n) program (find table notListed n) (λ i c. i)
-    (λ i c. absurd (clash (eqb (familyIn (packed (find table notListed n))) call) c (found table notListed n tt tt)))
+    (λ i c. absurd (T-not (eqb (familyIn (packed (find table notListed n))) call) (found table notListed n tt tt) c))
 
 -- nothing is in no list
 pub none-in : {X : Type 0} {q : ℕ} → In q [] → X

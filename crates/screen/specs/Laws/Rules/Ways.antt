@@ -6,10 +6,11 @@ use mathlib.Core.Path.{_≡_, refl}
 use mathlib.Core.Bool.{Bool, true, false, not, _||_}
 use mathlib.Core.List.{List, [], _∷_}
 use mathlib.Core.Logic.{_≢_}
-use lib.Dec.{T, eqb, eqb→eq}
+use lib.Dec.{T, eqb, eqb→eq, T-not}
 use borrow.Author.Tests.{ne-eqb}
 use Rattle.cells.specs.Laws.Tests.{neqb→ne}
 use Rattle.cells.specs.Laws.Facts.{holds, fails, is-true, is-false, both-hold, neither, not-both, not-on, when-true, when-false}
+use Rattle.cells.specs.Laws.Facts.{either, or-first, or-second}
 use Rattle.tokens.specs.Family.{finish, always, choice, widen, leave, define, assign, call, newDevice, finishDevice}
 use Rattle.tokens.specs.Code.{familyIn}
 use Rattle.tokens.specs.Place.{readOf}
@@ -21,7 +22,7 @@ use Rattle.tokens.specs.declared.read.Read.the-variants.{Good}
 use Rattle.screen.specs.Effect.{isA, fixes, isColon, isBranch, aims, noEffect, astray, bothWays, leadsOf, called, ownEffect, effectOf}
 use Rattle.screen.specs.Effect.{names}
 use Rattle.screen.specs.Reach.{In, here, there}
-use Rattle.screen.specs.Laws.Rules.Tokens.{either, or-first, or-second, clash, none-in, fixes-no-branch, fixes-no-end, fixes-no-name}
+use Rattle.screen.specs.Laws.Rules.Tokens.{none-in, fixes-no-branch, fixes-no-end, fixes-no-name}
 use Rattle.screen.specs.Laws.Rules.Tokens.{aims-fit, stops-quiet}
 use Rattle.screen.specs.declared.effect.Sum.{Sum}
 
@@ -195,17 +196,17 @@ module _ (t : Token) where
     where
       by : FallOrJump t q → q ≡ t .next
       by (falls e) = e
-      by (jumps b j) = absurd (clash (isBranch t) b (fixes-no-branch t h))
+      by (jumps b j) = absurd (T-not (isBranch t) (fixes-no-branch t h) b)
 
   -- and there, where it is no b(:)
   pub fixes-on : T (fixes t) → T (not (isColon t)) → leadsOf t ≡ t .next ∷ []
   fixes-on f c = by (ways-of t)
     where
       by : Ways t → leadsOf t ≡ t .next ∷ []
-      by (ending h l) = absurd (clash (isA finish t || isA leave t) h (fixes-no-end t f))
-      by (jumping h l) = absurd (clash (isBranch t) (or-first (isA always t) (isA choice t) h) (fixes-no-branch t f))
-      by (choosing h l) = absurd (clash (isBranch t) (or-second (isA always t) (isA choice t) h) (fixes-no-branch t f))
-      by (skipping h l) = absurd (clash (isColon t) h c)
+      by (ending h l) = absurd (T-not (isA finish t || isA leave t) (fixes-no-end t f) h)
+      by (jumping h l) = absurd (T-not (isBranch t) (fixes-no-branch t f) (or-first (isA always t) (isA choice t) h))
+      by (choosing h l) = absurd (T-not (isBranch t) (fixes-no-branch t f) (or-second (isA always t) (isA choice t) h))
+      by (skipping h l) = absurd (T-not (isColon t) c h)
       by (fixing h d l) = l
       by (falling h d l) = l
 

@@ -1,5 +1,5 @@
 -- What the token that ends a round does to the board. Assumes nothing.
-use Prim.Native.Nat.{ℕ, suc, _-_, _<_}
+use Prim.Native.Nat.{ℕ, suc, _<_}
 use mathlib.Core.Path.{_≡_, sym, subst}
 use mathlib.Core.Bool.{true, false, not}
 use mathlib.Core.List.{List}

@@ -3,7 +3,7 @@
 use Prim.Native.Nat.{ℕ, zero, suc, _+_, _-_, _≤_, _<_}
 use mathlib.Core.Path.{_≡_, refl, sym, _∙_, subst}
 use mathlib.Core.Logic.{_≢_}
-use mathlib.Core.Bool.{Bool, true, false, not, _&&_, _||_}
+use mathlib.Core.Bool.{Bool, true, false, not, _&&_, _||_, or-false}
 use mathlib.Core.List.{List}
 use native.Mathlib.Omega.{arith}
 use native.Mathlib.Decide.{ℕ-discrete}
@@ -47,11 +47,7 @@ later (behind r l h n) = behind r l (omega arith) n
 
 -- a token that ends a round passed the test
 highest : (p far : ℕ) (b : Bool) → T (eqb p far || not b) → b ≡ true → p ≡ far
-highest p far true t e = eqb→eq p far (or-first (eqb p far) t)
-  where
-    or-first : (a : Bool) → T (a || false) → T a
-    or-first true t = tt
-    or-first false t = t
+highest p far true t e = eqb→eq p far (rw (or-false (eqb p far)) at t)
 highest p far false t e = absurd (subst T (sym e) tt)
 
 module _ {rom : List ℕ} {x : Scope} {seen : List ℕ} {start far : ℕ} where

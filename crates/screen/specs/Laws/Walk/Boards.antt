@@ -10,7 +10,7 @@ use lib.Dec.{T, T-not, eqb, leb, eqb→eq, leb→le}
 use lib.ListN.{length, getD, set, length-set}
 use lib.Seq.{getD-set-same, getD-set-other}
 use Rattle.cells.specs.Choice.{pick}
-use Rattle.cells.specs.Laws.Tests.{tests, neqb→ne}
+use Rattle.cells.specs.Laws.Tests.{neqb→ne}
 use Rattle.cells.specs.Laws.Facts.{holds, fails, is-true, both-hold}
 use Rattle.rom.specs.Header.{lengthOf}
 use Rattle.rom.specs.Sizes.{nodesMost, numbersMost, romMost}

@@ -171,14 +171,10 @@ found-in : (kinds seen : List ℕ) (p c : ℕ) (go : ℕ → List ℕ → Marked
     → Found (startIn kinds seen p go r) c
 found-in kinds seen p c go r t e f last more =
     rw e
-    (when-is (λ m. Found m c) (astray t || unknownOf kinds t) _ _ (λ x. absurd (refused (astray t) (unknownOf kinds t) (f .1) (f .0) x))
+    (when-is (λ m. Found m c) (astray t || unknownOf kinds t) _ _ (λ x. absurd (rw (f .1, f .0) at x))
     (λ x.
     when-is (λ m. Found m c) (eqb (t .number) 0xC2) _ _ (λ n. record { good = refl; end = last (eqb→eq (t .number) 0xC2 n) })
     (λ n. more (neqb→ne (t .number) 0xC2 n))))
-  where
-    refused : (a b : Bool) → a ≡ false → b ≡ false → T (a || b) → ⊥
-    refused true b e f x = subst T e tt
-    refused false b e f x = subst T f x
 
 -- the pass from a place on, where there are as many turns as places: a token is at least one byte
 found-from : {rom : List ℕ} {w : Bool} {p c : ℕ} (kinds : List ℕ) → Holds rom (Claim.reads w p c) → FineMarks rom w kinds p → (k : ℕ) (seen : List ℕ)

@@ -2,7 +2,7 @@
 use Prim.Native.Nat.{ℕ, suc, _+_, _-_, _≤_, _<_, max}
 use mathlib.Core.Path.{_≡_, refl, sym, subst}
 use mathlib.Core.Logic.{_≢_, inl, inr}
-use mathlib.Core.Bool.{Bool, true, false, not, _&&_, _||_}
+use mathlib.Core.Bool.{Bool, true, false, not, _&&_, _||_, and-true}
 use mathlib.Core.List.{List, [], _∷_}
 use native.Mathlib.Omega.{arith}
 use native.Mathlib.Decide.{decLt}
@@ -99,12 +99,6 @@ pub record TallyIs (rom : List ℕ) (length : ℕ) (wide : Bool) (sums seen : Li
 one-token : {rom : List ℕ} {length : ℕ} {wide : Bool} {seen : List ℕ} {p : ℕ} {t u : Token} → Visited rom length wide seen p t
     → Visited rom length wide seen p u → t ≡ u
 one-token v w = let e = v .is in let f = w .is in cc (e, f)
-
--- ---- tests
--- one that holds adds nothing
-and-true : (b : Bool) → (b && true) ≡ b
-and-true true = refl
-and-true false = refl
 
 -- an end that agrees with another has its height
 agree : (out n : ℕ) → T (eqb out 0 || eqb out n) → out ≢ 0 → out ≡ n

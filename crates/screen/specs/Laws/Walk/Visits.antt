@@ -6,10 +6,11 @@ use mathlib.Core.Path.{_≡_, refl, sym, _∙_, ap, subst}
 use mathlib.Core.Bool.{Bool, true, false, not, _&&_, _||_}
 use mathlib.Core.List.{List, [], _∷_}
 use mathlib.Core.Logic.{_≢_}
-use lib.Dec.{T, leb, eqb, le→leb, eqb→eq}
+use lib.Dec.{T, leb, eqb, le→leb, eqb→eq, T-not}
 use borrow.Author.Tests.{ne-eqb, eq-eqb}
 use Rattle.cells.specs.Laws.Tests.{when-is}
 use Rattle.cells.specs.Laws.Facts.{holds, fails, is-true, is-false, both-hold, join-hold, four-hold, join-four, follows, when-true}
+use Rattle.cells.specs.Laws.Facts.{either, or-second}
 use Rattle.rom.specs.Sizes.{returnMost, framesMost}
 use Rattle.rom.specs.declared.branch.Aim.the-variants.{Inside, Outside}
 use Rattle.tokens.specs.Family.{finish, always, choice, leave}
@@ -27,7 +28,7 @@ use Rattle.screen.specs.Laws.Code.Codes.{fits-known}
 use Rattle.screen.specs.Laws.Found.Model.{cellWith, heightIn, backIn, unmet, isMet, sumAt, capOf, ownOf, heightAfter, backAfter, fitsOf, soundOf}
 use Rattle.screen.specs.Laws.Found.Model.{aimOn, stops, nextOn, branchIn, badVisit, tokenVisit, readVisit, visitOf}
 use Rattle.screen.specs.Laws.Rules.Ways.{Ways, ending, jumping, choosing, skipping, fixing, falling, ways-of, colon-fixes, in-one, WaySplit, first, second, split, aimed-some, leads-ahead}
-use Rattle.screen.specs.Laws.Rules.Tokens.{either, or-second, clash, none-in, fixes-no-branch}
+use Rattle.screen.specs.Laws.Rules.Tokens.{none-in, fixes-no-branch}
 use Rattle.screen.specs.declared.effect.Effect.{Effect}
 use Rattle.screen.specs.declared.walking.Text.{Text as Scope}
 use Rattle.screen.specs.Laws.Found.Model.{Visit}
@@ -149,7 +150,7 @@ module _ (rom : List ℕ) (len : ℕ) (wide within : Bool) (p : ℕ) (t : Token)
       by (jumping h l) = by-aim (always-walk t h .1 ∙ aim-is (t .operand) q (rw l at i))
       by (choosing h l) = way (split (t .next) q (aims (t .operand)) (rw l at i)) h
       by (skipping h l) = none-in (rw l at i)
-      by (fixing h c l) = absurd (clash (fixes t) h f)
+      by (fixing h c l) = absurd (T-not (fixes t) f h)
       by (falling h c l) = by-next (falls-walk t h c .0 ∙ sym (in-one (rw l at i)))
 
 -- ---- a visit

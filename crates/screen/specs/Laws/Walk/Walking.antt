@@ -12,7 +12,7 @@ use native.Mathlib.Decide.{decLt, ℕ-discrete}
 use lib.Dec.{T, T-not, ltb, leb, eqb, eqb→eq, ltb→lt, leb→le, nltb→le, nleb→lt}
 use lib.ListN.{length, getD, set, length-set}
 use lib.Seq.{getD-set-same, getD-set-other}
-use Rattle.cells.specs.Laws.Facts.{holds, is-true, is-false, both-hold, neither, not-both}
+use Rattle.cells.specs.Laws.Facts.{holds, is-true, is-false, both-hold, neither, not-both, either}
 use Rattle.cells.specs.Laws.Tests.{when-is, neqb→ne}
 use Rattle.rom.specs.Sizes.{romMost, returnMost, framesMost}
 use Rattle.tokens.specs.Place.{readOf}
@@ -20,7 +20,6 @@ use Rattle.tokens.specs.declared.read.Read.{Read}
 use Rattle.tokens.specs.declared.read.Read.the-variants.{Refused, Good}
 use Rattle.screen.specs.Effect.{effectOf}
 use Rattle.screen.specs.Reach.{In, here, there}
-use Rattle.screen.specs.Laws.Rules.Tokens.{either}
 use Rattle.screen.specs.declared.effect.Effect.{Effect}
 use Rattle.screen.specs.Laws.Found.Model.{Tally}
 use Rattle.screen.specs.declared.walking.Text.{Text as Scope}

@@ -33,6 +33,7 @@ use Rattle.tree.specs.Laws.Puts.{name-facts}
 use Rattle.tree.specs.Laws.PutKept.{Accepted, put-whole, put-size}
 use Rattle.tree.specs.Laws.PutKept.{SizedTree}
 use Rattle.tokens.specs.Definition.{colon, kindIn, newNumber, takesHere, value, variable}
+use Rattle.tokens.specs.Laws.Stands.{Stands, stands}
 use Rattle.state.specs.Stacks.{Stacks, stacks, leftOf, plainOf, pickedOf, rolledOf, doubledOf, backTrouble, tooDeep}
 use Rattle.state.specs.State.{stacksOf, moved, withCalls, withNumbers, withWork, withActive, withTree, isOpen, baseOf}
 use Rattle.state.specs.Numbers.{seekOf, isHeld, isBody, kindsOf, definedOf, assignedOf}
@@ -50,7 +51,7 @@ use Rattle.state.specs.Laws.Titles.{title-good}
 use Rattle.state.specs.Laws.Keeps.Whole.{Place, Frames, Entries, Parts, whole-facts, Lent, not-going, not-finished, ready-facts, Rooted}
 use Rattle.state.specs.Laws.Keeps.Whole.{RootedAt}
 use Rattle.state.specs.Laws.Keeps.Whole.{Kept}
-use Rattle.state.specs.Laws.Keeps.Token.{Stands, stands, takesBy, givesBy, shape, no-returns, branch-place, new-number, leave-open, behind-body}
+use Rattle.state.specs.Laws.Keeps.Token.{takesBy, givesBy, shape, no-returns, branch-place, new-number, leave-open, behind-body}
 use Rattle.state.specs.Laws.Keeps.Tree.{child-rooted, child-sized, finish-rooted, put-nodes, put-rooted, put-sized}
 use Rattle.state.specs.Laws.Keeps.Parts.{left-length, base-below, frames-moved, frames-pushed, calls-pushed, frames-popped, entries-defined}
 use Rattle.state.specs.Laws.Keeps.Parts.{numbers-defined, entries-assigned, numbers-assigned, call-held, assign-value}

@@ -1,12 +1,12 @@
 -- What is known of a token that may stand where it stands, by the token list and by its bytes. Assumes nothing.
 use Prim.Native.Nat.{ℕ, zero, suc, _-_, _<_, _≤_}
 use native.Mathlib.Omega.{arith}
-use mathlib.Core.Path.{_≡_, refl, subst}
+use mathlib.Core.Path.{_≡_, refl}
 use mathlib.Core.Bool.{Bool, true, false, not, _&&_, _||_}
 use mathlib.Core.List.{List, [], _∷_}
 use lib.Dec.{T, eqb, eqb→eq}
 use Rattle.cells.specs.Choice.{pick, find}
-use Rattle.cells.specs.Laws.Facts.{both-hold}
+use Rattle.cells.specs.Laws.Facts.{both-hold, either}
 use Rattle.rom.specs.Branch.{aimOf, placeIn}
 use Rattle.rom.specs.Laws.Branch.{AimFits, aim-fits}
 use Rattle.rom.specs.declared.branch.Aim.{Aim}
@@ -17,16 +17,15 @@ use Rattle.tokens.specs.Row.{offset, head, namedHead}
 use Rattle.tokens.specs.Row.{outside as outsideBodies}
 use Rattle.tokens.specs.Table.{ends, lows, highs, doubles, table, isProgram}
 use Rattle.tokens.specs.Code.{codeOf, familyIn, outOfPlaceIn, formIn, takesIn, givesIn, returnTakesIn, returnGivesIn}
-use Rattle.tokens.specs.Decode.{behindNumber, numberOf, operandOf, formed, isKind, decodeOf}
-use Rattle.tokens.specs.Place.{judged, misplacedOf, readOf}
+use Rattle.tokens.specs.Decode.{behindNumber, operandOf, formed, isKind}
+use Rattle.tokens.specs.Place.{misplacedOf, readOf}
 use Rattle.tokens.specs.Body.{unknownOf, bodyOnward, afterOf, bodyFrom, bodyOf}
 use Rattle.tokens.specs.Laws.Rows.{code-fact}
-use Rattle.tokens.specs.Laws.Tokens.{AheadRead, Follows, read-ahead, decoded-is}
+use Rattle.tokens.specs.Laws.Tokens.{AheadRead, read-ahead}
+use Rattle.tokens.specs.Laws.Stands.{Stands}
 use Rattle.tokens.specs.declared.decoding.Operand.{Operand}
 use Rattle.tokens.specs.declared.decoding.Operand.the-variants.{Definition}
 use Rattle.tokens.specs.declared.decoding.Token.{Token}
-use Rattle.tokens.specs.declared.decoding.Decoded.{Decoded}
-use Rattle.tokens.specs.declared.decoding.Decoded.the-variants.{Cut, Unlisted, Whole}
 use Rattle.tokens.specs.declared.read.Read.{Read}
 use Rattle.tokens.specs.declared.read.Read.the-variants.{Refused as Unread, Good}
 use Rattle.tokens.specs.declared.body.Body.{Body}
@@ -35,54 +34,13 @@ use Rattle.state.specs.Refusals.{outsideProgram, leadsOut}
 use Rattle.state.specs.Effects.{aimed, behindBody}
 use Rattle.state.specs.Laws.Keeps.Whole.{Place}
 
--- ---- a token as it was read
-pub record Stands (rom : List ℕ) (size : ℕ) (wide within : Bool) (p : ℕ) (t : Token) : Type 0 where
-  pub follows : Follows size p t
-  pub code : t .code ≡ codeOf (t .number)
-  pub formed : T (formed (t .operand))
-  pub operand : t .operand ≡ operandOf rom size wide (behindNumber rom p) (formIn (t .code))
-  pub placed : T (not (misplacedOf (t .code) within))
-
-module _ (rom : List ℕ) (size : ℕ) (wide within : Bool) (p : ℕ) where
-  record Decodes (t : Token) : Type 0 where
-    code : t .code ≡ codeOf (t .number)
-    formed : T (formed (t .operand))
-    operand : t .operand ≡ operandOf rom size wide (behindNumber rom p) (formIn (t .code))
-
-  abbrev DecodesTo : Decoded → Type 0
-  DecodesTo Cut = Unit {0}
-  DecodesTo (Unlisted code) = Unit {0}
-  DecodesTo (Whole t) = Decodes t
-
-  decodes : DecodesTo (decodeOf rom size wide p)
-  decodes =
-      let o = operandOf rom size wide (behindNumber rom p) (formIn (codeOf (numberOf rom p))) in
-      decoded-is DecodesTo rom size wide p tt
-      (λ h l. record { code = refl; formed = both-hold (not (eqb (codeOf (numberOf rom p)) 0)) (formed o) l .1; operand = refl }) (λ h. tt)
-
-  abbrev StandsAs : Read → Type 0
-  StandsAs (Unread why) = Unit {0}
-  StandsAs (Good t) = Stands rom size wide within p t
-
-  judged-stands : (d : Decoded) → DecodesTo d → AheadRead size p (judged within d) → StandsAs (judged within d)
-  judged-stands Cut h a = tt
-  judged-stands (Unlisted code) h a = tt
-  judged-stands (Whole t) h a = by (misplacedOf (t .code) within) refl a
-    where
-      by : (b : Bool) → misplacedOf (t .code) within ≡ b → AheadRead size p (pick b (Unread 18) (Good t)) → StandsAs (pick b (Unread 18) (Good t))
-      by true e a = tt
-      by false e a = record { follows = a; code = h .code; formed = h .formed; operand = h .operand; placed = rw e tt }
-
-  pub stands : (t : Token) → readOf rom size wide within p ≡ Good t → Stands rom size wide within p t
-  unfolding readOf
-  stands t e = subst StandsAs e (judged-stands (decodeOf rom size wide p) decodes (read-ahead rom size wide within p))
-
 -- ---- what the token list says of every code
 -- how many cells a token of a family takes and gives, but those that only reckon and the kinds, which differ
 abbrev pub takesBy : ℕ → ℕ
 takesBy f =
     find (
-    (choice, 1) ∷ (divide, 2) ∷ (pickUp, 1) ∷ (rollUp, 1) ∷ (maybe, 1) ∷ (fetch, 1) ∷ (store, 2) ∷ (assign, 1) ∷ (encodeInt, 1) ∷ (encodeString, 2) ∷
+    (choice, 1) ∷ (divide, 2) ∷ (pickUp, 1) ∷ (rollUp, 1) ∷ (maybe, 1) ∷ (fetch, 1) ∷ (store, 2) ∷ (assign, 1) ∷ (encodeInt, 1) ∷
+    (encodeString, 2) ∷
     (join, 4) ∷ (property, 4) ∷ (titled, 2) ∷ []
     ) 0 f
 
@@ -167,10 +125,6 @@ fit : (size : ℕ) (a : Aim) → AimFits size a → T (not (outsideProgram a)) �
 fit size (Inside to) f h = let l = f .1 in record { from = f .0; to = omega arith }
 fit size Outside f h = absurd h
 
-either : (a b : Bool) (X : Type 0) → T (a || b) → (T a → X) → (T b → X) → X
-either true b X t f g = f tt
-either false b X t f g = g t
-
 module _ (rom : List ℕ) (size : ℕ) (wide : Bool) (at : ℕ) (form : ℕ) where
   branch-aims : (o : Operand) → o ≡ operandOf rom size wide at form → form ≡ offset → T (not (leadsOut o)) → Place size (aimed o)
   unfolding operandOf
@@ -178,7 +132,8 @@ module _ (rom : List ℕ) (size : ℕ) (wide : Bool) (at : ℕ) (form : ℕ) whe
       let g = rw f at e in
       rw g (fit size (aimOf rom size wide at) (aim-fits rom size wide at) (rw g at h))
 
-  head-names : (o : Operand) → o ≡ operandOf rom size wide at form → T (formed o) → T (eqb form head || eqb form namedHead) → T (isProgram (newNumber o))
+  head-names : (o : Operand) → o ≡ operandOf rom size wide at form → T (formed o) → T (eqb form head || eqb form namedHead)
+      → T (isProgram (newNumber o))
   unfolding operandOf
   head-names o e w h =
       either (eqb form head) (eqb form namedHead) (T (isProgram (newNumber o))) h
@@ -194,9 +149,11 @@ within-body c true e h = refl
 within-body c false e h = absurd (rw e at h)
 
 module _ (rom : List ℕ) (size : ℕ) (wide within : Bool) (p : ℕ) (t : Token) (s : Stands rom size wide within p t) where
-  pub branch-place : (f : ℕ) → familyIn (t .code) ≡ f → T (eqb f always || eqb f choice) → T (not (leadsOut (t .operand))) → Place size (aimed (t .operand))
+  pub branch-place : (f : ℕ) → familyIn (t .code) ≡ f → T (eqb f always || eqb f choice) → T (not (leadsOut (t .operand)))
+      → Place size (aimed (t .operand))
   branch-place f k v h =
-      branch-aims rom size wide (behindNumber rom p) (formIn (t .code)) (t .operand) (s .operand) (branch-form (t .code) (t .number) f (s .code) k v) h
+      branch-aims rom size wide (behindNumber rom p) (formIn (t .code)) (t .operand) (s .operand)
+      (branch-form (t .code) (t .number) f (s .code) k v) h
 
   pub new-number : familyIn (t .code) ≡ define → T (isProgram (newNumber (t .operand)))
   new-number k =
@@ -211,20 +168,25 @@ module _ (rom : List ℕ) (size : ℕ) (wide : Bool) (kinds : List ℕ) where
   abbrev Behind : ℕ → Body → Type 0
   Behind p b = (p ≤ behindBody b) × (behindBody b ≤ size)
 
-  onward-behind : (ends unknown : Bool) (p q : ℕ) (go : ℕ → Body) → p < q → q ≤ size → Behind q (go q) → Behind p (bodyOnward ends unknown p go q)
+  onward-behind : (ends unknown : Bool) (p q : ℕ) (go : ℕ → Body) → p < q → q ≤ size → Behind q (go q)
+      → Behind p (bodyOnward ends unknown p go q)
   onward-behind true unknown p q go l m h = (omega arith, omega arith)
   onward-behind false true p q go l m h = (omega arith, omega arith)
   onward-behind false false p q go l m h = (omega arith, h .1)
 
-  after-behind : (p : ℕ) (r : Read) (go : ℕ → Body) → AheadRead size p r → p ≤ size → ((q : ℕ) → q ≤ size → Behind q (go q)) → Behind p (afterOf kinds p r go)
+  after-behind : (p : ℕ) (r : Read) (go : ℕ → Body) → AheadRead size p r → p ≤ size → ((q : ℕ) → q ≤ size → Behind q (go q))
+      → Behind p (afterOf kinds p r go)
   after-behind p (Unread why) go a l h = (omega arith, omega arith)
-  after-behind p (Good t) go a l h = onward-behind (eqb (t .number) 0xC2) (unknownOf kinds t) p (t .next) go (a .0) (a .1) (h (t .next) (a .1))
+  after-behind p (Good t) go a l h = onward-behind (eqb (t .number) 0xC2) (unknownOf kinds t) p (t .next) go (a .0) (a .1)
+      (h (t .next) (a .1))
 
   from-behind : (k p : ℕ) → p ≤ size → Behind p (bodyFrom rom size wide kinds k p)
   unfolding bodyFrom
   from-behind zero p l = (omega arith, omega arith)
   from-behind (suc k) p l =
-      after-behind p (readOf rom size wide true p) (λ q. bodyFrom rom size wide kinds k q) (read-ahead rom size wide true p) l (λ q m. from-behind k q m)
+      after-behind p (readOf rom size wide true p) (λ q. bodyFrom rom size wide kinds k q) (read-ahead rom size wide true p) l
+      (λ q m. from-behind k q m)
 
-  pub behind-body : (p : ℕ) → p ≤ size → (p ≤ behindBody (bodyOf rom size wide kinds p)) × (behindBody (bodyOf rom size wide kinds p) ≤ size)
+  pub behind-body : (p : ℕ) → p ≤ size → (p ≤ behindBody (bodyOf rom size wide kinds p))
+      × (behindBody (bodyOf rom size wide kinds p) ≤ size)
   behind-body p l = from-behind (size - p) p l
