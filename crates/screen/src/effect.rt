@@ -2,7 +2,8 @@
 ghost use mathlib.Core.Path.{_≡_};
 ghost use Prim.Native.Nat.{_%_, _<_};
 ghost use Rattle.screen.specs.Effect.{isA};
-ghost use Rattle.screen.specs.Laws.Found.Model.{packedSum, sumAt};
+ghost use Rattle.screen.specs.Laws.Found.Sums.{packedSum};
+ghost use Rattle.screen.specs.Laws.Found.Model.{sumAt};
 ghost use Rattle.screen.specs.Laws.Code.Visit.{takesSeen, fixesBy};
 use crate::tables::sum_code;
 use tokens::Token;
@@ -12,8 +13,7 @@ use tokens::family_of;
 use tokens::takes_of;
 
 // What a program number does where it is entered at its need: the need, the data height that it leaves, the highest data height and count
-// of
-// return cells, nested calls included, and the frames that it opens, its own included.
+// of return cells, nested calls included, and the frames that it opens, its own included.
 pub struct Sum {
     pub need: u32,
     pub out: u32,

@@ -8,9 +8,11 @@ ghost use Prim.Native.Nat.{suc, _≤_, _<_, _+_};
 ghost use lib.ListN.{set};
 ghost use Rattle.tokens.specs.Joints.Quick.{Codes};
 ghost use Rattle.rom.specs.Sizes.{romMost, numbersMost};
+ghost use Rattle.tokens.specs.Table.{lastProgram};
 ghost use Rattle.tokens.specs.Family.{widen};
 ghost use Rattle.screen.specs.Effect.{isA, valueSum};
-ghost use Rattle.screen.specs.Laws.Found.Model.{slot, packedSum, apartOf, outsideText, stoodOn as Model·moved, withCount, board, newNode, closedNode};
+ghost use Rattle.screen.specs.Laws.Found.Sums.{packedSum};
+ghost use Rattle.screen.specs.Laws.Found.Model.{slot, apartOf, outsideText, stoodOn as Model·moved, withCount, board, newNode, closedNode};
 ghost use Rattle.screen.specs.Laws.Found.Model.{colonOf, defineOf, advanceOf, roundsOf};
 ghost use Rattle.screen.specs.Laws.Code.Body.{Bounded};
 ghost use Rattle.screen.specs.Laws.Code.Walk.{WalkTables};
@@ -19,6 +21,7 @@ use crate::body::places;
 use crate::body::shift;
 use crate::body::sum_of;
 use crate::body::survey_body;
+use crate::cell::back_in;
 use crate::cell::cell_of;
 use crate::cell::height_in;
 use crate::cell::less;
@@ -43,6 +46,7 @@ use tokens::kind_in;
 use tokens::kind_of;
 use tokens::new_number;
 use tokens::out_of_place;
+use tokens::programs::PROGRAMS_MOST;
 use tokens::quick_at;
 use tokens::read_at;
 use tokens::takes_here;
@@ -172,7 +176,7 @@ fn walk_round(
     codes: &[u32; 256],
     rom: &[u8],
     length: u32,
-    kinds: &[u8; 2048],
+    kinds: &[u8; PROGRAMS_MOST],
     sums: &[u64],
     seen: &mut [u32],
     work: &mut [u16],
@@ -226,7 +230,7 @@ fn moved(stand: Stand, token: Token, cell: u32) -> Stand
     let height = less(height_in(cell), takes_here(token));
     Stand {
         start: token.next,
-        cell: cell_of(height, cell / 256),
+        cell: cell_of(height, back_in(cell)),
         wide: widened(token, stand.wide),
         children: stand.children,
         nodes: stand.nodes,
@@ -236,7 +240,7 @@ fn moved(stand: Stand, token: Token, cell: u32) -> Stand
 
 // One number more.
 fn counted(stand: Stand, start: u32) -> Stand
-    requires { ⌜ stand .count < 256 ⌝ }
+    requires { ⌜ stand .count < numbersMost ⌝ }
     ensures { λ r. ⌜ r ≡ withCount stand start (suc (stand .count)) ⌝ }
 {
     Stand {
@@ -303,8 +307,8 @@ fn close_node(stand: Stand) -> Turned
 }
 
 // A number goes into the tables, with its kind and its sum.
-fn enter(kinds: &mut [u8; 2048], sums: &mut [u64], number: u32, kind: u8, sum: Sum)
-    requires { ⌜ (number ≤ 0xFFF) × (sum .need < 65536) ⌝ }
+fn enter(kinds: &mut [u8; PROGRAMS_MOST], sums: &mut [u64], number: u32, kind: u8, sum: Sum)
+    requires { ⌜ (number ≤ lastProgram) × (sum .need < 65536) ⌝ }
     ensures { λ r. ⌜ (now (kinds .exit) ≡ set (now (kinds .entry)) (slot number) kind)
         × (now (sums .exit) ≡ set (now (sums .entry)) (slot number) (packedSum sum)) ⌝ }
 {
@@ -319,14 +323,14 @@ fn colon(
     length: u32,
     seen: &mut [u32],
     work: &mut [u16],
-    kinds: &mut [u8; 2048],
+    kinds: &mut [u8; PROGRAMS_MOST],
     sums: &mut [u64],
     stand: Stand,
     number: u32,
     entry: u32,
 ) -> Turned
-    requires { ⌜ Codes (now codes) × WalkTables length (now seen) (now work) × (entry ≢ 0) × (entry ≤ length) × (number ≤ 0xFFF)
-        × (stand .count < 256) × StandFits stand × Bounded 0x1000_0000 (now seen) ⌝ }
+    requires { ⌜ Codes (now codes) × WalkTables length (now seen) (now work) × (entry ≢ 0) × (entry ≤ length) × (number ≤ lastProgram)
+        × (stand .count < numbersMost) × StandFits stand × Bounded 0x1000_0000 (now seen) ⌝ }
     ensures { λ r. ⌜ ((st : Stand) → TurnIs (colonOf (now (rom .entry)) length (board (now (seen .entry)) (now (kinds .entry)) (now
         (sums .entry)) st) stand number entry) (now (seen .entry)) (stand .cell) r (now (seen .exit)) (now (kinds .exit)) (now
         (sums .exit))) ⌝ }
@@ -356,7 +360,7 @@ fn colon(
 }
 
 // A number is new that was not defined, where there is room for one more.
-fn is_new(kinds: &[u8; 2048], stand: Stand, number: u32) -> bool
+fn is_new(kinds: &[u8; PROGRAMS_MOST], stand: Stand, number: u32) -> bool
     ensures { λ r. ⌜ r ≡ (eqb (kindOf (now (kinds .entry)) number) 0 && ltb (stand .count) numbersMost) ⌝ }
 {
     if kind_of(kinds, number) == 0 {
@@ -386,7 +390,7 @@ fn define(
     length: u32,
     seen: &mut [u32],
     work: &mut [u16],
-    kinds: &mut [u8; 2048],
+    kinds: &mut [u8; PROGRAMS_MOST],
     sums: &mut [u64],
     stand: Stand,
     token: Token,
@@ -431,7 +435,7 @@ fn advance(
     length: u32,
     seen: &mut [u32],
     work: &mut [u16],
-    kinds: &mut [u8; 2048],
+    kinds: &mut [u8; PROGRAMS_MOST],
     sums: &mut [u64],
     stand: Stand,
     cell: u32,
@@ -465,7 +469,7 @@ fn next_round(
     length: u32,
     seen: &mut [u32],
     work: &mut [u16],
-    kinds: &mut [u8; 2048],
+    kinds: &mut [u8; PROGRAMS_MOST],
     sums: &mut [u64],
     stand: Stand,
     far: u32,
@@ -506,7 +510,7 @@ pub fn all_rounds(
     length: u32,
     seen: &mut [u32],
     work: &mut [u16],
-    kinds: &mut [u8; 2048],
+    kinds: &mut [u8; PROGRAMS_MOST],
     sums: &mut [u64],
     first: Stand,
 ) -> bool

@@ -7,15 +7,16 @@ ghost use Rattle.tokens.specs.Joints.Quick.{Codes};
 ghost use Rattle.rom.specs.Sizes.{romMost};
 ghost use Rattle.screen.specs.Laws.Found.Model.{blankOf, noTally, walkSteps};
 ghost use Rattle.screen.specs.Laws.Code.Walk.{spoiltWay, outWay, pathOf, KeptIs, WalkFit, CameTo, CameIf, Settled, WentOn, SetOut, EndsWith, WalkIs};
+use crate::cell::UNMET;
 use crate::cell::larger;
 use crate::limits::ROM_MOST;
-use crate::limits::UNMET;
 use crate::tables::cell_at;
 use crate::tables::place_at;
 use crate::tally::Tally;
 use crate::tally::no_tally;
 use crate::visiting::Visit;
 use crate::visiting::visit_at;
+use tokens::programs::PROGRAMS_MOST;
 
 // The text: the program's length, the offset width in force, whether it is a body, the place below which it has no token, and the open
 // children.
@@ -189,7 +190,7 @@ fn walk_on(
     codes: &[u32; 256],
     rom: &[u8],
     text: Text,
-    kinds: &[u8; 2048],
+    kinds: &[u8; PROGRAMS_MOST],
     sums: &[u64],
     seen: &mut [u32],
     work: &mut [u16],
@@ -222,7 +223,7 @@ pub fn walk_from(
     codes: &[u32; 256],
     rom: &[u8],
     text: Text,
-    kinds: &[u8; 2048],
+    kinds: &[u8; PROGRAMS_MOST],
     sums: &[u64],
     seen: &mut [u32],
     work: &mut [u16],

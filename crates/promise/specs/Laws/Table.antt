@@ -33,6 +33,8 @@ use Rattle.screen.specs.Laws.Found.Screen.{verdictOn, judgedOf, screenedOf}
 use Rattle.screen.specs.Laws.Code.Screen.{screen-judged}
 use Rattle.screen.specs.declared.screening.Verdict.{Verdict}
 use Rattle.screen.specs.declared.screening.Verdict.the-variants.{Passes, Refused as Rejects}
+use Rattle.screen.specs.Laws.Found.Cell.{cellWith, heightsIn, markIn, movedCell}
+use Rattle.screen.specs.Laws.Found.Sums.{packedSum, unpackedSum}
 use Rattle.state.specs.declared.answer.Answer.{Answer}
 use Rattle.state.specs.declared.answer.Answer.the-variants.{Going, Finished, Refused, Spent}
 
@@ -134,7 +136,7 @@ unfolding headerOf sumOf
 all-open = (refl, (refl, (refl, (refl, (refl, (refl, (refl, (refl, (refl, tt)))))))))
 
 all-tokens : every tokensAgree cases ≡ true
-unfolding ashiftOf sumOf aimOf ends lows highs doubles table rowOf codeOf behindOf operandOf tokenIfWhole decodeOf misplacedOf readOf sameBytes leftOf plainOf refusalOf effects actOf doneOf tokenTurn tokensFrom sameAnswer sameVerdict unknownOf effectOf screenOf lastOf roundsOf roundOf apartOf advanceOf defineOf colonOf startsOf bodyWalked bodyShifted tallied passesOf shiftOf walkAll walkSteps walkStep visitedOn putsOf putVisit visitOf tokenVisit soundOf fitsOf sumAt
+unfolding ashiftOf sumOf aimOf ends lows highs doubles table rowOf codeOf behindOf operandOf tokenIfWhole decodeOf misplacedOf readOf sameBytes leftOf plainOf refusalOf effects actOf doneOf tokenTurn tokensFrom sameAnswer sameVerdict unknownOf effectOf screenOf lastOf roundsOf roundOf apartOf advanceOf defineOf colonOf startsOf bodyWalked bodyShifted tallied passesOf shiftOf walkAll walkSteps walkStep visitedOn putsOf putVisit visitOf tokenVisit soundOf fitsOf sumAt packedSum unpackedSum cellWith heightsIn markIn movedCell
 all-tokens = refl
 
 pub claim : every agrees cases ≡ true

@@ -18,7 +18,7 @@ pub mod Bodies
 pub mod Told
 -- Rule 2, where the model's rounds pass: a body's sum has the maxima over its tokens, its entry and its ends.
 pub mod Maxima
--- Rule 6, where the model's rounds pass: a token is at each reachable place, and the cell that is left there.
+-- Rule 6, where the model's rounds pass: a token is at each reachable place.
 pub mod There
 -- The order of rounds, where the model's rounds pass: the setting of a body, and where its branches lead.
 pub mod Order

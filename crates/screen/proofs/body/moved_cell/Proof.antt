@@ -1,7 +1,7 @@
 use mathlib.Core.Path.{sym, _∙_}
 use Rattle.cells.specs.Laws.Facts.{when-true, when-false}
-use Rattle.screen.specs.Laws.Found.Model.{isMet}
 use Rattle.screen.specs.Laws.Code.Body.{met, unmet-none, unmet-blank}
+use Rattle.screen.specs.Laws.Found.Cell.{isMet}
 use borrow.Author.Needs.{needs}
 use Rattle.screen.proofs.body.moved_cell.Statement.{statement}
 use Rattle.screen.proofs.body.moved_cell.Tie as tie
@@ -19,7 +19,7 @@ returns-2 c =
 returns-3 : tie.Need-returns-3
 returns-3 c =
     let cell = c .before .before .before .args .cell in
-    c .less .ensures ∙ sym (when-true _ _ (isMet cell) (met cell (c .before .before .if1 .left) (c .before .if2 .left)))
+    c .moved .ensures ∙ sym (when-true _ _ (isMet cell) (met cell (c .before .before .if1 .left) (c .before .if2 .left)))
 
 pub moved-cell-spec : {M : Type 1} → statement M
 moved-cell-spec =
@@ -27,6 +27,5 @@ moved-cell-spec =
     (tie.spec
     returns
     returns-2
-    (λ c. search needs)
     (λ c κs. search needs)
     returns-3)

@@ -1,10 +1,11 @@
 use Rattle.screen.specs.Laws.Found.Model.{sumAt}
+use Rattle.screen.specs.Laws.Found.Sums.{unpackedSum}
 use borrow.Author.Needs.{needs}
 use Rattle.screen.proofs.effect.sum_at.Statement.{statement}
 use Rattle.screen.proofs.effect.sum_at.Tie as tie
 
 pub sum-at-spec : {M : Type 1} → statement M
-unfolding sumAt
+unfolding sumAt unpackedSum
 sum-at-spec =
     tie.close
     (tie.spec

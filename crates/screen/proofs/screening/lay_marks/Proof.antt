@@ -2,8 +2,8 @@ use Prim.Native.Nat.{_-_, _≤_}
 use mathlib.Core.Path.{_≡_, refl, _∙_}
 use denote.Ref.{now}
 use lib.ListN.{length, getD, length-set}
-use Rattle.screen.specs.Laws.Found.Model.{markIn}
 use Rattle.screen.specs.Laws.Code.Screen.{Filled, filled-none, filled-more, filled-laid, mark-behind}
+use Rattle.screen.specs.Laws.Found.Cell.{markIn}
 use native.Mathlib.Omega.{arith}
 use borrow.Author.Needs.{needs}
 use Rattle.screen.proofs.screening.lay_marks.Statement.{statement}

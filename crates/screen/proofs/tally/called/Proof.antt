@@ -17,20 +17,22 @@ called-spec =
     (λ c. let s = sum-small _ _ _ (c .before .before .before .before .before .sum-at .ensures) in omega arith)
     (λ c κs. search needs)
     (λ c κs. search needs)
-    (λ c. let s = sum-small _ _ _ (c .before .before .before .before .before .before .before .before .sum-at .ensures) in omega arith)
+    (λ c κs. search needs)
+    (λ c. let s = sum-small _ _ _ (c .before .before .before .before .before .before .before .before .before .sum-at .ensures) in omega arith)
     (λ c κs. search needs)
     (λ c.
-    let s = sum-small _ _ _ (c .before .before .before .before .before .before .before .before .before .before .sum-at .ensures) in
+    let s = sum-small _ _ _ (c .before .before .before .before .before .before .before .before .before .before .before .sum-at .ensures) in
     omega arith)
     (λ c κs. search needs)
     (λ c.
-    let b = c .before .before .before .before .before .before .before .before in
+    let b = c .before .before .before .before .before .before .before .before .before in
     simp (
       c .larger5 .ensures,
       c .before .before .larger4 .ensures,
-      c .before .before .before .before .larger3 .ensures,
-      c .before .before .before .before .before .larger2 .ensures,
-      c .before .before .before .before .before .before .before .less2 .ensures,
+      c .before .before .before .before .back-in .ensures .0,
+      c .before .before .before .before .before .larger3 .ensures,
+      c .before .before .before .before .before .before .larger2 .ensures,
+      c .before .before .before .before .before .before .before .before .less2 .ensures,
       b .larger .ensures,
       b .before .less .ensures,
       b .before .before .before .sum-at .ensures,

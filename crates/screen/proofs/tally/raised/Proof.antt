@@ -13,12 +13,15 @@ raised-spec =
     (λ c κs. search needs)
     (λ c κs. search needs)
     (λ c κs. search needs)
+    (λ c κs. search needs)
     (λ c.
+    let d = c .before .before .before in
     simp (
       c .larger4 .ensures,
       c .before .larger3 .ensures,
-      c .before .before .larger2 .ensures,
-      c .before .before .before .larger .ensures,
-      c .before .before .before .before .less .ensures,
-      c .before .before .before .before .before .height-in .ensures .0,
+      c .before .before .back-in .ensures .0,
+      d .larger2 .ensures,
+      d .before .larger .ensures,
+      d .before .before .less .ensures,
+      d .before .before .before .height-in .ensures .0,
     )))

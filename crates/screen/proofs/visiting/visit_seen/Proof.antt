@@ -4,10 +4,10 @@ use borrow.Author.Tests.{eq-eqb, ne-eqb}
 use denote.Ref.{now}
 use native.Mathlib.Omega.{arith}
 use Rattle.tokens.specs.Code.{familyIn}
-use Rattle.screen.specs.Laws.Found.Model.{backIn}
 use Rattle.screen.specs.Laws.Code.Visit.{fixesBy, special}
 use Rattle.screen.specs.Laws.Code.Visit.{misplaced-seen, unlisted-seen, quiet-seen, forbidden-seen, finished-seen, left-seen, assigned-seen}
 use Rattle.screen.specs.Laws.Code.Visit.{jumped-seen, chosen-seen, called-seen}
+use Rattle.screen.specs.Laws.Found.Cell.{backIn}
 use borrow.Author.Needs.{needs}
 use Rattle.screen.proofs.visiting.visit_seen.Statement.{statement}
 use Rattle.screen.proofs.visiting.visit_seen.Tie as tie
@@ -82,11 +82,12 @@ visit-seen-spec =
     λ rom p e. c .bad-visit10 .ensures ∙ w rom p e)
     (λ c κs. search needs)
     (λ c κs. search needs)
+    (λ c κs. search needs)
     (λ c.
-    let i = c .before .before .before .before .before in
+    let i = c .before .before .before .before .before .before in
     let a = i .before .before .before .args in
     let m = sym (i .before .out-of-place .ensures) ∙ i .if1 .left in
-    let k = sym (c .before .before .before .family-of .ensures) ∙ c .before .before .match .keys10 in
+    let k = sym (c .before .before .before .before .family-of .ensures) ∙ c .before .before .before .match .keys10 in
     let v = left-seen (a .text) (now (a .kinds)) (now (a .sums)) (a .glance) (a .cell) m k in
     let w = rw (ne-eqb (backIn (a .cell)) 0 (λ z. omega arith)) at v in
     λ rom p e. c .bad-visit11 .ensures ∙ w rom p e)
@@ -163,13 +164,13 @@ visit-seen-spec =
     let w = rw (eq-eqb _ _ (c .before .if6 .left)) at v in
     λ rom p e. rw (c .before .before .before .before .before .takes-seen .ensures .0) at (c .plain4 .ensures) ∙ w rom p e)
     (λ c.
-    let i = c .before .before .before .before .before in
+    let i = c .before .before .before .before .before .before in
     let a = i .before .before .before .args in
     let m = sym (i .before .out-of-place .ensures) ∙ i .if1 .left in
-    let k = sym (c .before .before .before .family-of .ensures) ∙ c .before .before .match .keys10 in
+    let k = sym (c .before .before .before .before .family-of .ensures) ∙ c .before .before .before .match .keys10 in
     let v = left-seen (a .text) (now (a .kinds)) (now (a .sums)) (a .glance) (a .cell) m k in
     let w = rw (eq-eqb (backIn (a .cell)) 0 (omega arith)) at v in
-    λ rom p e. rw (c .before .before .before .before .takes-seen .ensures .0) at (c .plain5 .ensures) ∙ w rom p e)
+    λ rom p e. rw (c .before .before .before .before .before .takes-seen .ensures .0) at (c .plain5 .ensures) ∙ w rom p e)
     (λ c.
     let i = c .before .before .before .before in
     let a = i .before .before .before .args in

@@ -1,13 +1,14 @@
 -- Where the model's rounds pass there is an assignment: the heights are those that the rounds leave. Assumes nothing.
 use Prim.Native.Nat.{ℕ, _≤_}
 use native.Mathlib.Omega.{arith}
-use mathlib.Core.Path.{refl, ap}
+use mathlib.Core.Path.{refl, ap, _∙_}
 use mathlib.Core.List.{List}
 use Rattle.rom.specs.Header.{lengthOf, wideOf}
+use Rattle.rom.specs.Sizes.{romMost}
 use Rattle.screen.specs.Effect.{allowed}
 use Rattle.screen.specs.Reach.{there, setting}
 use Rattle.screen.specs.Rules.{Assignment}
-use Rattle.screen.specs.Laws.Found.Model.{Board, cellWith, heightIn, backIn}
+use Rattle.screen.specs.Laws.Found.Model.{Board}
 use Rattle.screen.specs.Laws.Walk.Walking.{At}
 use Rattle.screen.specs.Laws.Walk.Rounds.{ran, Chain, ends}
 use Rattle.screen.specs.Laws.Walk.Chains.{here, first-ready}
@@ -21,8 +22,9 @@ use Rattle.screen.specs.Laws.Accept.Once.{value-sum, one-definition}
 use Rattle.screen.specs.Laws.Accept.Counts.{few-numbers, few-nodes, some-children, no-children}
 use Rattle.screen.specs.Laws.Accept.Spans.{no-overlap, clear-span, body-read}
 use Rattle.screen.specs.Laws.Accept.Heights.{heightLeft, backLeft, sumLeft}
+use Rattle.screen.specs.Laws.Found.Cell.{heightIn, backIn, firstCell, height-in, back-in}
 
-module _ (rom : List ℕ) (fits : lengthOf rom ≤ 16384) {last : Board} (passed : Chain rom (start rom fits) last) where
+module _ (rom : List ℕ) (fits : lengthOf rom ≤ romMost) {last : Board} (passed : Chain rom (start rom fits) last) where
   abbrev start-out : Out rom fits passed (setting (wideOf rom)) 8
   start-out =
       record {
@@ -30,7 +32,7 @@ module _ (rom : List ℕ) (fits : lengthOf rom ≤ 16384) {last : Board} (passed
         follows = here;
         ran = chain-ran rom fits (first-ready rom fits) passed;
         chain = passed;
-        cell = cellWith 0 0;
+        cell = firstCell;
         at = At.begins;
         setting = refl;
       }
@@ -41,7 +43,7 @@ module _ (rom : List ℕ) (fits : lengthOf rom ≤ 16384) {last : Board} (passed
         height = heightLeft last;
         back = backLeft last;
         sum = sumLeft last;
-        start = let c = out-cell rom fits passed start-out in (ap heightIn c, ap backIn c);
+        start = let c = out-cell rom fits passed start-out in (ap heightIn c ∙ height-in 0 0 (omega arith), ap backIn c ∙ back-in 0 0 (omega arith));
         enter = at-first rom fits passed;
         there = λ m. (spot rom fits passed m .takes, spot rom fits passed m .returnTakes);
         flow = λ {q = q} m l. spot rom fits passed m .flow q l;

@@ -7,14 +7,14 @@ use mathlib.Core.List.{List}
 use lib.Dec.{T}
 use lib.ListN.{getD}
 use Rattle.rom.specs.Header.{lengthOf}
-use Rattle.rom.specs.Sizes.{returnMost}
+use Rattle.rom.specs.Sizes.{returnMost, romMost}
 use Rattle.tokens.specs.Laws.Tokens.{next-ahead}
 use Rattle.tokens.specs.declared.decoding.Token.{Token}
 use Rattle.tokens.specs.declared.read.Read.the-variants.{Good}
 use Rattle.screen.specs.Effect.{allowed, fixes, astray, effectOf}
 use Rattle.screen.specs.Reach.{Setting, tokenAt, Claim, Holds, Met}
-use Rattle.screen.specs.Laws.Walk.Visits.{Meets, height-in, back-in}
-use Rattle.screen.specs.Laws.Found.Model.{Board, cellWith, heightIn, backIn, heightAfter, backAfter, bodyText}
+use Rattle.screen.specs.Laws.Walk.Visits.{Meets}
+use Rattle.screen.specs.Laws.Found.Model.{Board, bodyText, heightsAfter}
 use Rattle.screen.specs.Laws.Walk.Rounds.{ran, farOf, left, Chain}
 use Rattle.screen.specs.Laws.Walk.Boards.{BodyRan}
 use Rattle.screen.specs.Laws.Walk.Chains.{then, climbs}
@@ -24,8 +24,9 @@ use Rattle.screen.specs.Laws.Accept.Spots.{effect-kept, Inside, bodyOf, 
 use Rattle.screen.specs.Laws.Accept.Cells.{Cells, body-cells, effectIn}
 use Rattle.screen.specs.Laws.Accept.Outside.{out-spot}
 use Rattle.screen.specs.Laws.Accept.Heights.{heightLeft, backLeft, sumLeft, Spot}
+use Rattle.screen.specs.Laws.Found.Cell.{height-in, back-in, cellWith, heightIn, backIn, heights, entered, bodyMost}
 
-module _ (rom : List ℕ) (fits : lengthOf rom ≤ 16384) {last : Board} (passed : Chain rom (start rom fits) last) where
+module _ (rom : List ℕ) (fits : lengthOf rom ≤ romMost) {last : Board} (passed : Chain rom (start rom fits) last) where
   module _ {d p : ℕ} {s : Setting} {t : Token} (i : Inside rom fits passed d s p) (e : tokenAt rom (suc d) (s .wide) p ≡ Good t) where
     abbrev y : BodyRan rom (left rom (i .board)) (i .ran .token) (i .board .stand .wide) (i .then)
     y = bodyOf rom fits passed i
@@ -43,7 +44,7 @@ module _ (rom : List ℕ) (fits : lengthOf rom ≤ 16384) {last : Board} (passed
     in-effect =
         effect-kept rom fits passed (i .follows) (i .chain) (body-fits rom fits passed i .token) (in-meets .named) ∙ ap (effectOf (sumLeft last)) same-token
 
-    pub height-inside : heightLeft last (suc d) p ≡ in-cells .height + bodyOf rom fits passed i .tally .need - 64
+    pub height-inside : heightLeft last (suc d) p ≡ in-cells .height + bodyOf rom fits passed i .tally .need - entered
     height-inside = ap heightIn (in-cells .final) ∙ height-in _ _ (let l = in-cells .low in omega arith)
 
     pub back-inside : backLeft last (suc d) p ≡ in-cells .back
@@ -63,27 +64,24 @@ module _ (rom : List ℕ) (fits : lengthOf rom ≤ 16384) {last : Board} (passed
         × (backLeft last (suc d) q ≡ backLeft last (suc d) p - effectOf (sumLeft last) t .«return_takes» + effectOf (sumLeft last) t .«return_gives»)
     in-flow q l =
         rw (height-inside, back-inside, ← in-effect) (
-          ap heightIn final ∙ height-in _ _ (omega (arith, low)) ∙ (let h = heights in let n = in-cells .enough in let k = in-cells .takes in omega arith),
+          ap heightIn final ∙ height-in _ _ (omega (arith, low)) ∙ (let h = highs in let n = in-cells .enough in let k = in-cells .takes in omega arith),
           ap backIn final ∙ back-in _ _ (omega (arith, low)) ∙ backs,
         )
       where
-        j : Inside rom fits passed d s q
-        j = body-on rom fits passed i e (leads-itself in-free l)
-
         c : Cells rom fits passed (body-on rom fits passed i e (leads-itself in-free l))
         c = body-cells rom fits passed (body-on rom fits passed i e (leads-itself in-free l))
 
-        final : getD (last .seen) q 0 ≡ cellWith (c .height + y .tally .need - 64) (c .back)
+        final : getD (last .seen) q 0 ≡ cellWith (heights (c .height + y .tally .need - entered) (c .back))
         final = c .final
 
-        low : c .height + y .tally .need ≤ 128
+        low : c .height + y .tally .need ≤ bodyMost
         low = c .low
 
-        cell-is : cellWith (c .height) (c .back) ≡ cellWith (heightAfter (effectIn rom fits passed i) (i .cell)) (backAfter (effectIn rom fits passed i) (i .cell))
+        cell-is : cellWith (heights (c .height) (c .back)) ≡ cellWith (heightsAfter (effectIn rom fits passed i) (i .cell))
         cell-is = sym (c .is) ∙ body-fits rom fits passed i .cell
 
-        heights : c .height ≡ in-cells .height - effectIn rom fits passed i .takes + effectIn rom fits passed i .gives
-        heights =
+        highs : c .height ≡ in-cells .height - effectIn rom fits passed i .takes + effectIn rom fits passed i .gives
+        highs =
             sym (height-in (c .height) (c .back) (let z = c .high in omega arith)) ∙ ap heightIn cell-is ∙ height-in _ _ (let z = in-meets .high in omega arith)
             ∙ ap (λ k. k - effectIn rom fits passed i .takes + effectIn rom fits passed i .gives) cell-height
 

@@ -10,13 +10,14 @@ use lib.ListN.{getD}
 use Rattle.cells.specs.Laws.Tests.{neqb→ne}
 use Rattle.cells.specs.Laws.Facts.{holds, is-true, both-hold, when-true}
 use Rattle.rom.specs.Header.{lengthOf}
+use Rattle.rom.specs.Sizes.{romMost, returnMost}
 use Rattle.tokens.specs.Laws.Tokens.{next-ahead}
 use Rattle.tokens.specs.declared.decoding.Token.{Token}
 use Rattle.screen.specs.declared.effect.Effect.{Effect}
 use Rattle.screen.specs.Effect.{effectOf}
 use Rattle.screen.specs.Reach.{Setting, Reach, Starts}
-use Rattle.screen.specs.Laws.Walk.Visits.{Meets, height-in, back-in, is-met}
-use Rattle.screen.specs.Laws.Found.Model.{Board, cellWith, heightIn, backIn, sumAt, shiftedCell, isMet, unmet, bodyText, passesOf}
+use Rattle.screen.specs.Laws.Walk.Visits.{Meets}
+use Rattle.screen.specs.Laws.Found.Model.{Board, sumAt, shiftedCell, bodyText, passesOf}
 use Rattle.screen.specs.Laws.Walk.Walking.{At}
 use Rattle.screen.specs.Laws.Walk.Marking.{walked-met, Cell}
 use Rattle.screen.specs.Laws.Walk.Tallying.{Among}
@@ -26,8 +27,11 @@ use Rattle.screen.specs.Laws.Walk.Chains.{chain-kept}
 use Rattle.screen.specs.Laws.Accept.Cover.{start, ready, rooted}
 use Rattle.screen.specs.Laws.Accept.Roots.{body-reach}
 use Rattle.screen.specs.Laws.Accept.Spots.{inside-at, Bound, at-bound, Inside, bodyOf, body-fits}
+use Rattle.screen.specs.Laws.Found.Cell.{height-in, is-met, cellWith, heightIn, isMet, unmet, heights, entryCell}
+use Rattle.screen.specs.Laws.Found.Cell.{bodyMost}
+use Rattle.screen.specs.Laws.Found.Cell.{movedCell, entered, moved-cell}
 
-module _ (rom : List ℕ) (fits : lengthOf rom ≤ 16384) {last : Board} (passed : Chain rom (start rom fits) last) where
+module _ (rom : List ℕ) (fits : lengthOf rom ≤ romMost) {last : Board} (passed : Chain rom (start rom fits) last) where
   module _ {d p : ℕ} {s : Setting} (i : Inside rom fits passed d s p) where
     abbrev b : Board
     b = i .board
@@ -44,8 +48,8 @@ module _ (rom : List ℕ) (fits : lengthOf rom ≤ 16384) {last : Board} (passed
     meets : Meets rom (bodyText (lengthOf rom) (b .stand .wide) (i .ran .token .next)) (b .kinds) (b .sums) p (i .cell) t
     meets = body-fits rom fits passed i .meets
 
-    bound : Bound 128 (i .cell)
-    bound = at-bound (record { height = 64; back = 0; is = refl; low = omega arith; few = omega arith }) (i .at)
+    bound : Bound bodyMost (i .cell)
+    bound = at-bound (record { height = entered; back = 0; is = refl; low = omega arith; few = omega arith }) (i .at)
 
     ends : (farOf rom b < i .ran .token .next) × (i .ran .token .next ≤ lengthOf rom)
     ends = next-ahead rom (lengthOf rom) (b .stand .wide) false (farOf rom b) (i .ran .token) (i .ran .is)
@@ -75,7 +79,7 @@ module _ (rom : List ℕ) (fits : lengthOf rom ≤ 16384) {last : Board} (passed
           low = z .0;
           high = omega arith;
           visited = record {
-            met = ap isMet (y .walked .marked (i .at) ∙ bound .is) ∙ is-met (bound .height) (bound .back) (bound .low) (bound .few);
+            met = ap isMet (y .walked .marked (i .at) ∙ bound .is) ∙ is-met (heights (bound .height) (bound .back)) (bound .low) (bound .few);
             is = meets .is;
           };
         }
@@ -83,32 +87,29 @@ module _ (rom : List ℕ) (fits : lengthOf rom ≤ 16384) {last : Board} (passed
     height-is : heightIn (i .cell) ≡ bound .height
     height-is = ap heightIn (bound .is) ∙ height-in (bound .height) (bound .back) (let l = bound .low in omega arith)
 
-    back-is : backIn (i .cell) ≡ bound .back
-    back-is = ap backIn (bound .is) ∙ back-in (bound .height) (bound .back) (let l = bound .low in omega arith)
-
     marked-is : getD (y .path .seen) p 0 ≡ i .cell
     marked-is = y .walked .marked (i .at)
 
     -- the tally's tests
-    pub body-limits : (bodyOf rom fits passed i .tally .peak + bodyOf rom fits passed i .tally .need ≤ 128) × (bodyOf rom fits passed i .tally .good ≡ true) × (bodyOf rom fits passed i .tally .out ≢ 0)
+    pub body-limits : (bodyOf rom fits passed i .tally .peak + bodyOf rom fits passed i .tally .need ≤ bodyMost) × (bodyOf rom fits passed i .tally .good ≡ true) × (bodyOf rom fits passed i .tally .out ≢ 0)
     unfolding passesOf
     body-limits =
-        let h = both-hold (y .tally .good && not (eqb (y .tally .out) 0)) (leb (y .tally .peak + y .tally .need) (64 + 64)) (holds (passesOf (y .tally)) (y .passes)) in
+        let h = both-hold (y .tally .good && not (eqb (y .tally .out) 0)) (leb (y .tally .peak + y .tally .need) bodyMost) (holds (passesOf (y .tally)) (y .passes)) in
         let g = both-hold (y .tally .good) (not (eqb (y .tally .out) 0)) (h .0) in
-        (leb→le (y .tally .peak + y .tally .need) (64 + 64) (h .1), is-true (y .tally .good) (g .0), neqb→ne (y .tally .out) 0 (g .1))
+        (leb→le (y .tally .peak + y .tally .need) bodyMost (h .1), is-true (y .tally .good) (g .0), neqb→ne (y .tally .out) 0 (g .1))
 
     -- what is there at the end, with the body entered at its need
     pub record Cells : Type 0 where
       pub height : ℕ
       pub back : ℕ
-      pub is : i .cell ≡ cellWith height back
-      pub high : height ≤ 128
-      pub few : back ≤ 32
-      pub enough : 64 + effectIn .takes ≤ height + bodyOf rom fits passed i .tally .need
+      pub is : i .cell ≡ cellWith (heights height back)
+      pub high : height ≤ bodyMost
+      pub few : back ≤ returnMost
+      pub enough : entered + effectIn .takes ≤ height + bodyOf rom fits passed i .tally .need
       pub takes : effectIn .takes ≤ height
-      pub low : height + bodyOf rom fits passed i .tally .need ≤ 128
-      pub rise : height - effectIn .takes + effectIn .rise + bodyOf rom fits passed i .tally .need ≤ 128
-      pub final : getD (last .seen) p 0 ≡ cellWith (height + bodyOf rom fits passed i .tally .need - 64) back
+      pub low : height + bodyOf rom fits passed i .tally .need ≤ bodyMost
+      pub rise : height - effectIn .takes + effectIn .rise + bodyOf rom fits passed i .tally .need ≤ bodyMost
+      pub final : getD (last .seen) p 0 ≡ cellWith (heights (height + bodyOf rom fits passed i .tally .need - entered) back)
 
     pub body-cells : Cells
     body-cells =
@@ -128,22 +129,23 @@ module _ (rom : List ℕ) (fits : lengthOf rom ≤ 16384) {last : Board} (passed
         here : heightIn (getD (y .path .seen) p 0) ≡ bound .height
         here = ap heightIn marked-is ∙ height-is
 
-        needs : 64 + effectIn .takes - bound .height ≤ y .tally .need
-        needs = subst (λ k. 64 + effectIn .takes - k ≤ y .tally .need) here (y .told .need .all among)
+        needs : entered + effectIn .takes - bound .height ≤ y .tally .need
+        needs = subst (λ k. entered + effectIn .takes - k ≤ y .tally .need) here (y .told .need .all among)
 
-        enough : 64 + effectIn .takes ≤ bound .height + y .tally .need
+        enough : entered + effectIn .takes ≤ bound .height + y .tally .need
         enough = let n = needs in omega arith
 
         peaks : max (bound .height) (bound .height - effectIn .takes + effectIn .rise) ≤ y .tally .peak
         peaks = subst (λ k. max k (k - effectIn .takes + effectIn .rise) ≤ y .tally .peak) here (y .told .peak .all among)
 
-        moved : shiftedCell (y .tally .need) (getD (y .path .seen) p 0) ≡ cellWith (bound .height + y .tally .need - 64) (bound .back)
+        moved : shiftedCell (y .tally .need) (getD (y .path .seen) p 0) ≡ cellWith (heights (bound .height + y .tally .need - entered) (bound .back))
         moved =
             ap (shiftedCell (y .tally .need)) (marked-is ∙ bound .is)
-            ∙ when-true (cellWith (bound .height) (bound .back) + y .tally .need - 64) 0 (isMet (cellWith (bound .height) (bound .back))) (is-met (bound .height) (bound .back) (bound .low) (bound .few))
-            ∙ (let n = enough in omega arith)
+            ∙ when-true (movedCell (y .tally .need) entered (cellWith (heights (bound .height) (bound .back)))) 0
+            (isMet (cellWith (heights (bound .height) (bound .back)))) (is-met (heights (bound .height) (bound .back)) (bound .low) (bound .few))
+            ∙ moved-cell (y .tally .need) entered (heights (bound .height) (bound .back)) (let n = enough in omega arith)
 
-        at-end : getD (last .seen) p 0 ≡ cellWith (bound .height + y .tally .need - 64) (bound .back)
+        at-end : getD (last .seen) p 0 ≡ cellWith (heights (bound .height + y .tally .need - entered) (bound .back))
         at-end =
             let z = y .marked .starts body-start in
             let l = z .1 in
@@ -154,12 +156,12 @@ module _ (rom : List ℕ) (fits : lengthOf rom ≤ 16384) {last : Board} (passed
   module _ {d p : ℕ} {s : Setting} (i : Inside rom fits passed d s p) where
     -- the body's first place
     abbrev pub at-entry : Inside rom fits passed d s (i .ran .token .next)
-    at-entry = inside-at rom fits passed i (i .ran .token .next) (cellWith 64 0) At.begins
+    at-entry = inside-at rom fits passed i (i .ran .token .next) entryCell At.begins
 
     -- a place that is met was walked to
     pub met-at : {q : ℕ} {u : Token}
         → Among rom (lengthOf rom) (i .board .stand .wide) (bodyOf rom fits passed i .path .seen) (i .ran .token .next) (suc (bodyOf rom fits passed i .marks .end)) q u
-        → At rom (bodyText (lengthOf rom) (i .board .stand .wide) (i .ran .token .next)) (i .board .kinds) (i .board .sums) (i .ran .token .next) (cellWith 64 0) q (getD (bodyOf rom fits passed i .path .seen) q 0)
+        → At rom (bodyText (lengthOf rom) (i .board .stand .wide) (i .ran .token .next)) (i .board .kinds) (i .board .sums) (i .ran .token .next) entryCell q (getD (bodyOf rom fits passed i .path .seen) q 0)
     met-at {q} {u} a =
         let l = a .low in
         let n = next-ahead rom (lengthOf rom) (i .board .stand .wide) false (farOf rom (i .board)) (i .ran .token) (i .ran .is) in

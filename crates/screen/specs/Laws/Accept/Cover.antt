@@ -6,10 +6,11 @@ use mathlib.Core.List.{List}
 use mathlib.Core.Logic.{_⊎_, inl, inr, _≢_}
 use lib.Dec.{T, T-not}
 use Rattle.cells.specs.Laws.Tests.{pick-is}
-use Rattle.tokens.specs.Table.{isProgram}
+use Rattle.tokens.specs.Table.{isProgram, programsMost}
 use lib.ListN.{length, getD}
 use Rattle.cells.specs.Laws.Facts.{holds, fails, is-true}
 use Rattle.rom.specs.Header.{lengthOf, wideOf}
+use Rattle.rom.specs.Sizes.{romMost}
 use Rattle.tokens.specs.Body.{kindOf}
 use Rattle.tokens.specs.declared.decoding.Token.{Token}
 use Rattle.tokens.specs.declared.read.Read.the-variants.{Good}
@@ -47,7 +48,7 @@ leads-itself {rom} {w} {p} {q} {t} n h = by (leads-by h)
     by (LeadsBy.itself k i) = i
     by (LeadsBy.behind c e) = absurd (T-not (fixes t) n (colon-fixes t c))
 
-module _ (rom : List ℕ) (fits : lengthOf rom ≤ 16384) where
+module _ (rom : List ℕ) (fits : lengthOf rom ≤ romMost) where
   -- the first round, and all that follow it
   abbrev pub start : Board
   start = firstBoard (roomOf (lengthOf rom)) (wideOf rom)
@@ -59,7 +60,7 @@ module _ (rom : List ℕ) (fits : lengthOf rom ≤ 16384) where
   rooted-start = record { reach = Holds.first; real = λ n h. absurd (h (none n)) }
     where
       none : (n : ℕ) → kindOf (start .kinds) n ≡ 0
-      none n = pick-is (λ k. k ≡ 0) (isProgram n) (getD (clear 2048) (slot n) 0) 0 (λ t. zeros 2048 (slot n)) (λ t. refl)
+      none n = pick-is (λ k. k ≡ 0) (isProgram n) (getD (clear programsMost) (slot n) 0) 0 (λ t. zeros programsMost (slot n)) (λ t. refl)
 
   rooted-steps : {b c : Board} → Ready rom b → Rooted rom fits b → Steps rom fits b c → Rooted rom fits c
   rooted-steps y o here = o

@@ -10,8 +10,9 @@ use Rattle.tokens.specs.declared.decoding.Token.{Token}
 use Rattle.screen.specs.Effect.{allowed, astray, effectOf}
 use Rattle.screen.specs.Reach.{Setting, Claim, Holds}
 use Rattle.screen.specs.Rules.{ownFrame}
-use Rattle.screen.specs.Laws.Found.Model.{Board, heightIn, backIn, sumAt}
+use Rattle.screen.specs.Laws.Found.Model.{Board, sumAt}
 use Rattle.screen.specs.declared.effect.Sum.{Sum}
+use Rattle.screen.specs.Laws.Found.Cell.{heightIn, backIn}
 
 abbrev pub heightLeft : Board → ℕ → ℕ → ℕ
 heightLeft last x p = heightIn (getD (last .seen) p 0)

@@ -7,12 +7,12 @@ use mathlib.Core.Logic.{_≢_}
 use lib.Dec.{T}
 use lib.ListN.{getD}
 use Rattle.rom.specs.Header.{lengthOf}
+use Rattle.rom.specs.Sizes.{romMost}
 use Rattle.tokens.specs.Family.{leave}
 use Rattle.tokens.specs.declared.decoding.Token.{Token}
 use Rattle.screen.specs.Effect.{isA, effectOf}
 use Rattle.screen.specs.Reach.{Setting, Holds, Met, Body}
-use Rattle.screen.specs.Laws.Walk.Visits.{height-in, back-in}
-use Rattle.screen.specs.Laws.Found.Model.{Board, cellWith, sumTold}
+use Rattle.screen.specs.Laws.Found.Model.{Board, sumTold}
 use Rattle.screen.specs.Laws.Walk.Tallying.{needAt, peakAt, backAt as returnAt, framesAt}
 use Rattle.screen.specs.Laws.Walk.Rounds.{ran, left, Chain, ends}
 use Rattle.screen.specs.Laws.Walk.Boards.{BodyRan}
@@ -23,8 +23,9 @@ use Rattle.screen.specs.Laws.Accept.Cells.{Cells, body-cells, among, bod
 use Rattle.screen.specs.Laws.Accept.Bodies.{same-token, in-meets, height-inside, back-inside, cell-back}
 use Rattle.screen.specs.Laws.Accept.Told.{sum-is, same-colon, body-number, rises, cell-there, need-worth, peak-worth, back-worth, frames-worth, token-there, met-there, same-there}
 use Rattle.screen.specs.Laws.Accept.Heights.{heightLeft, backLeft, sumLeft}
+use Rattle.screen.specs.Laws.Found.Cell.{height-in, back-in, cellWith, heights, entryCell, Heights, same-heights, entered, bodyMost}
 
-module _ (rom : List ℕ) (fits : lengthOf rom ≤ 16384) {last : Board} (passed : Chain rom (start rom fits) last) where
+module _ (rom : List ℕ) (fits : lengthOf rom ≤ romMost) {last : Board} (passed : Chain rom (start rom fits) last) where
   module _ {s : Setting} {d n c : ℕ} {t : Token} (b : Body rom s d t n c) where
     j : Inside rom fits passed d s (t .next)
     j = inside rom fits passed (Holds.body (b .met .reach) (b .met .is) (b .colon) (b .reads))
@@ -93,7 +94,7 @@ module _ (rom : List ℕ) (fits : lengthOf rom ≤ 16384) {last : Board} (passed
           g .token,
           met-there rom fits passed j a,
           rw sum-of (peak-worth rom fits passed (at-met rom fits passed j a) (token-there rom fits passed j a)
-              ∙ ap (λ v. peakAt (j .board .sums) v (getD (jy .path .seen) (g .place) 0) + jy .tally .need - 64) (same-there rom fits passed j a) ∙ ap (λ v. v + jy .tally .need - 64) (g .is)),
+              ∙ ap (λ v. peakAt (j .board .sums) v (getD (jy .path .seen) (g .place) 0) + jy .tally .need - entered) (same-there rom fits passed j a) ∙ ap (λ v. v + jy .tally .need - entered) (g .is)),
         )
 
     pub got-back : sumLeft last n .«return_peak» ≢ 0
@@ -137,17 +138,22 @@ module _ (rom : List ℕ) (fits : lengthOf rom ≤ 16384) {last : Board} (passed
         ec : Cells rom fits passed (at-entry rom fits passed j)
         ec = body-cells rom fits passed (at-entry rom fits passed j)
 
-        first : cellWith 64 0 ≡ cellWith (ec .height) (ec .back)
+        first : entryCell ≡ cellWith (heights (ec .height) (ec .back))
         first = ec .is
 
-        cap : ec .height ≤ 128
+        cap : ec .height ≤ bodyMost
         cap = ec .high
 
-        low : ec .height + jy .tally .need ≤ 128
+        low : ec .height + jy .tally .need ≤ bodyMost
         low = ec .low
 
-        final : getD (last .seen) (j .ran .token .next) 0 ≡ cellWith (ec .height + jy .tally .need - 64) (ec .back)
+        final : getD (last .seen) (j .ran .token .next) 0 ≡ cellWith (heights (ec .height + jy .tally .need - entered) (ec .back))
         final = ec .final
 
-        entry-cell : getD (last .seen) (j .ran .token .next) 0 ≡ cellWith (jy .tally .need) 0
-        entry-cell = final ∙ omega (arith, first, cap)
+        entry-cell : getD (last .seen) (j .ran .token .next) 0 ≡ cellWith (heights (jy .tally .need) 0)
+        entry-cell =
+            let e = same-heights _ _ (omega arith) (omega (arith, cap)) first in
+            let h = ap (λ (v : Heights). v .height) e in
+            let k = ap (λ (v : Heights). v .back) e in
+            let i : ec .height + jy .tally .need - entered ≡ jy .tally .need = omega (arith, h) in
+            final ∙ rw (i, ← k)

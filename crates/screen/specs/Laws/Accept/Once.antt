@@ -8,6 +8,7 @@ use mathlib.Core.Logic.{_≢_}
 use lib.Dec.{T, leb, leb→le}
 use Rattle.cells.specs.Laws.Facts.{both-hold}
 use Rattle.rom.specs.Header.{lengthOf}
+use Rattle.rom.specs.Sizes.{romMost}
 use Rattle.tokens.specs.Family.{define}
 use Rattle.tokens.specs.Body.{kindOf}
 use Rattle.tokens.specs.Definition.{newNumber, kindIn}
@@ -24,7 +25,7 @@ use Rattle.screen.specs.Laws.Accept.Cover.{start, ready}
 use Rattle.screen.specs.Laws.Accept.Outside.{out-of, at-far, passing}
 use Rattle.screen.specs.Laws.Accept.Heights.{sumLeft}
 
-module _ (rom : List ℕ) (fits : lengthOf rom ≤ 16384) {last : Board} (passed : Chain rom (start rom fits) last) where
+module _ (rom : List ℕ) (fits : lengthOf rom ≤ romMost) {last : Board} (passed : Chain rom (start rom fits) last) where
   kind-some : {s : Setting} {p : ℕ} {t : Token} → Met rom 0 s p t → T (isA define t) → kindIn (t .operand) ≢ 0
   kind-some {s} {p} {t} m d z =
       let h = heads rom (lengthOf rom) (s .wide) false p t (m .is) d .1 in

@@ -9,6 +9,7 @@ use Rattle.cells.specs.Laws.Facts.{fails, either}
 use Rattle.rom.specs.Header.{lengthOf}
 use Rattle.tokens.specs.Family.{always, choice, leave, finish}
 use Rattle.rom.specs.declared.branch.Aim.the-variants.{Inside as Lands, Outside}
+use Rattle.rom.specs.Sizes.{romMost}
 use Rattle.tokens.specs.declared.decoding.Operand.{Operand}
 use Rattle.tokens.specs.declared.decoding.Operand.the-variants.{Nothing, Literal, Text, Branch, Number, Definition}
 use Rattle.tokens.specs.declared.decoding.Token.{Token}
@@ -55,7 +56,7 @@ aim-leads t q b i = by (ways-of t)
     by (Ways.fixing f c l) = absurd (T-not (isBranch t) (fixes-no-branch t f) b)
     by (Ways.falling e f l) = absurd (T-not (isBranch t) f b)
 
-module _ (rom : List ℕ) (fits : lengthOf rom ≤ 16384) {last : Board} (passed : Chain rom (start rom fits) last) where
+module _ (rom : List ℕ) (fits : lengthOf rom ≤ romMost) {last : Board} (passed : Chain rom (start rom fits) last) where
   pub below : {b c d : Board} → Follows rom fits b → Next rom b d → Steps rom fits d c → farOf rom b < c .stand .start
   below h n s =
       let z = advanced rom fits (ready rom fits h) n in

@@ -8,6 +8,7 @@ use lib.Dec.{T, eqb}
 use lib.ListN.{getD}
 use Rattle.cells.specs.Laws.Facts.{holds, fails, or-second}
 use Rattle.rom.specs.Header.{lengthOf}
+use Rattle.rom.specs.Sizes.{romMost, dataMost}
 use Rattle.tokens.specs.Family.{call, always, choice, leave, finish}
 use Rattle.tokens.specs.Definition.{takesHere}
 use Rattle.tokens.specs.declared.decoding.Token.{Token}
@@ -16,8 +17,8 @@ use Rattle.screen.specs.Effect.{isA, allowed, fixes, leadsOf, effectOf}
 use Rattle.screen.specs.Reach.{In, Setting, setting, after, tokenAt, Claim, Holds, Met}
 use Rattle.screen.specs.Laws.Rules.Tokens.{fixes-is, stops-quiet}
 use Rattle.screen.specs.Laws.Rules.Ways.{effect-own}
-use Rattle.screen.specs.Laws.Walk.Visits.{Meets, Fits, visit-fits, visited, height-in, back-in}
-use Rattle.screen.specs.Laws.Found.Model.{Board, cellWith, heightIn, backIn, heightAfter, backAfter, visitOf, sumAt, outsideText}
+use Rattle.screen.specs.Laws.Walk.Visits.{Meets, Fits, visit-fits, visited}
+use Rattle.screen.specs.Laws.Found.Model.{Board, visitOf, sumAt, outsideText, heightsAfter}
 use Rattle.screen.specs.Laws.Walk.Walking.{At}
 use Rattle.screen.specs.Laws.Walk.Advancing.{settingOf}
 use Rattle.screen.specs.Laws.Walk.Rounds.{ran, farOf, Next, Chain}
@@ -27,8 +28,9 @@ use Rattle.screen.specs.Laws.Accept.Roots.{known-real, start-only}
 use Rattle.screen.specs.Laws.Accept.Cover.{start, ready, rooted, round-end, leads-itself, leads-way}
 use Rattle.screen.specs.Laws.Accept.Spots.{Bound, at-bound, chain-ran, behind, Out, outside, out-cell, effect-kept, inside}
 use Rattle.screen.specs.Laws.Accept.Heights.{heightLeft, backLeft, sumLeft, Spot}
+use Rattle.screen.specs.Laws.Found.Cell.{height-in, back-in, cellWith, heightIn, backIn, heights, height-low}
 
-module _ (rom : List ℕ) (fits : lengthOf rom ≤ 16384) {last : Board} (passed : Chain rom (start rom fits) last) where
+module _ (rom : List ℕ) (fits : lengthOf rom ≤ romMost) {last : Board} (passed : Chain rom (start rom fits) last) where
   module _ {s : Setting} {p : ℕ} {t : Token} (m : Met rom 0 s p t) where
     pub out-of : Out rom fits passed s p
     out-of = outside rom fits passed (m .reach)
@@ -47,7 +49,7 @@ module _ (rom : List ℕ) (fits : lengthOf rom ≤ 16384) {last : Board} (passed
     out-effect : effectOf (sumAt (out-of .board .sums)) t ≡ effectOf (sumLeft last) t
     out-effect = effect-kept rom fits passed (out-of .follows) (out-of .chain) t (out-meets .named)
 
-    pub out-bound : Bound 64 (out-of .cell)
+    pub out-bound : Bound dataMost (out-of .cell)
     out-bound =
         let f = ready rom fits (out-of .follows) .fair in
         at-bound (record { height = f .height; back = f .back; is = f .is; low = f .low; few = f .few }) (out-of .at)
@@ -55,15 +57,12 @@ module _ (rom : List ℕ) (fits : lengthOf rom ≤ 16384) {last : Board} (passed
     height-out : heightLeft last 0 p ≡ out-bound .height
     height-out = ap heightIn (out-cell rom fits passed out-of ∙ out-bound .is) ∙ height-in (out-bound .height) (out-bound .back) (let l = out-bound .low in omega arith)
 
-    back-out : backLeft last 0 p ≡ out-bound .back
-    back-out = ap backIn (out-cell rom fits passed out-of ∙ out-bound .is) ∙ back-in (out-bound .height) (out-bound .back) (let l = out-bound .low in omega arith)
-
     pub cell-out : getD (last .seen) p 0 ≡ out-of .cell
     cell-out = out-cell rom fits passed out-of
 
     -- a token that ends no round
     same-round : T (not (fixes t)) → (q : ℕ) → In q (leadsOf t)
-        → getD (last .seen) q 0 ≡ cellWith (heightAfter (effectOf (sumAt (out-of .board .sums)) t) (out-of .cell)) (backAfter (effectOf (sumAt (out-of .board .sums)) t) (out-of .cell))
+        → getD (last .seen) q 0 ≡ cellWith (heightsAfter (effectOf (sumAt (out-of .board .sums)) t) (out-of .cell))
     same-round n q i = out-cell rom fits passed next-out ∙ ap (λ v. v .cell) (visited out-meets)
       where
         same : out-fits .token ≡ t
@@ -118,9 +117,9 @@ module _ (rom : List ℕ) (fits : lengthOf rom ≤ 16384) {last : Board} (passed
             (subst (λ v. Holds rom (Claim.leads (out-of .board .stand .wide) p v q)) (u .1)
             (subst (λ v. Holds rom (Claim.leads (v .wide) p t q)) (out-of .setting) l))
 
-    next-cell : (f : T (fixes t)) → getD (last .seen) (passing f .after .stand .start) 0 ≡ cellWith (heightIn (out-of .cell) - takesHere t) (backIn (out-of .cell))
+    next-cell : (f : T (fixes t)) → getD (last .seen) (passing f .after .stand .start) 0 ≡ cellWith (heights (heightIn (out-of .cell) - takesHere t) (backIn (out-of .cell)))
     next-cell f =
-        out-cell rom fits passed first-out ∙ passing f .does .cell ∙ ap (λ c. cellWith (heightIn c - takesHere t) (backIn c)) here-cell
+        out-cell rom fits passed first-out ∙ passing f .does .cell ∙ ap (λ c. cellWith (heights (heightIn c - takesHere t) (backIn c))) here-cell
       where
         first-out : Out rom fits passed (settingOf (passing f .after .stand)) (passing f .after .stand .start)
         first-out =
@@ -154,10 +153,12 @@ module _ (rom : List ℕ) (fits : lengthOf rom ≤ 16384) {last : Board} (passed
             rw (c, cell-out, ← out-effect) (height-in _ _ (let h = out-meets .high in omega arith), back-in _ _ (let h = out-meets .high in omega arith))
         by true e =
             let f = holds (fixes t) e in
-            let c : getD (last .seen) q 0 ≡ cellWith (heightIn (out-of .cell) - takesHere t) (backIn (out-of .cell)) = ap (λ k. getD (last .seen) k 0) (only-start f q l) ∙ next-cell f in
+            let c : getD (last .seen) q 0 ≡ cellWith (heights (heightIn (out-of .cell) - takesHere t) (backIn (out-of .cell))) = ap (λ k. getD (last .seen) k 0) (only-start f q l) ∙ next-cell f in
             let g = stops-quiet rom (lengthOf rom) (s .wide) false p t (m .is) (or-second (isA finish t || isA leave t || isA always t || isA choice t) (fixes t) f) in
-            rw (c, cell-out, effect-own (sumLeft last) t (not-call f))
-            (height-in _ _ (omega arith) ∙ omega (arith, g .0), back-in _ _ (omega arith) ∙ omega (arith, g .1, g .2))
+            rw (c, cell-out, effect-own (sumLeft last) t (not-call f)) (
+              height-in _ _ (omega (arith, height-low (out-of .cell))) ∙ omega (arith, g .0),
+              back-in _ _ (omega (arith, height-low (out-of .cell))) ∙ omega (arith, g .1, g .2),
+            )
 
     pub out-spot : Spot rom last 0 s p t
     out-spot =

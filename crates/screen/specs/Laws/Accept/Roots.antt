@@ -9,6 +9,7 @@ use mathlib.Core.Logic.{_⊎_, inl, inr, _≢_}
 use lib.Dec.{T, T-not}
 use Rattle.cells.specs.Laws.Facts.{holds, fails}
 use Rattle.rom.specs.Header.{lengthOf}
+use Rattle.rom.specs.Sizes.{romMost}
 use Rattle.tokens.specs.Family.{define, assign, call}
 use Rattle.tokens.specs.Body.{kindOf, numberIn, unknownOf}
 use Rattle.tokens.specs.Laws.Tokens.{next-ahead}
@@ -20,13 +21,14 @@ use Rattle.screen.specs.Laws.Rules.Reach.{LeadsBy, leads-by, ExtendsBy, 
 use Rattle.screen.specs.Laws.Rules.Tokens.{none-in, fixes-no-name, after-same}
 use Rattle.screen.specs.Laws.Rules.Ways.{fixes-leads, fixes-on, colon-leads, unknown-call, unknown-assign}
 use Rattle.screen.specs.Laws.Walk.Visits.{WayIn, Fits, visit-fits, way-in, fixes-next, fixes-aim}
-use Rattle.screen.specs.Laws.Found.Model.{Board, cellWith, visitOf, outsideText, bodyText}
+use Rattle.screen.specs.Laws.Found.Model.{Board, visitOf, outsideText, bodyText}
 use Rattle.screen.specs.Laws.Walk.Walking.{Way, At}
 use Rattle.screen.specs.Laws.Walk.Advancing.{settingOf}
 use Rattle.screen.specs.Laws.Walk.Rounds.{farOf, left, OutAt, Ran, on}
 use Rattle.screen.specs.Laws.Walk.Boards.{BodyRan, Advanced}
 use Rattle.screen.specs.Laws.Walk.Chains.{climbs}
 use Rattle.screen.specs.declared.walking.Text.{Text as Scope}
+use Rattle.screen.specs.Laws.Found.Cell.{entryCell}
 
 -- ---- a successor of a walk is one of its token
 -- a token whose successor a walk goes on to ends no round, and leads there
@@ -47,7 +49,7 @@ way-leads {rom} {x} {kinds} {sums} {p} {c} {q} f w = by (fixes t) refl w
     by false e (Way.by-next n z) = record { free = fails (fixes (f .token)) e; leads = way-in (f .token) (f .meets .aimed) q (WayIn.by-next (sym (f .next) ∙ n)) z }
     by false e (Way.by-aim n z) = record { free = fails (fixes (f .token)) e; leads = way-in (f .token) (f .meets .aimed) q (WayIn.by-aim (sym (f .aim) ∙ n)) z }
 
-module _ (rom : List ℕ) (fits : lengthOf rom ≤ 16384) where
+module _ (rom : List ℕ) (fits : lengthOf rom ≤ romMost) where
   -- a number that a board holds, with the reachable token that defined it
   pub record Real (b : Board) (n : ℕ) : Type 0 where
     pub setting : Setting
@@ -109,7 +111,7 @@ module _ (rom : List ℕ) (fits : lengthOf rom ≤ 16384) where
       pub body-reads : Holds rom (Claim.reads (b .stand .wide) (r .token .next) (y .marks .end))
       body-reads = y .marked .reads (λ p t e u. let h = climbs rom fits r in known-real o p t (omega arith) u)
 
-      pub body-reach : {p d : ℕ} → At rom (bodyText (lengthOf rom) (b .stand .wide) (r .token .next)) (b .kinds) (b .sums) (r .token .next) (cellWith 64 0) p d
+      pub body-reach : {p d : ℕ} → At rom (bodyText (lengthOf rom) (b .stand .wide) (r .token .next)) (b .kinds) (b .sums) (r .token .next) entryCell p d
           → Reach rom (suc (farOf rom b)) (settingOf (b .stand)) p
       body-reach At.begins = Holds.body (far-met .reach) (far-met .is) c body-reads
       body-reach (At.on {p} {c = d} {q} i g w) =

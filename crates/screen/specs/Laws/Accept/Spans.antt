@@ -10,6 +10,7 @@ use lib.Dec.{T, T-not}
 use lib.ListN.{getD}
 use Rattle.cells.specs.Laws.Facts.{holds, fails, never-true}
 use Rattle.rom.specs.Header.{lengthOf}
+use Rattle.rom.specs.Sizes.{romMost}
 use Rattle.tokens.specs.Laws.Tokens.{next-ahead}
 use Rattle.tokens.specs.declared.decoding.Token.{Token}
 use Rattle.tokens.specs.declared.read.Read.the-variants.{Good}
@@ -18,7 +19,7 @@ use Rattle.screen.specs.Reach.{In, Setting, setting, after, tokenAt, Cla
 use Rattle.screen.specs.Laws.Rules.Reach.{ExtendsBy, extends-by}
 use Rattle.screen.specs.Laws.Rules.Tokens.{fixes-no-branch}
 use Rattle.screen.specs.Laws.Rules.Ways.{colon-fixes}
-use Rattle.screen.specs.Laws.Found.Model.{Board, endIn, unmet}
+use Rattle.screen.specs.Laws.Found.Model.{Board, endIn}
 use Rattle.screen.specs.Laws.Walk.Rounds.{ran, farOf, OutAt, Ran, Next, Chain}
 use Rattle.screen.specs.Laws.Walk.Boards.{advanced}
 use Rattle.screen.specs.Laws.Walk.Chains.{Steps, climbs, one-token, next-one, steps-kept, Order, order}
@@ -28,8 +29,9 @@ use Rattle.screen.specs.Laws.Accept.Spots.{Inside, bodyOf, body-on, insi
 use Rattle.screen.specs.Laws.Accept.Cells.{body-start}
 use Rattle.screen.specs.Laws.Accept.Outside.{out-of, out-is, at-far, passing, only-start}
 use Rattle.screen.specs.Laws.Accept.Order.{below, aim-leads}
+use Rattle.screen.specs.Laws.Found.Cell.{unmet}
 
-module _ (rom : List ℕ) (fits : lengthOf rom ≤ 16384) {last : Board} (passed : Chain rom (start rom fits) last) where
+module _ (rom : List ℕ) (fits : lengthOf rom ≤ romMost) {last : Board} (passed : Chain rom (start rom fits) last) where
   -- how far a token reaches that ends a round
   reaches : {p e : ℕ} {s : Setting} {t : Token} (m : Met rom 0 s p t) (f : T (fixes t)) → Holds rom (Claim.extends (s .wide) t e) → e ≡ passing rom fits passed m f .after .stand .start
   reaches {p} {e} {s} {t} m f h = by (extends-by h)

@@ -8,6 +8,7 @@ use lib.Dec.{T, T-not}
 use lib.ListN.{getD}
 use Rattle.cells.specs.Laws.Facts.{holds, fails}
 use Rattle.rom.specs.Header.{lengthOf}
+use Rattle.rom.specs.Sizes.{romMost, returnMost}
 use Rattle.tokens.specs.Family.{call}
 use Rattle.tokens.specs.Body.{unknownOf}
 use Rattle.tokens.specs.declared.decoding.Token.{Token}
@@ -17,7 +18,7 @@ use Rattle.screen.specs.Reach.{In, Setting, after, tokenAt, Claim, Holds
 use Rattle.screen.specs.Laws.Rules.Tokens.{after-same, fixes-outside}
 use Rattle.screen.specs.Laws.Rules.Ways.{effect-call, effect-own, unknown-call, colon-fixes}
 use Rattle.screen.specs.Laws.Walk.Visits.{Fits, visit-fits}
-use Rattle.screen.specs.Laws.Found.Model.{Board, cellWith, capOf, sumAt, visitOf, bodyText}
+use Rattle.screen.specs.Laws.Found.Model.{Board, capOf, sumAt, visitOf, bodyText}
 use Rattle.screen.specs.Laws.Walk.Walking.{At}
 use Rattle.screen.specs.Laws.Walk.Advancing.{settingOf}
 use Rattle.screen.specs.Laws.Walk.Rounds.{ran, farOf, left, OutAt, Ready, Ran, Next, on, Chain, ends, goes}
@@ -25,14 +26,15 @@ use Rattle.screen.specs.Laws.Walk.Boards.{BodyRan, Advanced, advanced}
 use Rattle.screen.specs.Laws.Walk.Chains.{Steps, here, via, then, chain-kept, chain-seen, chain-steps, one-token}
 use Rattle.screen.specs.Laws.Accept.Cover.{start, Follows, ready, Before, round-on, round-end, leads-way, leads-itself, cover}
 use Rattle.screen.specs.declared.walking.Text.{Text as Scope}
+use Rattle.screen.specs.Laws.Found.Cell.{cellWith, heights, entryCell}
 
 -- a cell's heights, within a cap
 pub record Bound (cap c : ℕ) : Type 0 where
   pub height : ℕ
   pub back : ℕ
-  pub is : c ≡ cellWith height back
+  pub is : c ≡ cellWith (heights height back)
   pub low : height ≤ cap
-  pub few : back ≤ 32
+  pub few : back ≤ returnMost
 
 -- every cell of a walk is within the cap that its first cell is within
 pub at-bound : {rom : List ℕ} {x : Scope} {kinds sums : List ℕ} {q d : ℕ} → Bound (capOf (x .within)) d → {p c : ℕ} → At rom x kinds sums q d p c → Bound (capOf (x .within)) c
@@ -41,7 +43,7 @@ at-bound {rom} {x} {kinds} {sums} b (At.on {p} {c} {q} a g w) =
     let f = visit-fits rom x kinds sums p c g in
     record { height = _; back = _; is = f .cell; low = f .meets .high; few = f .meets .returnHigh }
 
-module _ (rom : List ℕ) (fits : lengthOf rom ≤ 16384) where
+module _ (rom : List ℕ) (fits : lengthOf rom ≤ romMost) where
   -- the last round of a chain
   pub record Last (b f : Board) : Type 0 where
     pub board : Board
@@ -69,7 +71,7 @@ module _ (rom : List ℕ) (fits : lengthOf rom ≤ 16384) where
   chain-ran y (ends r n) = r
   chain-ran y (goes n c) = advanced rom fits y n .0
 
-module _ (rom : List ℕ) (fits : lengthOf rom ≤ 16384) {last : Board} (passed : Chain rom (start rom fits) last) where
+module _ (rom : List ℕ) (fits : lengthOf rom ≤ romMost) {last : Board} (passed : Chain rom (start rom fits) last) where
   -- ---- outside bodies
   -- a reachable token's round
   pub record Out (s : Setting) (p : ℕ) : Type 0 where
@@ -153,14 +155,14 @@ module _ (rom : List ℕ) (fits : lengthOf rom ≤ 16384) {last : Board} (passed
     pub colon : T (isColon (ran .token))
     pub setting : s ≡ settingOf (board .stand)
     pub cell : ℕ
-    pub at : At rom (bodyText (lengthOf rom) (board .stand .wide) (ran .token .next)) (board .kinds) (board .sums) (ran .token .next) (cellWith 64 0) p cell
+    pub at : At rom (bodyText (lengthOf rom) (board .stand .wide) (ran .token .next)) (board .kinds) (board .sums) (ran .token .next) entryCell p cell
 
   abbrev pub bodyOf : {d p : ℕ} {s : Setting} → (i : Inside d s p) → BodyRan rom (left rom (i .board)) (i .ran .token) (i .board .stand .wide) (i .then)
   bodyOf i = i .does .body (i .colon)
 
   -- another place of the same body
   abbrev pub inside-at : {d p : ℕ} {s : Setting} → (i : Inside d s p) → (q cell : ℕ)
-      → At rom (bodyText (lengthOf rom) (i .board .stand .wide) (i .ran .token .next)) (i .board .kinds) (i .board .sums) (i .ran .token .next) (cellWith 64 0) q cell
+      → At rom (bodyText (lengthOf rom) (i .board .stand .wide) (i .ran .token .next)) (i .board .kinds) (i .board .sums) (i .ran .token .next) entryCell q cell
       → Inside d s q
   inside-at i q cell at =
       record {
@@ -180,8 +182,8 @@ module _ (rom : List ℕ) (fits : lengthOf rom ≤ 16384) {last : Board} (passed
       }
 
   -- at the b(:) itself
-  entered : {s : Setting} {d : ℕ} {t : Token} → Met rom 0 s d t → T (isColon t) → Inside d s (t .next)
-  entered {s} {d} {t} m c =
+  at-colon : {s : Setting} {d : ℕ} {t : Token} → Met rom 0 s d t → T (isColon t) → Inside d s (t .next)
+  at-colon {s} {d} {t} m c =
       let o = outside (m .reach) in
       let is = subst (λ v. tokenAt rom 0 (v .wide) d ≡ Good t) (o .setting) (m .is) in
       let u = round-end rom fits (o .ran) (o .at) is (colon-fixes t c) in
@@ -199,8 +201,8 @@ module _ (rom : List ℕ) (fits : lengthOf rom ≤ 16384) {last : Board} (passed
         place = u .0;
         colon = subst (λ v. T (isColon v)) (u .1 ∙ one-token rom fits (o .ran) (z .0)) c;
         setting = o .setting;
-        cell = cellWith 64 0;
-        at = subst (λ q. At rom (bodyText (lengthOf rom) (o .board .stand .wide) (z .0 .token .next)) (o .board .kinds) (o .board .sums) (z .0 .token .next) (cellWith 64 0) q (cellWith 64 0)) (ap (λ (v : Token). v .next) (sym (u .1 ∙ one-token rom fits (o .ran) (z .0)))) At.begins;
+        cell = entryCell;
+        at = subst (λ q. At rom (bodyText (lengthOf rom) (o .board .stand .wide) (z .0 .token .next)) (o .board .kinds) (o .board .sums) (z .0 .token .next) entryCell q entryCell) (ap (λ (v : Token). v .next) (sym (u .1 ∙ one-token rom fits (o .ran) (z .0)))) At.begins;
       }
 
   -- a token of a body goes on in it
@@ -225,7 +227,7 @@ module _ (rom : List ℕ) (fits : lengthOf rom ≤ 16384) {last : Board} (passed
         (leads-way body-fits (subst (λ v. T (not (fixes v))) (sym (body-token e)) (body-free e)) (subst (λ v. In q (leadsOf v)) (sym (body-token e)) l)))
 
   pub inside : {d p : ℕ} {s : Setting} → Reach rom (suc d) s p → Inside d s p
-  inside (Holds.body r e c l) = entered (record { reach = r; is = e }) c
+  inside (Holds.body r e c l) = at-colon (record { reach = r; is = e }) c
   inside {d = d} (Holds.next {s = s} {p} {q} {t} r e l) =
       let i = inside r in
       let n = body-free i e in

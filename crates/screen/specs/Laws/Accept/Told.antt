@@ -9,6 +9,7 @@ use lib.Dec.{T, eqb, eqb→eq}
 use lib.ListN.{getD}
 use Rattle.cells.specs.Laws.Facts.{both-hold}
 use Rattle.rom.specs.Header.{lengthOf}
+use Rattle.rom.specs.Sizes.{romMost}
 use Rattle.tokens.specs.Family.{define}
 use Rattle.tokens.specs.Place.{readOf}
 use Rattle.tokens.specs.Body.{kindOf}
@@ -20,7 +21,7 @@ use Rattle.screen.specs.Reach.{Setting, setting, tokenAt, Met, Body}
 use Rattle.screen.specs.Laws.Rules.Tokens.{fixed-wide}
 use Rattle.screen.specs.Laws.Rules.Ways.{colon-defines, colon-fixes}
 use Rattle.screen.specs.Laws.Walk.Visits.{visited}
-use Rattle.screen.specs.Laws.Found.Model.{Board, cellWith, heightIn, backIn, sumTold}
+use Rattle.screen.specs.Laws.Found.Model.{Board, sumTold}
 use Rattle.screen.specs.Laws.Walk.Walking.{At}
 use Rattle.screen.specs.Laws.Walk.Tallying.{Among, needAt, peakAt, backAt as returnAt, framesAt}
 use Rattle.screen.specs.Laws.Walk.Rounds.{ran, Chain}
@@ -30,8 +31,9 @@ use Rattle.screen.specs.Laws.Accept.Spots.{Inside, bodyOf, body-fits, bo
 use Rattle.screen.specs.Laws.Accept.Cells.{among, at-entry, at-met, inside-reach}
 use Rattle.screen.specs.Laws.Accept.Bodies.{in-cells, in-effect, height-inside, back-inside, cell-back, cell-height}
 use Rattle.screen.specs.Laws.Accept.Heights.{heightLeft, backLeft, sumLeft}
+use Rattle.screen.specs.Laws.Found.Cell.{heightIn, backIn, entryCell, height-in, entered}
 
-module _ (rom : List ℕ) (fits : lengthOf rom ≤ 16384) {last : Board} (passed : Chain rom (start rom fits) last) where
+module _ (rom : List ℕ) (fits : lengthOf rom ≤ romMost) {last : Board} (passed : Chain rom (start rom fits) last) where
   module _ {d p : ℕ} {s : Setting} (i : Inside rom fits passed d s p) where
     pub sum-is : sumLeft last (newNumber (i .ran .token .operand)) ≡ sumTold (bodyOf rom fits passed i .tally)
     sum-is = chain-kept rom fits (i .does .ready) (i .rest) .sums (newNumber (i .ran .token .operand)) held ∙ bodyOf rom fits passed i .sum
@@ -57,12 +59,12 @@ module _ (rom : List ℕ) (fits : lengthOf rom ≤ 16384) {last : Board} (passed
     body-number b = sym (b .number) ∙ ap (λ (v : Token). newNumber (v .operand)) (same-colon (b .met) (b .colon))
 
     -- it rises to its entry at least
-    pub rises : 64 ≤ bodyOf rom fits passed i .tally .peak
+    pub rises : entered ≤ bodyOf rom fits passed i .tally .peak
     rises =
         let a = among rom fits passed (at-entry rom fits passed i) in
-        let m : getD (bodyOf rom fits passed i .path .seen) (i .ran .token .next) 0 ≡ cellWith 64 0 = bodyOf rom fits passed i .walked .marked At.begins in
+        let m : getD (bodyOf rom fits passed i .path .seen) (i .ran .token .next) 0 ≡ entryCell = bodyOf rom fits passed i .walked .marked At.begins in
         let q = bodyOf rom fits passed i .told .peak .all a in
-        omega (arith, q, ap heightIn m)
+        omega (arith, q, ap heightIn m ∙ height-in entered 0 (omega arith))
 
     module _ {t : Token} (e : tokenAt rom (suc d) (s .wide) p ≡ Good t) where
       pub cell-there : heightIn (getD (bodyOf rom fits passed i .path .seen) p 0) ≡ in-cells rom fits passed i e .height
@@ -77,7 +79,7 @@ module _ (rom : List ℕ) (fits : lengthOf rom ≤ 16384) {last : Board} (passed
       need-worth = rw (height-inside rom fits passed i e, ← in-effect rom fits passed i e, cell-there) (let n = in-cells rom fits passed i e .enough in omega arith)
 
       pub peak-worth : max (heightLeft last (suc d) p) (heightLeft last (suc d) p - effectOf (sumLeft last) t .takes + effectOf (sumLeft last) t .rise)
-          ≡ peakAt (i .board .sums) (body-fits rom fits passed i .token) (getD (bodyOf rom fits passed i .path .seen) p 0) + bodyOf rom fits passed i .tally .need - 64
+          ≡ peakAt (i .board .sums) (body-fits rom fits passed i .token) (getD (bodyOf rom fits passed i .path .seen) p 0) + bodyOf rom fits passed i .tally .need - entered
       peak-worth = rw (height-inside rom fits passed i e, ← in-effect rom fits passed i e, cell-there) (let n = in-cells rom fits passed i e .enough in let k = in-cells rom fits passed i e .takes in omega arith)
 
       pub back-worth : backLeft last (suc d) p + effectOf (sumLeft last) t .«return_rise»

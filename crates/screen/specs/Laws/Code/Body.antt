@@ -34,13 +34,14 @@ use Rattle.screen.specs.Laws.Rules.Ways.{unnamed-known}
 use Rattle.screen.specs.Laws.Code.Codes.{SmallEffect}
 use Rattle.screen.specs.Laws.Code.Visit.{tallyIn, VisitShown, shown, same-family, called-number, assigned-number, astray-aim, families-fit}
 use Rattle.screen.specs.Laws.Code.Walk.{WalkIs}
-use Rattle.screen.specs.Laws.Found.Model.{unmet, entered, cellWith, heightIn, Path, walkAll, Marked, marked, startIn, startsOf, Tally, noTally}
-use Rattle.screen.specs.Laws.Found.Model.{tallied, isMet, sumTold, passesOf, shiftedCell, shiftOf, Board, board, RoundEnd, roundEnd, bodyText, entryOf, places}
+use Rattle.screen.specs.Laws.Found.Model.{Path, walkAll, Marked, marked, startIn, startsOf, Tally, noTally}
+use Rattle.screen.specs.Laws.Found.Model.{tallied, sumTold, passesOf, shiftedCell, shiftOf, Board, board, RoundEnd, roundEnd, bodyText, entryOf, places}
 use Rattle.screen.specs.Laws.Found.Model.{bodyWalked, bodyShifted, onSeen, colonOf}
 use Rattle.screen.specs.declared.effect.Effect.{Effect}
 use Rattle.screen.specs.declared.walking.Walk.{Walk as Walked}
 use Rattle.screen.specs.declared.body.Survey.{Survey}
 use Rattle.screen.specs.declared.rounds.Stand.{Stand}
+use Rattle.screen.specs.Laws.Found.Cell.{unmet, heightIn, isMet, entryCell, height-low, bodyMost}
 
 -- no cell is above a bound
 pub record Bounded (b : ℕ) (seen : List ℕ) : Type 0 where
@@ -186,7 +187,7 @@ module _ (rom : List ℕ) (length : ℕ) (wide : Bool) (kinds : List ℕ) where
       pub enough : length ≤ p + turns
       pub same : startsOf rom length wide kinds turns p seen ≡ startsOf rom length wide kinds romMost entry seen₀
 
-    pub marking-first : length ≤ 16384 → Marking entry seen₀
+    pub marking-first : length ≤ romMost → Marking entry seen₀
     marking-first l = record { turns = romMost; enough = omega arith; same = refl }
 
     module _ (p : ℕ) (seen : List ℕ) (k : Marking p seen) where
@@ -257,10 +258,11 @@ low-none = record { need = omega arith; peak = omega arith; out = omega arith }
 pub low-tallied : (a : Tally) (t : Token) (e : Effect) (cell : ℕ) → SmallEffect e → Low a → Low (tallied a t e cell)
 unfolding tallied
 low-tallied a t e cell s l =
+    let h = height-low cell in
     record {
       need = omega arith;
       peak = omega arith;
-      out = pick-is (λ n. n < 1024) (isA leave t) (suc (heightIn cell)) (a .out) (λ h. omega arith) (λ h. l .out);
+      out = pick-is (λ n. n < 1024) (isA leave t) (suc (heightIn cell)) (a .out) (λ i. omega arith) (λ i. l .out);
     }
 
 -- ---- the shift
@@ -322,14 +324,14 @@ pub record SurveyIs (rom : List ℕ) (length : ℕ) (kinds sums seen : List ℕ)
       (suc (r .end)))
   pub inside : r .good ≡ true → r .end < length
   pub low : r .good ≡ true → Low (tallyIn (r .tally))
-  pub fits : r .good ≡ true → r .tally .need ≤ 128
+  pub fits : r .good ≡ true → r .tally .need ≤ bodyMost
   pub bounded : r .good ≡ true → (b : ℕ) → 65536 ≤ b → Bounded b seen → Bounded b seen′
 
-passes-need : (y : Tally) → passesOf y ≡ true → y .need ≤ 128
+passes-need : (y : Tally) → passesOf y ≡ true → y .need ≤ bodyMost
 unfolding passesOf
 passes-need y p =
-    let k = both-hold (y .good && not (eqb (y .out) 0)) (leb (y .peak + y .need) 128) (holds (passesOf y) p) .1 in
-    let l = leb→le (y .peak + y .need) 128 k in
+    let k = both-hold (y .good && not (eqb (y .out) 0)) (leb (y .peak + y .need) bodyMost) (holds (passesOf y) p) .1 in
+    let l = leb→le (y .peak + y .need) bodyMost k in
     omega arith
 
 module _ (rom : List ℕ) (length : ℕ) (seen kinds sums : List ℕ) (s : Stand) (entry : ℕ) where
@@ -363,7 +365,7 @@ module _ (rom : List ℕ) (length : ℕ) (seen kinds sums : List ℕ) (s : Stand
     module _ (good : Bool) (end : ℕ) (seen₁ : List ℕ) (h : marked good end seen₁ ≡ startsOf rom length (s .wide) kinds romMost entry seen)
         (g : good ≡ true) where
       abbrev way : Path
-      way = walkAll rom (bodyText length (s .wide) entry) kinds sums seen₁ entry (cellWith entered 0)
+      way = walkAll rom (bodyText length (s .wide) entry) kinds sums seen₁ entry entryCell
 
       colon-walked : colonOf rom length b s n entry ≡ walked end way
       unfolding begun-at bodyWalked
@@ -407,7 +409,7 @@ module _ (rom : List ℕ) (length : ℕ) (seen kinds sums : List ℕ) (s : Stand
       survey-unmarked g e = survey-fails e (λ st n. colon-unmarked st n good end seen₁ h g)
 
       module _ (g : good ≡ true) (w : Walked)
-          (k : WalkIs rom (bodyText length (s .wide) entry) kinds sums seen₁ entry (cellWith entered 0) w seen′) where
+          (k : WalkIs rom (bodyText length (s .wide) entry) kinds sums seen₁ entry entryCell w seen′) where
         pub survey-lost : w .good ≡ false → r .good ≡ false → SurveyIs rom length kinds sums seen s entry r seen′
         survey-lost l f = survey-fails f (λ st n. colon-lost st n good end seen₁ h g (sym (k .good) ∙ l))
 

@@ -5,6 +5,7 @@ use mathlib.Core.Bool.{Bool, true, false, _&&_}
 use mathlib.Core.List.{List}
 use native.Mathlib.Omega.{arith}
 use lib.Dec.{T, leb, eqb, leb→le}
+use lib.ListN.{getD}
 use borrow.Author.Tests.{le-leb}
 use Rattle.cells.specs.Laws.Tests.{when-is}
 use Rattle.cells.specs.Laws.Facts.{holds, both-hold, never-true}
@@ -14,9 +15,11 @@ use Rattle.tokens.specs.Code.{familyIn, takesIn, codeOf}
 use Rattle.tokens.specs.Definition.{kindIn, takesHere}
 use Rattle.tokens.specs.declared.decoding.Token.{Token}
 use Rattle.screen.specs.Effect.{isA, called, ownEffect, effectOf}
-use Rattle.screen.specs.Laws.Found.Model.{heightIn, backIn, capOf, ownOf, heightAfter, backAfter, sumAt, fitsOf}
+use Rattle.screen.specs.Laws.Found.Model.{capOf, ownOf, heightAfter, backAfter, sumAt, fitsOf, slot}
 use Rattle.screen.specs.declared.effect.Sum.{Sum}
 use Rattle.screen.specs.declared.effect.Effect.{Effect}
+use Rattle.screen.specs.Laws.Found.Cell.{heightIn, backIn, bodyMost}
+use Rattle.screen.specs.Laws.Found.Sums.{SmallSum, unpacked-small}
 
 -- ---- effects
 -- each part of an effect has two hexadecimal digits at most
@@ -30,23 +33,9 @@ pub record SmallEffect (e : Effect) : Type 0 where
   pub frames : e .frames < 256
 
 -- and so has each part of a sum
-pub record SumSmall (s : Sum) : Type 0 where
-  pub need : s .need < 256
-  pub out : s .out < 256
-  pub peak : s .peak < 256
-  pub returnPeak : s .«return_peak» < 256
-  pub frames : s .frames < 256
-
-pub sum-small : (sums : List ℕ) (n : ℕ) (s : Sum) → s ≡ sumAt sums n → SumSmall s
+pub sum-small : (sums : List ℕ) (n : ℕ) (s : Sum) → s ≡ sumAt sums n → SmallSum s
 unfolding sumAt
-sum-small sums n s e =
-    rw e (record {
-      need = omega arith;
-      out = omega arith;
-      peak = omega arith;
-      returnPeak = omega arith;
-      frames = omega arith;
-    })
+sum-small sums n s e = rw e (unpacked-small (getD sums (slot n) 0))
 
 pub takes-small : (t : Token) → takesHere t < 256
 takes-small t =
@@ -54,18 +43,19 @@ takes-small t =
     (λ h. omega arith)
 
 pub effect-small : (sums : List ℕ) (t : Token) → SmallEffect (effectOf (sumAt sums) t)
-unfolding effectOf sumAt
+unfolding effectOf
 effect-small sums t =
     let s = takes-small t in
+    let u = sum-small sums (t .number) (sumAt sums (t .number)) refl in
     when-is SmallEffect (isA call t) (called (sumAt sums (t .number))) (ownEffect t)
     (λ h. record {
-      takes = omega arith;
-      gives = omega arith;
-      rise = omega arith;
+      takes = u .need;
+      gives = u .out;
+      rise = u .peak;
       returnTakes = omega arith;
       returnGives = omega arith;
-      returnRise = omega arith;
-      frames = omega arith;
+      returnRise = u .returnPeak;
+      frames = u .frames;
     })
     (λ h. record {
       takes = s;
@@ -83,9 +73,9 @@ pub record EffectRoom (within : Bool) (e : Effect) (cell : ℕ) : Type 0 where
   pub most : heightAfter e cell ≤ capOf within
   pub rise : heightIn cell - e .takes + e .rise ≤ capOf within
   pub returnTakes : e .«return_takes» ≤ backIn cell
-  pub returnMost : backAfter e cell ≤ 32
-  pub returnRise : backIn cell + e .«return_rise» ≤ 32
-  pub frames : ownOf within + e .frames ≤ 16
+  pub returnHigh : backAfter e cell ≤ returnMost
+  pub returnRise : backIn cell + e .«return_rise» ≤ returnMost
+  pub frames : ownOf within + e .frames ≤ framesMost
 
 pub fits-known : (within : Bool) (e : Effect) (cell : ℕ) → T (fitsOf within e cell) → EffectRoom within e cell
 unfolding fitsOf
@@ -108,7 +98,7 @@ fits-known within e cell f =
       most = leb→le (heightAfter e cell) (capOf within) (k1 .1);
       rise = leb→le (heightIn cell - e .takes + e .rise) (capOf within) (k2 .1);
       returnTakes = leb→le (e .«return_takes») (backIn cell) (k3 .1);
-      returnMost = leb→le (backAfter e cell) returnMost (k4 .1);
+      returnHigh = leb→le (backAfter e cell) returnMost (k4 .1);
       returnRise = leb→le (backIn cell + e .«return_rise») returnMost (k5 .1);
       frames = leb→le (ownOf within + e .frames) framesMost (k6 .1);
     }
@@ -128,11 +118,11 @@ fits-last within e cell a b d g h i =
 -- what the heights behind a token are reckoned by
 pub record Fitting (e : Effect) (cell : ℕ) : Type 0 where
   pub takes : e .takes ≤ heightIn cell
-  pub most : heightAfter e cell ≤ 128
+  pub most : heightAfter e cell ≤ bodyMost
   pub returnTakes : e .«return_takes» ≤ backIn cell
-  pub returnMost : backAfter e cell ≤ 32
+  pub returnHigh : backAfter e cell ≤ returnMost
 
-pub cap-most : (within : Bool) → capOf within ≤ 128
+pub cap-most : (within : Bool) → capOf within ≤ bodyMost
 cap-most true = omega arith
 cap-most false = omega arith
 
@@ -148,5 +138,5 @@ fitting within e cell f =
       takes = k .takes;
       most = omega arith;
       returnTakes = k .returnTakes;
-      returnMost = k .returnMost;
+      returnHigh = k .returnHigh;
     }

@@ -1,6 +1,6 @@
 -- What a walk keeps: no cell is above a bound, no place past the longest ROM, and the tally is low. So that no sum of the code wraps.
 -- Assumes nothing.
-use Prim.Native.Nat.{ℕ, zero, suc, _+_, _-_, _≤_, max}
+use Prim.Native.Nat.{ℕ, zero, suc, _+_, _≤_, max}
 use mathlib.Core.Path.{_≡_, sym, ap, subst}
 use mathlib.Core.Bool.{Bool, true, false, _&&_, _||_}
 use mathlib.Core.List.{List, [], _∷_}
@@ -10,7 +10,7 @@ use lib.Seq.{getD-set-other}
 use lib.Dec.{ltb, leb, eqb, nleb→lt}
 use Rattle.cells.specs.Laws.Tests.{when-is}
 use Rattle.cells.specs.Laws.Facts.{neither, both-hold, is-true}
-use Rattle.rom.specs.Sizes.{romMost}
+use Rattle.rom.specs.Sizes.{romMost, dataMost}
 use Rattle.tokens.specs.Place.{readOf}
 use Rattle.tokens.specs.Body.{unknownOf}
 use Rattle.tokens.specs.declared.decoding.Token.{Token}
@@ -21,11 +21,13 @@ use Rattle.screen.specs.Laws.Code.Codes.{fitting, effect-small}
 use Rattle.screen.specs.Laws.Code.Body.{Bounded, Low, low-none, low-tallied}
 use Rattle.screen.specs.Laws.Code.Visit.{tallyIn}
 use Rattle.screen.specs.Laws.Code.Walk.{WalkIs}
-use Rattle.screen.specs.Laws.Found.Model.{unmet, entered, sumAt, blankOf, fitsOf, soundOf, Visit, badVisit, tokenVisit, readVisit, visitOf}
+use Rattle.screen.specs.Laws.Found.Model.{sumAt, blankOf, fitsOf, soundOf, Visit, badVisit, tokenVisit, readVisit, visitOf}
+use Rattle.screen.specs.Laws.Found.Model.{heightsAfter}
 use Rattle.screen.specs.Laws.Found.Model.{Path, path, failed, putVisit, putsOf, topped, waiting, visitedOn, walkStep, walking, walkSteps, setOut, walkAll}
-use Rattle.screen.specs.Laws.Found.Model.{Tally, talliedIn, toldIn, Marked, marked, startIn, startsOf, isMet, shiftedCell, shiftOf}
+use Rattle.screen.specs.Laws.Found.Model.{Tally, talliedIn, toldIn, Marked, marked, startIn, startsOf, shiftedCell, shiftOf}
 use Rattle.screen.specs.declared.walking.Text.{Text as Scope}
 use Rattle.screen.specs.declared.walking.Walk.{Walk as Walked}
+use Rattle.screen.specs.Laws.Found.Cell.{unmet, entered, isMet, cellMost, cell-most, movedCell, moved-most, bodyMost}
 
 -- ---- a cell is written
 set-le : (l : List ℕ) (i j v b : ℕ) → ((k : ℕ) → getD l k 0 ≤ b) → v ≤ b → getD (set l i v) j 0 ≤ b
@@ -82,31 +84,29 @@ low-told true sums a cell r l = low-read sums a cell r l
 low-told false sums a cell r l = l
 
 pub record CellsKept (b : ℕ) (a : Path) : Type 0 where
-  pub far : a .walk .far ≤ 16384
+  pub far : a .walk .far ≤ romMost
   pub seen : Bounded b (a .seen)
   pub tally : Low (a .walk .tally)
 
-token-cell : (x : Scope) (kinds sums : List ℕ) (cell : ℕ) (t : Token) → tokenVisit x kinds sums cell t .cell ≤ 8321
+token-cell : (x : Scope) (kinds sums : List ℕ) (cell : ℕ) (t : Token) → tokenVisit x kinds sums cell t .cell ≤ cellMost
 unfolding tokenVisit
 token-cell x kinds sums cell t =
-    when-is (λ (v : Visit). v .cell ≤ 8321) (soundOf x kinds t cell && fitsOf (x .within) (effectOf (sumAt sums) t) cell) _ badVisit
+    when-is (λ (v : Visit). v .cell ≤ cellMost) (soundOf x kinds t cell && fitsOf (x .within) (effectOf (sumAt sums) t) cell) _ badVisit
     (λ h. let f = fitting (x .within) (effectOf (sumAt sums) t) cell
     (is-true (fitsOf (x .within) (effectOf (sumAt sums) t) cell)
     (both-hold (soundOf x kinds t cell) (fitsOf (x .within) (effectOf (sumAt sums) t) cell) h .1)) in
-    let m = f .most in
-    let r = f .returnMost in
-    omega arith)
+    cell-most (heightsAfter (effectOf (sumAt sums) t) cell) (f .most) (f .returnHigh))
     (λ h. omega arith)
 
-read-cell : (x : Scope) (kinds sums : List ℕ) (cell : ℕ) (r : Read) → readVisit x kinds sums cell r .cell ≤ 8321
+read-cell : (x : Scope) (kinds sums : List ℕ) (cell : ℕ) (r : Read) → readVisit x kinds sums cell r .cell ≤ cellMost
 read-cell x kinds sums cell (Refused why) = omega arith
 read-cell x kinds sums cell (Good t) = token-cell x kinds sums cell t
 
-visit-cell : (rom : List ℕ) (x : Scope) (kinds sums : List ℕ) (p cell : ℕ) → visitOf rom x kinds sums p cell .cell ≤ 8321
+visit-cell : (rom : List ℕ) (x : Scope) (kinds sums : List ℕ) (p cell : ℕ) → visitOf rom x kinds sums p cell .cell ≤ cellMost
 unfolding visitOf
 visit-cell rom x kinds sums p cell = read-cell x kinds sums cell (readOf rom (x .length) (x .wide) (x .within) p)
 
-module _ (b : ℕ) (x : Scope) (short : x .length ≤ 16384) where
+module _ (b : ℕ) (x : Scope) (short : x .length ≤ romMost) where
   kept-bad : (a : Path) → CellsKept b a → CellsKept b (failed a)
   kept-bad a k = record { far = k .far; seen = k .seen; tally = k .tally }
 
@@ -134,7 +134,7 @@ module _ (b : ℕ) (x : Scope) (short : x .length ≤ 16384) where
       when-is (CellsKept b) (v .good) (putsOf x (putsOf x a (v .next) (v .cell)) (v .aim) (v .cell)) (failed a)
       (λ u. kept-puts (putsOf x a (v .next) (v .cell)) (v .aim) (v .cell) h (kept-puts a (v .next) (v .cell) h k)) (λ u. kept-bad a k)
 
-  module _ (rom kinds sums : List ℕ) (high : 8321 ≤ b) where
+  module _ (rom kinds sums : List ℕ) (high : cellMost ≤ b) where
     kept-step : (a : Path) → CellsKept b a → CellsKept b (walkStep rom x kinds sums a)
     unfolding walkStep
     kept-step a k =
@@ -156,7 +156,7 @@ module _ (b : ℕ) (x : Scope) (short : x .length ≤ 16384) where
         when-is (CellsKept b) (walking a) (walkSteps rom x kinds sums n (walkStep rom x kinds sums a)) a
         (λ u. kept-walk n (walkStep rom x kinds sums a) (kept-step a k)) (λ u. k)
 
-    kept-from : (seen : List ℕ) (start cell : ℕ) → start ≤ 16384 → cell ≤ b → Bounded b seen
+    kept-from : (seen : List ℕ) (start cell : ℕ) → start ≤ romMost → cell ≤ b → Bounded b seen
         → CellsKept b (walkAll rom x kinds sums seen start cell)
     unfolding walkAll
     kept-from seen start cell s h k =
@@ -164,28 +164,29 @@ module _ (b : ℕ) (x : Scope) (short : x .length ≤ 16384) where
         (kept-put (path seen [] (setOut start)) start cell h (record { far = s; seen = k; tally = low-none }))
 
 -- ---- the shift
-moved-le : (need cell b : ℕ) → need ≤ 128 → cell ≤ b → shiftedCell need cell ≤ b + 64
-moved-le need cell b h l = when-is (λ n. n ≤ b + 64) (isMet cell) (cell + need - entered) 0 (λ u. omega arith) (λ u. omega arith)
+moved-le : (need cell b : ℕ) → need ≤ bodyMost → cell ≤ b → shiftedCell need cell ≤ b + dataMost
+moved-le need cell b h l = when-is (λ n. n ≤ b + dataMost) (isMet cell) (movedCell need entered cell) 0
+    (λ u. let m = moved-most need entered cell b l in omega arith) (λ u. omega arith)
 
-shift-le : (need b k p : ℕ) (seen : List ℕ) → need ≤ 128 → ((j : ℕ) → getD seen j 0 ≤ b + 64) → ((j : ℕ) → p ≤ j → getD seen j 0 ≤ b)
+shift-le : (need b k p : ℕ) (seen : List ℕ) → need ≤ bodyMost → ((j : ℕ) → getD seen j 0 ≤ b + dataMost) → ((j : ℕ) → p ≤ j → getD seen j 0 ≤ b)
     → (j : ℕ)
-    → getD (shiftOf need k p seen) j 0 ≤ b + 64
+    → getD (shiftOf need k p seen) j 0 ≤ b + dataMost
 unfolding shiftOf
 shift-le need b zero p seen n h a j = h j
 shift-le need b (suc k) p seen n h a j =
     let m = moved-le need (getD seen p 0) b n (a p (omega arith)) in
     shift-le need b k (suc p) (set seen p (shiftedCell need (getD seen p 0))) n
-    (λ i. set-le seen p i (shiftedCell need (getD seen p 0)) (b + 64) h m)
+    (λ i. set-le seen p i (shiftedCell need (getD seen p 0)) (b + dataMost) h m)
     (λ i l. let d : i ≡ p → ⊥ = λ q. omega arith in rw (getD-set-other seen p i (shiftedCell need (getD seen p 0)) 0 d) (a i (omega arith))) j
 
-pub bounded-shift : (need b k p : ℕ) (seen : List ℕ) → need ≤ 128 → Bounded b seen → Bounded (b + 64) (shiftOf need k p seen)
+pub bounded-shift : (need b k p : ℕ) (seen : List ℕ) → need ≤ bodyMost → Bounded b seen → Bounded (b + dataMost) (shiftOf need k p seen)
 bounded-shift need b k p seen n h =
     record { each = λ j. shift-le need b k p seen n (λ i. let e = h .each i in omega arith) (λ i l. h .each i) j }
 
 -- ---- as the code tells it
 -- what is known of a walk that is good
 pub record WalkKept (b : ℕ) (w : Walked) (seen₁ : List ℕ) : Type 0 where
-  pub far : w .far ≤ 16384
+  pub far : w .far ≤ romMost
   pub seen : Bounded b seen₁
   pub tally : Low (tallyIn (w .tally))
 
@@ -196,7 +197,7 @@ module _ (b : ℕ) (h : 65536 ≤ b) (rom : List ℕ) (kinds : List ℕ) where
       subst (λ (l : List ℕ). Bounded b l) (sym (ap (λ (m : Marked). m .seen) e))
       (bounded-starts b h kinds rom length wide romMost entry seen k)
 
-  pub walked-kept : (x : Scope) (sums seen : List ℕ) (start cell : ℕ) (w : Walked) (seen₁ : List ℕ) → x .length ≤ 16384 → start ≤ 16384
+  pub walked-kept : (x : Scope) (sums seen : List ℕ) (start cell : ℕ) (w : Walked) (seen₁ : List ℕ) → x .length ≤ romMost → start ≤ romMost
       → cell ≤ b
       → WalkIs rom x kinds sums seen start cell w seen₁ → w .good ≡ true → Bounded b seen → WalkKept b w seen₁
   walked-kept x sums seen start cell w seen₁ s t l k g e =
@@ -204,8 +205,8 @@ module _ (b : ℕ) (h : 65536 ≤ b) (rom : List ℕ) (kinds : List ℕ) where
       record { far = rw (k .far g) (d .far); seen = rw (k .seen g) (d .seen); tally = rw (k .tally g) (d .tally) }
 
 -- the tally is low whatever the cells were
-pub walked-low : (rom kinds : List ℕ) (x : Scope) (sums seen : List ℕ) (start cell : ℕ) (w : Walked) (seen₁ : List ℕ) → x .length ≤ 16384
-    → start ≤ 16384 → cell ≤ 65536
+pub walked-low : (rom kinds : List ℕ) (x : Scope) (sums seen : List ℕ) (start cell : ℕ) (w : Walked) (seen₁ : List ℕ) → x .length ≤ romMost
+    → start ≤ romMost → cell ≤ 65536
     → WalkIs rom x kinds sums seen start cell w seen₁ → w .good ≡ true → Low (tallyIn (w .tally))
 walked-low rom kinds x sums seen start cell w seen₁ s t l k g =
     let m = some-bound seen in

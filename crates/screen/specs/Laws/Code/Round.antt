@@ -10,9 +10,9 @@ use borrow.Author.Tests.{lt-ltb, le-leb, lt-leb, eq-eqb, ne-eqb}
 use lib.ListN.{getD, set}
 use lib.Dec.{T, ltb, leb, eqb, leb→le, ltb→lt}
 use Rattle.cells.specs.Laws.Facts.{holds, both-hold, when-true, when-false}
-use Rattle.rom.specs.Sizes.{numbersMost, nodesMost}
+use Rattle.rom.specs.Sizes.{numbersMost, nodesMost, romMost, dataMost}
 use Rattle.tokens.specs.Family.{plain, widen, define, newDevice}
-use Rattle.tokens.specs.Table.{isProgram}
+use Rattle.tokens.specs.Table.{isProgram, firstProgram, lastProgram}
 use Rattle.tokens.specs.Code.{familyIn}
 use Rattle.tokens.specs.Decode.{formed, isKind}
 use Rattle.tokens.specs.Body.{kindOf}
@@ -36,7 +36,7 @@ use Rattle.screen.specs.Laws.Code.Keep.{bounded-more, bounded-shift, Wal
 use Rattle.screen.specs.Laws.Code.Visit.{tallyIn, fixesBy}
 use Rattle.screen.specs.Laws.Code.Walk.{WalkIs}
 use Rattle.screen.specs.Laws.Found.Model.{sumTold, shiftOf, places}
-use Rattle.screen.specs.Laws.Found.Model.{cellWith, heightIn, backIn, slot, packedSum, Path, walkAll, endIn, fixedIn, apartOf, Board, board}
+use Rattle.screen.specs.Laws.Found.Model.{slot, Path, walkAll, endIn, fixedIn, apartOf, Board, board}
 use Rattle.screen.specs.Laws.Found.Model.{RoundEnd, roundEnd}
 use Rattle.screen.specs.Laws.Found.Model.{outsideText, stoodOn, withNodes, withCount, onStand, newNode, closedNode, entryOf, onSeen, colonOf}
 use Rattle.screen.specs.Laws.Found.Model.{isNew, defineOf}
@@ -50,6 +50,8 @@ use Rattle.screen.specs.declared.rounds.Round.{Round}
 use Rattle.screen.specs.declared.rounds.Turned.{Turned}
 use Rattle.screen.specs.declared.rounds.After.{After}
 use Rattle.screen.specs.declared.rounds.After.the-variants.{Fails, Ends, Goes}
+use Rattle.screen.specs.Laws.Found.Cell.{cellWith, heightIn, backIn, heights, lower-cell, cell-some, bodyMost}
+use Rattle.screen.specs.Laws.Found.Sums.{packedSum}
 
 -- ---- overlaps
 -- a token that ends a round is the highest
@@ -224,21 +226,21 @@ module _ (rom : List ℕ) (x : Scope) (seen : List ℕ) (far : ℕ) where
 
 -- ---- where a round starts
 pub record StandFits (s : Stand) : Type 0 where
-  pub start : s .start ≤ 16384
+  pub start : s .start ≤ romMost
   pub some : s .start ≢ 0
   pub real : s .cell ≢ 0
   pub children : s .children ≤ s .nodes
-  pub nodes : s .nodes ≤ 32
+  pub nodes : s .nodes ≤ nodesMost
 
 -- ---- tokens that were read
 pub record DefinesWithin (length : ℕ) (t : Token) : Type 0 where
-  pub number : newNumber (t .operand) ≤ 0xFFF
+  pub number : newNumber (t .operand) ≤ lastProgram
   pub kind : kindIn (t .operand) < 256
   pub next : t .next ≤ length
   pub ahead : t .next ≢ 0
 
 abbrev RoundFormed : Operand → Type 0
-RoundFormed o = (newNumber o ≤ 0xFFF) × (kindIn o < 256)
+RoundFormed o = (newNumber o ≤ lastProgram) × (kindIn o < 256)
 
 formed-so : (o : Operand) → T (formed o) → RoundFormed o
 formed-so Nothing f = (omega arith, omega arith)
@@ -248,9 +250,9 @@ formed-so (Branch bits aim) f = (omega arith, omega arith)
 formed-so (Number n) f = (omega arith, omega arith)
 formed-so (Definition n k) f =
     let p = both-hold (isProgram n) (isKind k) f in
-    let q = both-hold (leb 0x800 n) (leb n 0xFFF) (p .0) in
+    let q = both-hold (leb firstProgram n) (leb n lastProgram) (p .0) in
     let r = both-hold (leb 0xB7 k) (leb k 0xBA) (p .1) in
-    let u = leb→le n 0xFFF (q .1) in
+    let u = leb→le n lastProgram (q .1) in
     let v = leb→le k 0xBA (r .1) in
     (omega arith, omega arith)
 
@@ -272,7 +274,7 @@ pub record NodeIs (m : Board → RoundEnd) (s : Stand) (r : Turned) : Type 0 whe
 pub record TurnIs (m : RoundEnd) (seen : List ℕ) (most : ℕ) (r : Turned) (seen′ kinds′ sums′ : List ℕ) : Type 0 where
   pub same : m .good ≡ r .good
   pub whole : r .good ≡ true → m .board ≡ board seen′ kinds′ sums′ (r .stand)
-  pub keeps : r .good ≡ true → (b : ℕ) → 65536 ≤ b → Bounded b seen → Bounded (b + 64) seen′
+  pub keeps : r .good ≡ true → (b : ℕ) → 65536 ≤ b → Bounded b seen → Bounded (b + dataMost) seen′
   pub standing : r .good ≡ true → StandFits (r .stand)
   pub cell : r .good ≡ true → r .stand .cell ≤ most
 
@@ -303,7 +305,7 @@ behind rom length b far go =
 pub record GoesIs (rom : List ℕ) (length : ℕ) (seen kinds sums : List ℕ) (s : Stand) (far : ℕ) (seen′ kinds′ sums′ : List ℕ)
     (next : Stand) : Type 0 where
   pub goes : (go : Board → RoundEnd) → behind rom length (board seen kinds sums s) far go ≡ go (board seen′ kinds′ sums′ next)
-  pub keeps : (b : ℕ) → 65536 ≤ b → Bounded b seen → Bounded (b + 64) seen′
+  pub keeps : (b : ℕ) → 65536 ≤ b → Bounded b seen → Bounded (b + dataMost) seen′
   pub standing : StandFits next
   pub cell : next .cell ≤ getD seen far 0 + 1
 
@@ -371,24 +373,24 @@ node-turn m s r most seen kinds sums st l k =
     record {
       same = k .same (board seen kinds sums st);
       whole = λ g. k .whole g (board seen kinds sums st);
-      keeps = λ g b h d. bounded-more b (b + 64) seen (omega arith) d;
+      keeps = λ g b h d. bounded-more b (b + dataMost) seen (omega arith) d;
       standing = k .standing;
       cell = λ g. rw (k .cell g) l;
     }
 
 -- ---- behind the token that ended a round
-pub moved-is : (s : Stand) (t : Token) (cell c : ℕ) (wide : Bool) → c ≡ cellWith (heightIn cell - takesHere t) (backIn cell)
+pub moved-is : (s : Stand) (t : Token) (cell c : ℕ) (wide : Bool) → c ≡ cellWith (heights (heightIn cell - takesHere t) (backIn cell))
     → wide ≡ (isA widen t || s .wide)
     → record { start = t .next; cell = c; wide = wide; children = s .children; nodes = s .nodes; count = s .count } ≡ stoodOn s t cell
 moved-is s t cell c wide h w = rw (h, w) refl
 
-moved-cell : (s : Stand) (t : Token) (cell : ℕ) → stoodOn s t cell .cell ≤ cell + 1
-moved-cell s t cell = omega arith
+stood-cell : (s : Stand) (t : Token) (cell : ℕ) → stoodOn s t cell .cell ≤ cell + 1
+stood-cell s t cell = lower-cell cell (takesHere t)
 
-pub moved-standing : (s : Stand) (t : Token) (cell length : ℕ) → DefinesWithin length t → length ≤ 16384 → StandFits s → StandFits (stoodOn s t cell)
+pub moved-standing : (s : Stand) (t : Token) (cell length : ℕ) → DefinesWithin length t → length ≤ romMost → StandFits s → StandFits (stoodOn s t cell)
 moved-standing s t cell length d l k =
     let n = d .next in
-    record { start = omega arith; some = d .ahead; real = λ z. omega arith; children = k .children; nodes = k .nodes }
+    record { start = omega arith; some = d .ahead; real = cell-some (heights (heightIn cell - takesHere t) (backIn cell)); children = k .children; nodes = k .nodes }
 
 -- ---- b(:)
 module _ (rom : List ℕ) (length : ℕ) (seen kinds sums : List ℕ) (s : Stand) (n entry : ℕ) where
@@ -396,7 +398,7 @@ module _ (rom : List ℕ) (length : ℕ) (seen kinds sums : List ℕ) (s : Stand
       → SurveyIs rom length kinds sums seen s entry r seen₁ → r .good ≡ true
       → seen₂ ≡ shiftOf (r .tally .need) (places entry (r .end)) entry seen₁ → kinds₂ ≡ set kinds (slot n) 0xB7
       → sums₂ ≡ set sums (slot n) (packedSum sum)
-      → sum ≡ sumTold (tallyIn (r .tally)) → next ≡ withCount s (r .end + 1) (suc (s .count)) → StandFits s → length ≤ 16384
+      → sum ≡ sumTold (tallyIn (r .tally)) → next ≡ withCount s (r .end + 1) (suc (s .count)) → StandFits s → length ≤ romMost
       → TurnIs (colonOf rom length (board seen kinds sums st) s n entry) seen (s .cell) (stood next) seen₂ kinds₂ sums₂
   turn-colon r seen₁ seen₂ kinds₂ sums₂ sum next st k g e₁ e₂ e₃ e₄ e₅ d l =
       let a = k .accepts g st n in
@@ -413,7 +415,7 @@ module _ (rom : List ℕ) (length : ℕ) (seen kinds sums : List ℕ) (s : Stand
 
 -- ---- a defining token
 pub new-few : (new : Bool) (kinds : List ℕ) (n count : ℕ) → new ≡ (eqb (kindOf kinds n) 0 && ltb count numbersMost) → new ≡ true
-    → count < 256
+    → count < numbersMost
 new-few new kinds n count e h =
     ltb→lt count numbersMost (both-hold (eqb (kindOf kinds n) 0) (ltb count numbersMost)
     (holds (eqb (kindOf kinds n) 0 && ltb count numbersMost) (sym e ∙ h)) .1)
@@ -452,7 +454,7 @@ pub turn-value : (rom : List ℕ) (length : ℕ) (seen kinds sums : List ℕ) (s
     → (k ≡ 0xB7 → ⊥)
     → kinds₂ ≡ set kinds (slot n) k → sums₂ ≡ set sums (slot n) (packedSum valueSum) → next ≡ withCount s (t .next) (suc (s .count))
     → StandFits s
-    → DefinesWithin length t → length ≤ 16384
+    → DefinesWithin length t → length ≤ romMost
     → TurnIs (defineOf rom length (board seen kinds sums st) s t) seen (s .cell) (stood next) seen kinds₂ sums₂
 turn-value rom length seen kinds sums st s t n k kinds₂ sums₂ next e f h q e₂ e₃ e₅ d i j =
     let a = define-value rom length (board seen kinds sums st) s t n k e f h q in
@@ -460,7 +462,7 @@ turn-value rom length seen kinds sums st s t n k kinds₂ sums₂ next e f h q e
     record {
       same = ap (λ (m : RoundEnd). m .good) a;
       whole = λ g. ap (λ (m : RoundEnd). m .board) a ∙ rw (e₂, e₃, e₅) refl;
-      keeps = λ g b h d. bounded-more b (b + 64) seen (omega arith) d;
+      keeps = λ g b h d. bounded-more b (b + dataMost) seen (omega arith) d;
       standing = λ g. rw e₅ (record { start = omega arith; some = i .ahead; real = d .real; children = d .children; nodes = d .nodes });
       cell = λ g. rw e₅ (omega arith);
     }
@@ -472,7 +474,7 @@ module _ (rom : List ℕ) (length : ℕ) (seen kinds sums : List ℕ) (stand : S
   b = board seen kinds sums stand
 
   cell-so : s .cell ≤ cell + 1
-  cell-so = rw e (moved-cell stand t cell)
+  cell-so = rw e (stood-cell stand t cell)
 
   more : (m : RoundEnd) (r : Turned) (seen′ kinds′ sums′ : List ℕ) → TurnIs m seen (s .cell) r seen′ kinds′ sums′
       → TurnIs m seen (cell + 1) r seen′ kinds′ sums′
@@ -590,12 +592,12 @@ module _ (rom : List ℕ) (length : ℕ) (seen kinds sums : List ℕ) (s : Stand
         keeps = λ g. off-on g;
       }
 
-  module _ (l : w .good ≡ true) (short : length ≤ 16384) (start : s .start ≤ 16384) where
+  module _ (l : w .good ≡ true) (short : length ≤ romMost) (start : s .start ≤ romMost) where
     kept-so : (m : ℕ) → 65536 ≤ m → s .cell ≤ m → Bounded m seen → WalkKept m w seen′
     kept-so m h c e = walked-kept m h rom kinds x sums seen (s .start) (s .cell) w seen′ (rw f short) start c k l e
 
     -- the highest place is no farther than the longest ROM
-    pub round-far : (m : ℕ) → 65536 ≤ m → s .cell ≤ m → Bounded m seen → w .far ≤ 16384
+    pub round-far : (m : ℕ) → 65536 ≤ m → s .cell ≤ m → Bounded m seen → w .far ≤ romMost
     round-far m h c e = kept-so m h c e .far
 
     pub round-walked : (count : ℕ) (good : Bool) → count ≡ w .far + 1 - s .start → good ≡ apartOf rom x seen′ (w .far) count (s .start) 0
@@ -679,11 +681,11 @@ passed-fails m n seen′ e g = rw (← e) (record { same = g; whole = λ v. off-
 
 -- what a round starts with: how high a cell can be goes by the rounds that were
 abbrev pub highest : ℕ → ℕ
-highest left = 65536 + 128 * (16384 - left)
+highest left = 65536 + bodyMost * (romMost - left)
 
 pub record Going (left : ℕ) (seen : List ℕ) (s : Stand) : Type 0 where
   pub standing : StandFits s
-  pub few : left ≤ 16384
+  pub few : left ≤ romMost
   pub cell : s .cell ≤ highest left
   pub low : Bounded (highest left) seen
 
@@ -711,5 +713,5 @@ module _ (rom : List ℕ) (length left : ℕ) (seen kinds sums : List ℕ) (s : 
         standing = k .standing;
         few = omega arith;
         cell = omega arith;
-        low = bounded-more (highest left + 64) (highest (left - 1)) seen₂ (omega arith) (k .keeps (highest left) (omega arith) round-seen);
+        low = bounded-more (highest left + dataMost) (highest (left - 1)) seen₂ (omega arith) (k .keeps (highest left) (omega arith) round-seen);
       }

@@ -14,7 +14,7 @@ use lib.Dec.{eqb}
 use Rattle.cells.specs.Laws.Facts.{when-true, when-false}
 use Rattle.rom.specs.Sizes.{romMost, marksSize}
 use Rattle.rom.specs.Header.{lengthOf, wideOf, headerOf}
-use Rattle.screen.specs.Laws.Found.Model.{Board, RoundEnd, roomOf, firstBoard, roundsOf, lastOf, markIn, laidOf, screenOf}
+use Rattle.screen.specs.Laws.Found.Model.{Board, RoundEnd, roomOf, firstBoard, roundsOf, lastOf, laidOf, screenOf}
 use Rattle.screen.specs.Laws.Found.Room.{has-room, zeros}
 use Rattle.screen.specs.Laws.Found.Laid.{header-length, laid-size, laid-at}
 use Rattle.screen.specs.Laws.Code.Walk.{WalkTables}
@@ -22,6 +22,7 @@ use Rattle.screen.specs.Laws.Code.Body.{Bounded}
 use Rattle.screen.specs.Laws.Code.Round.{PassedIs}
 use Rattle.screen.specs.Laws.Found.Screen.{screened, verdictOn, judgedOf, screenedOf}
 use Rattle.screen.specs.declared.screening.Verdict.the-variants.{Passes, Refused}
+use Rattle.screen.specs.Laws.Found.Cell.{markIn, mark-none}
 
 -- ---- a list that is filled from the front
 -- what is filled in is so, as far as i
@@ -51,7 +52,7 @@ filled-laid seen l i s e h k =
     ext-getD 0 l (laidOf seen) (e ∙ sym (laid-size seen (omega arith))) (λ j q. k .each j (omega arith) ∙ sym (laid-at seen j))
 
 pub mark-behind : (seen : List ℕ) (i : ℕ) → length seen ≤ i → 0 ≡ markIn (getD seen i 0)
-mark-behind seen i h = rw (List·getD-eq-default seen 0 h)
+mark-behind seen i h = rw (List·getD-eq-default seen 0 h) (sym mark-none)
 
 pub filled-zeros : (n : ℕ) (l : List ℕ) (i : ℕ) → length l ≡ n → n ≤ i → Filled (λ k. 0) i l → l ≡ replicate n 0
 filled-zeros n l i e h k =
@@ -94,7 +95,7 @@ module _ (rom : List ℕ) (n : ℕ) (marks seen work : List ℕ) (k : Judging ro
 
   pub judging-tables : WalkTables n seen work
   judging-tables =
-      let l : n ≤ 16384 = rw (k .size) (header-length rom (k .header)) in
+      let l : n ≤ romMost = rw (k .size) (header-length rom (k .header)) in
       let h = has-room n l cells in
       record { room = h .0; few = h .1; wide = k .wide }
 

@@ -36,7 +36,7 @@ use Rattle.tokens.specs.Laws.Stands.{stands}
 use Rattle.screen.specs.Effect.{isA, fixes, aims, noEffect, called, ownEffect, effectOf}
 use Rattle.screen.specs.Reach.{In, here}
 use Rattle.screen.specs.Laws.Rules.Tokens.{aims-fit}
-use Rattle.screen.specs.Laws.Found.Model.{Visit, Tally, cellWith, heightIn, backIn, entered, sumAt, heightAfter, backAfter, fitsOf, badVisit}
+use Rattle.screen.specs.Laws.Found.Model.{Visit, Tally, sumAt, fitsOf, badVisit, heightsAfter}
 use Rattle.screen.specs.Laws.Found.Model.{agreed, toldIn, soundOf, nextOn, branchIn, aimOn as Model·aimIn, tokenVisit, visitOf, tallied}
 use Rattle.screen.specs.Laws.Code.Codes.{EffectRoom, unfit, fits-last}
 use Rattle.screen.specs.Laws.Walk.Visits.{visit-fits}
@@ -44,6 +44,7 @@ use Rattle.screen.specs.declared.effect.Effect.{Effect}
 use Rattle.screen.specs.declared.walking.Text.{Text as Scope}
 use Rattle.screen.specs.declared.visiting.Visit.{Visit as Told}
 use Rattle.screen.specs.declared.tally.Tally.{Tally as Kept}
+use Rattle.screen.specs.Laws.Found.Cell.{cellWith, heightIn, backIn, entered, cell-some}
 
 -- ---- what the code's numbers stand for
 -- a visit is good where there is a cell behind it
@@ -86,7 +87,7 @@ plainEffect takes code =
 unfoldable pub visitBy : Bool → Effect → ℕ → ℕ → ℕ → Visit
 visitBy within e cell next aim =
     elim (fitsOf within e cell) [
-      | true ↦ record { good = true; cell = cellWith (heightAfter e cell) (backAfter e cell); next = next; aim = aim }
+      | true ↦ record { good = true; cell = cellWith (heightsAfter e cell); next = next; aim = aim }
       | false ↦ badVisit
     ]
 
@@ -152,12 +153,12 @@ unfit-visit within e cell next aim f = rw (visitBy, ← unfit within e cell f)
 
 -- one that is good: the cell behind the token says so, since it is not 0
 pub fit-visit : (within : Bool) (e : Effect) (cell next aim to : ℕ) → EffectRoom within e cell
-    → to ≡ cellWith (heightAfter e cell) (backAfter e cell)
+    → to ≡ cellWith (heightsAfter e cell)
     → visitIn (record { cell = to; next = next; aim = aim }) ≡ visitBy within e cell next aim
 unfolding visitBy
 fit-visit within e cell next aim to r c =
-    let l = fits-last within e cell (r .takes) (r .most) (r .rise) (r .returnTakes) (r .returnMost) (r .returnRise) in
-    rw (visitBy, l, le-leb _ _ (r .frames), ne-eqb to 0 (omega arith), c)
+    let l = fits-last within e cell (r .takes) (r .most) (r .rise) (r .returnTakes) (r .returnHigh) (r .returnRise) in
+    rw (visitBy, l, le-leb _ _ (r .frames), ne-eqb to 0 (λ z. cell-some (heightsAfter e cell) (sym c ∙ z)), c)
 
 -- ---- a token that was read, and a glance at it
 -- two that were read at one place are one

@@ -1,5 +1,5 @@
 -- Where the code's walk is, and which path of the model that stands for. Assumes nothing.
-use Prim.Native.Nat.{ℕ, zero, suc, _+_, _-_, _%_, _≤_, _<_, max}
+use Prim.Native.Nat.{ℕ, zero, suc, _+_, _-_, _≤_, _<_, max}
 use mathlib.Core.Path.{_≡_, refl, sym, ap, _∙_, subst}
 use mathlib.Core.Bool.{Bool, true, false, not, _||_, or-true}
 use mathlib.Core.List.{List, [], _∷_}
@@ -16,7 +16,7 @@ use Rattle.rom.specs.Sizes.{romMost}
 use Rattle.tokens.specs.Place.{readOf}
 use Rattle.screen.specs.Laws.Found.Model.{Tally, Path, path, failed, blankOf, noTally, toldIn, putVisit, putsOf, visitedOn, walkStep, walking, walkSteps}
 use Rattle.screen.specs.Laws.Found.Model.{walkAll}
-use Rattle.screen.specs.Laws.Walk.Walking.{blanks, blanks-most, blanks-set, visit-real, puts-lost}
+use Rattle.screen.specs.Laws.Walk.Walking.{blanks, blanks-most, blanks-set, visit-real, puts-lost, blank-mark}
 use Rattle.screen.specs.Laws.Code.Visit.{visitIn, tallyIn, SeenBy}
 use Rattle.screen.specs.declared.walking.Text.{Text as Scope}
 use Rattle.screen.specs.declared.walking.Way.{Way}
@@ -56,7 +56,7 @@ pub record Waiting (n : ℕ) (work : List ℕ) (top : ℕ) : Type 0 where
 -- the tables have room for a text
 pub record WalkTables (n : ℕ) (seen work : List ℕ) : Type 0 where
   pub room : n ≤ length seen
-  pub few : length seen ≤ 16384
+  pub few : length seen ≤ romMost
   pub wide : length seen ≤ length work
 
 -- what holds of a way: there is room for all that can wait, what waits is a place of the text, and the place at hand has its cell
@@ -460,11 +460,7 @@ module _ (rom : List ℕ) (x : Scope) (kinds sums : List ℕ) where
           pub behind-real : v .cell ≢ 0 → v .cell ≢ blankOf (x .within)
           behind-real z e =
               rw (← s .visit) at (visit-real rom x kinds sums (w .place) (w .cell)) (rw (ne-eqb (v .cell) 0 z) refl)
-              (rw e (blank-none (x .within)))
-            where
-              blank-none : (b : Bool) → blankOf b % 256 ≡ 0
-              blank-none true = refl
-              blank-none false = refl
+              (rw e (blank-mark (x .within)))
 
           abbrev told-so : Tally
           told-so = toldIn (x .within) sums y (w .cell) (readOf rom (x .length) (x .wide) (x .within) (w .place))

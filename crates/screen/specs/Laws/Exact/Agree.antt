@@ -10,12 +10,13 @@ use lib.Dec.{T}
 use lib.ListN.{getD}
 use Rattle.cells.specs.Laws.Facts.{holds, fails, when-false}
 use Rattle.rom.specs.Header.{lengthOf}
+use Rattle.rom.specs.Sizes.{romMost, dataMost}
 use Rattle.tokens.specs.Definition.{newNumber}
 use Rattle.tokens.specs.Laws.Tokens.{next-ahead}
 use Rattle.screen.specs.Effect.{fixes, isColon}
 use Rattle.screen.specs.Reach.{Setting, Reach}
 use Rattle.screen.specs.Rules.{Assignment}
-use Rattle.screen.specs.Laws.Found.Model.{Board, cellWith, isMet}
+use Rattle.screen.specs.Laws.Found.Model.{Board}
 use Rattle.screen.specs.Laws.Walk.Walking.{walked-below}
 use Rattle.screen.specs.Laws.Rules.Ways.{colon-fixes}
 use Rattle.screen.specs.Laws.Walk.Marking.{walked-met, marks-kept}
@@ -28,13 +29,14 @@ use Rattle.screen.specs.Laws.Accept.Cover.{start, Follows, ready, rooted
 use Rattle.screen.specs.Laws.Accept.Spots.{outside, out-cell, Inside, inside, bodyOf}
 use Rattle.screen.specs.Laws.Accept.Cells.{Cells, body-cells, at-entry}
 use Rattle.screen.specs.Laws.Exact.Exact.{at-heights, body-heights, body-sum}
+use Rattle.screen.specs.Laws.Found.Cell.{cellWith, isMet, heights, entryCell, Heights, same-heights, movedCell, entered, bodyMost}
 
-module _ (rom : List ℕ) (fits : lengthOf rom ≤ 16384) {last : Board} (passed : Chain rom (start rom fits) last) where
+module _ (rom : List ℕ) (fits : lengthOf rom ≤ romMost) {last : Board} (passed : Chain rom (start rom fits) last) where
   -- what the rounds leave at a reachable token is what any assignment says
-  pub last-is : (a : Assignment rom) {x p : ℕ} {s : Setting} → Reach rom x s p → getD (last .seen) p 0 ≡ cellWith (a .height x p) (a .back x p)
+  pub last-is : (a : Assignment rom) {x p : ℕ} {s : Setting} → Reach rom x s p → getD (last .seen) p 0 ≡ cellWith (heights (a .height x p) (a .back x p))
   last-is a {x = zero} {p} r =
       let o = outside rom fits passed r in out-cell rom fits passed o ∙ at-heights rom fits a (o .follows) (o .at)
-  last-is a {x = suc d} {p} {s} r = subst (λ k. getD (last .seen) p 0 ≡ cellWith (a .height (suc k) p) (a .back (suc k) p)) (sym (i .place)) (c .final ∙ by)
+  last-is a {x = suc d} {p} {s} r = subst (λ k. getD (last .seen) p 0 ≡ cellWith (heights (a .height (suc k) p) (a .back (suc k) p))) (sym (i .place)) (c .final ∙ by)
     where
       i : Inside rom fits passed d s p
       i = inside rom fits passed r
@@ -42,27 +44,33 @@ module _ (rom : List ℕ) (fits : lengthOf rom ≤ 16384) {last : Board} (passed
       c : Cells rom fits passed i
       c = body-cells rom fits passed i
 
-      by : cellWith (c .height + bodyOf rom fits passed i .tally .need - 64) (c .back) ≡ cellWith (a .height (suc (farOf rom (i .board))) p) (a .back (suc (farOf rom (i .board))) p)
-      by = omega (arith, cells, c .high, tall, lowest, sums)
+      by : cellWith (heights (c .height + bodyOf rom fits passed i .tally .need - entered) (c .back)) ≡ cellWith (heights (a .height (suc (farOf rom (i .board))) p) (a .back (suc (farOf rom (i .board))) p))
+      by =
+          let e = same-heights _ _ (omega (arith, c .high)) (omega (arith, tall, lowest, sums)) cells in
+          let h = ap (λ (v : Heights). v .height) e in
+          let k = ap (λ (v : Heights). v .back) e in
+          let same : c .height + bodyOf rom fits passed i .tally .need - entered ≡ a .height (suc (farOf rom (i .board))) p = omega (arith, h, tall, lowest, sums) in
+          rw (same, k)
         where
-          cells : cellWith (c .height) (c .back) ≡ cellWith (a .height (suc (farOf rom (i .board))) p + 64 - a .sum (newNumber (i .ran .token .operand)) .need) (a .back (suc (farOf rom (i .board))) p)
+          cells : cellWith (heights (c .height) (c .back)) ≡ cellWith (heights (a .height (suc (farOf rom (i .board))) p + entered - a .sum (newNumber (i .ran .token .operand)) .need) (a .back (suc (farOf rom (i .board))) p))
           cells = sym (c .is) ∙ body-heights rom fits a (i .follows) (i .ran) (colon-fixes (i .ran .token) (i .colon)) (i .colon) (bodyOf rom fits passed i) (i .at)
 
           sums : bodyOf rom fits passed i .tally .need ≡ a .sum (newNumber (i .ran .token .operand)) .need
           sums = ap (λ v. v .need) (body-sum rom fits a (i .follows) (i .ran) (colon-fixes (i .ran .token) (i .colon)) (i .colon) (bodyOf rom fits passed i))
 
-          tall : a .height (suc (farOf rom (i .board))) p ≤ 64
+          tall : a .height (suc (farOf rom (i .board))) p ≤ dataMost
           tall =
               let q : Reach rom (suc (farOf rom (i .board))) s p = subst (λ k. Reach rom (suc k) s p) (i .place) r in
               let t = a .whole q in
               a .dataLimit (record { reach = q; is = t .1 }) .0
 
-          lowest : bodyOf rom fits passed i .tally .need ≤ 64
+          lowest : bodyOf rom fits passed i .tally .need ≤ dataMost
           lowest =
               let e = body-cells rom fits passed (at-entry rom fits passed i) in
-              let f : cellWith 64 0 ≡ cellWith (e .height) (e .back) = e .is in
-              let g : e .height ≤ 128 = e .high in
-              let l : e .height + bodyOf rom fits passed i .tally .need ≤ 128 = e .low in
+              let f : entryCell ≡ cellWith (heights (e .height) (e .back)) = e .is in
+              let g : e .height ≤ bodyMost = e .high in
+              let l : e .height + bodyOf rom fits passed i .tally .need ≤ bodyMost = e .low in
+              let h = ap (λ (v : Heights). v .height) (same-heights _ _ (omega arith) (omega arith) f) in
               omega arith
 
 -- ---- nothing else is marked
@@ -72,7 +80,7 @@ pub record Reached (rom : List ℕ) (p : ℕ) : Type 0 where
   pub setting : Setting
   pub reach : Reach rom text setting p
 
-module _ (rom : List ℕ) (fits : lengthOf rom ≤ 16384) where
+module _ (rom : List ℕ) (fits : lengthOf rom ≤ romMost) where
   -- a cell of a round
   ran-reached : {b : Board} → Follows rom fits b → Ran rom b → (p : ℕ) → b .stand .start ≤ p → getD (ran rom b .seen) p 0 ≢ 0 → Reached rom p
   ran-reached {b} h r p l z = by (r .walked .kept p)
@@ -104,7 +112,7 @@ module _ (rom : List ℕ) (fits : lengthOf rom ≤ 16384) where
           by true e =
               record { text = suc (farOf rom b); setting = settingOf (b .stand); reach = body-reach rom fits r (rooted rom fits h) y k (n .1) (n .0) (walked-met (y .marked) (y .walked) p above e) }
           by false e =
-              absurd (z (y .shifted .moved p q (let s = y .start in omega arith) ∙ when-false (getD (y .path .seen) p 0 + y .tally .need - 64) 0 (isMet (getD (y .path .seen) p 0)) e))
+              absurd (z (y .shifted .moved p q (let s = y .start in omega arith) ∙ when-false (movedCell (y .tally .need) entered (getD (y .path .seen) p 0)) 0 (isMet (getD (y .path .seen) p 0)) e))
 
   pub only-reached : {b f : Board} → Follows rom fits b → Chain rom b f → (p : ℕ) → b .stand .start ≤ p → getD (f .seen) p 0 ≢ 0 → Reached rom p
   only-reached h (ends r n) p l z = ran-reached h r p l z

@@ -12,6 +12,7 @@ use lib.ListN.{getD}
 use borrow.Author.Tests.{ne-eqb}
 use Rattle.cells.specs.Laws.Facts.{fails, is-true, is-false}
 use Rattle.rom.specs.Header.{lengthOf}
+use Rattle.rom.specs.Sizes.{romMost, dataMost}
 use Rattle.tokens.specs.Family.{define}
 use Rattle.tokens.specs.Body.{unknownOf}
 use Rattle.tokens.specs.Laws.Tokens.{next-ahead, none-starts}
@@ -26,18 +27,21 @@ use Rattle.screen.specs.Laws.Rules.Tokens.{after-same, fixes-outside}
 use Rattle.screen.specs.Laws.Rules.Tokens.{end-is as last-is}
 use Rattle.screen.specs.Laws.Rules.InForce.{one-fixed, start-on}
 use Rattle.screen.specs.Laws.Rules.Ways.{define-fixes}
-use Rattle.screen.specs.Laws.Walk.Visits.{height-in, back-in, is-met, Meets, visit-fits, fits-visit}
+use Rattle.screen.specs.Laws.Walk.Visits.{Meets, visit-fits, fits-visit}
 use Rattle.screen.specs.Laws.Walk.Walking.{At, Fails, Walked}
 use Rattle.screen.specs.Laws.Walk.Marking.{walked-met, MarksBody, FineMarks}
 use Rattle.screen.specs.Laws.Walk.Tallying.{Among, Greatest, Leaving, TallyIs, needAt, peakAt, backAt, framesAt}
 use Rattle.screen.specs.Laws.Walk.Advancing.{settingOf}
-use Rattle.screen.specs.Laws.Found.Model.{Path, Board, Marked, cellWith, heightIn, backIn, heightAfter, backAfter, sumAt, isMet, bodyText, sumTold, passesOf}
+use Rattle.screen.specs.Laws.Found.Model.{Path, Board, Marked, sumAt, bodyText, sumTold, passesOf}
+use Rattle.screen.specs.Laws.Found.Model.{heightsAfter}
 use Rattle.screen.specs.Laws.Walk.Rounds.{ran-above, ran, farOf, Ran}
 use Rattle.screen.specs.Laws.Accept.Roots.{way-leads, far-met}
 use Rattle.screen.specs.Laws.Accept.Cover.{leads-way, leads-itself, ready, rooted}
 use Rattle.screen.specs.Laws.Exact.Round.{not-good, limits, Agrees, known-held, effect-same, stay-below}
 use Rattle.screen.specs.declared.walking.Text.{Text as Scope}
 use Rattle.screen.specs.Laws.Found.Model.{Tally}
+use Rattle.screen.specs.Laws.Found.Cell.{height-in, back-in, is-met, cellWith, heightIn, backIn, isMet, heights, entryCell, entered}
+use Rattle.screen.specs.Laws.Found.Cell.{bodyMost}
 
 -- behind a token of a body that is not its last the body is read on
 reads-behind : {rom : List ℕ} {w : Bool} {p c : ℕ} {t : Token} → Holds rom (Claim.reads w p c) → tokenAt rom 1 w p ≡ Good t → (t .number ≡ 0xC2 → ⊥)
@@ -63,7 +67,7 @@ pub reads-known : {rom : List ℕ} {w : Bool} {e c p : ℕ} {u : Token} → Hold
     → Holds rom (Claim.known p u)
 reads-known h s i = first-known (reads-from h s) i
 
-module _ (rom : List ℕ) (fits : lengthOf rom ≤ 16384) (a : Assignment rom) {b : Board} (g : Agrees rom fits a b) (r : Ran rom b) (f : T (fixes (r .token))) where
+module _ (rom : List ℕ) (fits : lengthOf rom ≤ romMost) (a : Assignment rom) {b : Board} (g : Agrees rom fits a b) (r : Ran rom b) (f : T (fixes (r .token))) where
   -- the token that ends the round, its place, the width there, and the setting
   abbrev t : Token
   t = r .token
@@ -104,7 +108,7 @@ module _ (rom : List ℕ) (fits : lengthOf rom ≤ 16384) (a : Assignment rom) {
     x = bodyText (lengthOf rom) wide (t .next)
 
     abbrev BodyAt : ℕ → ℕ → Type 0
-    BodyAt p d = At rom x (b .kinds) (b .sums) (t .next) (cellWith 64 0) p d
+    BodyAt p d = At rom x (b .kinds) (b .sums) (t .next) entryCell p d
 
     -- it is a body
     pub the-body : Body rom here far t n k
@@ -167,26 +171,26 @@ module _ (rom : List ℕ) (fits : lengthOf rom ≤ 16384) (a : Assignment rom) {
         (w .0, record { reach = i; is = w .1 })
 
     -- its need is a height
-    need-low : need ≤ 64
+    need-low : need ≤ dataMost
     need-low = let e = a .enter the-body .0 in let l = limits rom fits a (entry-met .1) .height in omega arith
 
     -- ---- what its walk comes to
     pub record InsideBody (p d : ℕ) : Type 0 where
       pub reach : Reach rom (suc far) here p
       pub start : Starts rom wide (t .next) p
-      pub cell : d ≡ cellWith (H p + 64 - need) (B p)
+      pub cell : d ≡ cellWith (heights (H p + entered - need) (B p))
 
     -- the cell behind a token
     behind-cell : {p d q : ℕ} {u : Token} → Met rom (suc far) here p u → Holds rom (Claim.leads wide p u q) → unknownOf (b .kinds) u ≡ false
-        → d ≡ cellWith (H p + 64 - need) (B p)
-        → cellWith (heightAfter (effectOf (sumAt (b .sums)) u) d) (backAfter (effectOf (sumAt (b .sums)) u) d) ≡ cellWith (H q + 64 - need) (B q)
+        → d ≡ cellWith (heights (H p + entered - need) (B p))
+        → cellWith (heightsAfter (effectOf (sumAt (b .sums)) u) d) ≡ cellWith (heights (H q + entered - need) (B q))
     behind-cell {p} {d} {q} {u} m l v e =
         let y = limits rom fits a m in
         let w = need-low in
-        let h : heightIn d ≡ H p + 64 - need = ap heightIn e ∙ height-in (H p + 64 - need) (B p) (omega (arith, y .height)) in
-        let o : backIn d ≡ B p = ap backIn e ∙ back-in (H p + 64 - need) (B p) (omega (arith, y .height)) in
+        let h : heightIn d ≡ H p + entered - need = ap heightIn e ∙ height-in (H p + entered - need) (B p) (omega (arith, y .height)) in
+        let o : backIn d ≡ B p = ap backIn e ∙ back-in (H p + entered - need) (B p) (omega (arith, y .height)) in
         let z = a .flow m l in
-        let i : H p + 64 - need - effectOf (a .sum) u .takes + effectOf (a .sum) u .gives ≡ H q + 64 - need = omega (arith, y .takes, z .0) in
+        let i : H p + entered - need - effectOf (a .sum) u .takes + effectOf (a .sum) u .gives ≡ H q + entered - need = omega (arith, y .takes, z .0) in
         rw (effect-same rom fits a g u v, h, o, i, z .1)
 
     -- every place that it comes to is reachable, a token start, and has the assignment's heights, moved
@@ -194,7 +198,7 @@ module _ (rom : List ℕ) (fits : lengthOf rom ≤ 16384) (a : Assignment rom) {
     at-inside At.begins =
         let e = a .enter the-body in
         let w = need-low in
-        let h : 64 ≡ H (t .next) + 64 - need = omega (arith, e .0) in
+        let h : entered ≡ H (t .next) + entered - need = omega (arith, e .0) in
         record { reach = entry-met .1 .reach; start = Starts.entry; cell = rw (← h, e .1) }
     at-inside (At.on {p} {c = d} {q} i o w) =
         let y = at-inside i in
@@ -219,8 +223,8 @@ module _ (rom : List ℕ) (fits : lengthOf rom ≤ 16384) (a : Assignment rom) {
         let z = at-inside i in
         let w = need-low in
         let v = body-fine p u (z .start) (m .is) .0 in
-        let h : heightIn d ≡ H p + 64 - need = ap heightIn (z .cell) ∙ height-in (H p + 64 - need) (B p) (omega (arith, y .height)) in
-        let o : backIn d ≡ B p = ap backIn (z .cell) ∙ back-in (H p + 64 - need) (B p) (omega (arith, y .height)) in
+        let h : heightIn d ≡ H p + entered - need = ap heightIn (z .cell) ∙ height-in (H p + entered - need) (B p) (omega (arith, y .height)) in
+        let o : backIn d ≡ B p = ap backIn (z .cell) ∙ back-in (H p + entered - need) (B p) (omega (arith, y .height)) in
         let e = effect-same rom fits a g u v in
         record {
           is = m .is;
@@ -240,7 +244,7 @@ module _ (rom : List ℕ) (fits : lengthOf rom ≤ 16384) (a : Assignment rom) {
 
     module _ {m : Marked} (mk : MarksBody rom wide (b .kinds) (t .next) (ran rom b .seen) m) where
       -- there is no reason to refuse its walk
-      pub body-no-fails : Fails rom x (b .kinds) (b .sums) (t .next) (cellWith 64 0) (m .seen) → ⊥
+      pub body-no-fails : Fails rom x (b .kinds) (b .sums) (t .next) entryCell (m .seen) → ⊥
       body-no-fails (Fails.unfit i e) = let u = inside-met i in subst T (sym (fits-visit (inside-meets i (u .1))) ∙ e) tt
       body-no-fails (Fails.clash i j z) = z (at-inside i .cell ∙ sym (at-inside j .cell))
       body-no-fails (Fails.before i l) = let h = start-within rd (at-inside i .start) .low in omega arith
@@ -249,7 +253,7 @@ module _ (rom : List ℕ) (fits : lengthOf rom ≤ 16384) (a : Assignment rom) {
           not-good (u .1 .is) (none-starts rom (lengthOf rom) wide true p l)
       body-no-fails (Fails.barred {p} i z) = z (mk .starts (at-inside i .start) .2)
 
-      module _ {w : Path} (wk : Walked rom x (b .kinds) (b .sums) (t .next) (cellWith 64 0) (m .seen) w) where
+      module _ {w : Path} (wk : Walked rom x (b .kinds) (b .sums) (t .next) entryCell (m .seen) w) where
         -- ---- it comes to every reachable token of the body
         pub record Come (s : Setting) (p : ℕ) : Type 0 where
           pub setting : s ≡ here
@@ -263,7 +267,7 @@ module _ (rom : List ℕ) (fits : lengthOf rom ≤ 16384) (a : Assignment rom) {
             let z : d ≡ far = omega arith in
             let y = one-setting (subst (λ v. Reach rom 0 s v) z i) in
             let v : u ≡ t = one-good (subst (λ v. tokenAt rom 0 wide v ≡ Good u) z (subst (λ v. tokenAt rom 0 (v .wide) d ≡ Good u) y j)) (r .is) in
-            record { setting = y; cell = cellWith 64 0; at = subst (λ v. BodyAt (v .next) (cellWith 64 0)) (sym v) At.begins }
+            record { setting = y; cell = entryCell; at = subst (λ v. BodyAt (v .next) entryCell) (sym v) At.begins }
         every-at (Holds.next {x = o} {s = s} {p} {q} {t = u} i j l) e =
             let z = every-at i e in
             let y = z .setting in
@@ -284,7 +288,7 @@ module _ (rom : List ℕ) (fits : lengthOf rom ≤ 16384) (a : Assignment rom) {
         -- of a reachable token: its place is among those of the tally, with its heights; and what it does
         record Told (p : ℕ) (u : Token) : Type 0 where
           among : Amid p u
-          height : heightIn (cellAt p) ≡ H p + 64 - need
+          height : heightIn (cellAt p) ≡ H p + entered - need
           back : backIn (cellAt p) ≡ B p
           effect : effectOf (sumAt (b .sums)) u ≡ effectOf (a .sum) u
 
@@ -296,16 +300,16 @@ module _ (rom : List ℕ) (fits : lengthOf rom ≤ 16384) (a : Assignment rom) {
             let j : tokenAt rom 1 wide p ≡ Good u = subst (λ v. tokenAt rom 1 (v .wide) p ≡ Good u) (z .setting) (q .is) in
             let y = limits rom fits a q in
             let v = need-low in
-            let e : cellAt p ≡ cellWith (H p + 64 - need) (B p) = wk .marked (z .at) ∙ i .cell in
+            let e : cellAt p ≡ cellWith (heights (H p + entered - need) (B p)) = wk .marked (z .at) ∙ i .cell in
             let lo = mk .starts (i .start) in
             record {
               among = record {
                 low = lo .0;
                 high = omega (arith, lo .1);
-                visited = record { met = ap isMet e ∙ is-met (H p + 64 - need) (B p) (omega (arith, y .height)) (y .back); is = j };
+                visited = record { met = ap isMet e ∙ is-met (heights (H p + entered - need) (B p)) (omega (arith, y .height)) (y .back); is = j };
               };
-              height = ap heightIn e ∙ height-in (H p + 64 - need) (B p) (omega (arith, y .height));
-              back = ap backIn e ∙ back-in (H p + 64 - need) (B p) (omega (arith, y .height));
+              height = ap heightIn e ∙ height-in (H p + entered - need) (B p) (omega (arith, y .height));
+              back = ap backIn e ∙ back-in (H p + entered - need) (B p) (omega (arith, y .height));
               effect = effect-same rom fits a g u (body-fine p u (i .start) j .0);
             }
 
@@ -358,9 +362,9 @@ module _ (rom : List ℕ) (fits : lengthOf rom ≤ 16384) (a : Assignment rom) {
               (a .need the-body) (ty .need)
 
           -- the peak, as the body was entered at 64
-          peak-is : y .peak ≡ a .sum n .peak + (64 - need)
+          peak-is : y .peak ≡ a .sum n .peak + (entered - need)
           peak-is =
-              same-most (λ p u. max (H p) (H p - effectOf (a .sum) u .takes + effectOf (a .sum) u .rise)) (peakAt (b .sums)) (64 - need) (a .sum n .peak) (y .peak)
+              same-most (λ p u. max (H p) (H p - effectOf (a .sum) u .takes + effectOf (a .sum) u .rise)) (peakAt (b .sums)) (entered - need) (a .sum n .peak) (y .peak)
               (λ s p u q.
               let z = met-told q in
               let l = limits rom fits a q in
@@ -381,13 +385,13 @@ module _ (rom : List ℕ) (fits : lengthOf rom ≤ 16384) (a : Assignment rom) {
               (λ s p u q. let z = met-told q in rw (z .effect) (omega arith)) (a .frames the-body) (ty .frames)
 
           -- its ends have one height
-          end-height : {v : ℕ} → Leaving rom (lengthOf rom) wide (w .seen) (t .next) (suc (m .end)) v → v ≡ suc (a .sum n .out + 64 - need)
+          end-height : {v : ℕ} → Leaving rom (lengthOf rom) wide (w .seen) (t .next) (suc (m .end)) v → v ≡ suc (a .sum n .out + entered - need)
           end-height l =
               let q = among-met (l .among) in
               let z = met-told q .height in
               let h = a .ends the-body q (l .leaves) .0 in
               let e = l .is in
-              sym e ∙ ap suc (z ∙ ap (λ o. o + 64 - need) h)
+              sym e ∙ ap suc (z ∙ ap (λ o. o + entered - need) h)
 
           -- there is one
           some-end : y .out ≢ 0
@@ -396,7 +400,7 @@ module _ (rom : List ℕ) (fits : lengthOf rom ≤ 16384) (a : Assignment rom) {
               ty .ends .none e (met-told (o .3) .among) (o .4)
 
           -- so that the tally has that height
-          out-is : y .out ≡ suc (a .sum n .out + 64 - need)
+          out-is : y .out ≡ suc (a .sum n .out + entered - need)
           out-is = end-height (ty .ends .got some-end)
 
           -- the tally is the number's sum
@@ -418,10 +422,10 @@ module _ (rom : List ℕ) (fits : lengthOf rom ≤ 16384) (a : Assignment rom) {
               by false e = let d = ty .ends .clash e in absurd (d .differ (end-height (d .one) ∙ sym (end-height (d .other))))
 
           -- the peak is within the limit
-          peak-low : a .sum n .peak ≤ 64
+          peak-low : a .sum n .peak ≤ dataMost
           peak-low = by (ℕ-discrete (a .sum n .peak) 0)
             where
-              by : Dec (a .sum n .peak ≡ 0) → a .sum n .peak ≤ 64
+              by : Dec (a .sum n .peak ≡ 0) → a .sum n .peak ≤ dataMost
               by (yes e) = omega arith
               by (no e) =
                   let o = a .peak the-body .got e in
@@ -432,5 +436,5 @@ module _ (rom : List ℕ) (fits : lengthOf rom ≤ 16384) (a : Assignment rom) {
           pub tally-passes : passesOf y ≡ true
           unfolding passesOf
           tally-passes =
-              let l : y .peak + y .need ≤ 64 + 64 = (let v = need-low in omega (arith, peak-is, need-is, peak-low)) in
-              rw (ends-agree, ne-eqb (y .out) 0 some-end, is-true (leb (y .peak + y .need) (64 + 64)) (le→leb (y .peak + y .need) (64 + 64) l))
+              let l : y .peak + y .need ≤ bodyMost = (let v = need-low in omega (arith, peak-is, need-is, peak-low)) in
+              rw (ends-agree, ne-eqb (y .out) 0 some-end, is-true (leb (y .peak + y .need) bodyMost) (le→leb (y .peak + y .need) bodyMost l))

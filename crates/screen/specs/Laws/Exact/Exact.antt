@@ -14,7 +14,7 @@ use Rattle.cells.specs.Laws.Tests.{when-is, pick-is}
 use Rattle.rom.specs.Header.{lengthOf}
 use Rattle.rom.specs.Sizes.{romMost, nodesMost, numbersMost}
 use Rattle.tokens.specs.Family.{finish, always, choice, widen, leave, define, call, newDevice, finishDevice}
-use Rattle.tokens.specs.Table.{isProgram}
+use Rattle.tokens.specs.Table.{isProgram, programsMost}
 use Rattle.tokens.specs.Place.{readOf}
 use Rattle.tokens.specs.Body.{kindOf}
 use Rattle.tokens.specs.Laws.Tokens.{next-ahead, none-starts}
@@ -26,12 +26,11 @@ use Rattle.screen.specs.Rules.{Assignment}
 use Rattle.screen.specs.Laws.Rules.Tokens.{one-family, fixes-is, stops-quiet}
 use Rattle.screen.specs.Laws.Rules.Ways.{effect-own}
 use Rattle.screen.specs.Laws.Rules.Reach.{extends-ahead}
-use Rattle.screen.specs.Laws.Walk.Visits.{height-in, back-in}
 use Rattle.screen.specs.Laws.Walk.Walking.{At, Given, Walked, walk-good, walk-bad}
 use Rattle.screen.specs.Laws.Walk.Marking.{MarksBody, marks-good, marks-found}
 use Rattle.screen.specs.Laws.Walk.Tallying.{TallyIs, tally-is}
 use Rattle.screen.specs.Laws.Walk.Advancing.{settingOf}
-use Rattle.screen.specs.Laws.Found.Model.{Path, Board, RoundEnd, Marked, cellWith, heightIn, backIn, slot, sumAt, bodyText, stoodOn, isNew, sumTold, passesOf, roundRest, goOn}
+use Rattle.screen.specs.Laws.Found.Model.{Path, Board, RoundEnd, Marked, slot, sumAt, bodyText, stoodOn, isNew, sumTold, passesOf, roundRest, goOn}
 use Rattle.screen.specs.Laws.Found.Model.{startsOf, bodyWalked, bodyShifted, colonOf, defineOf, advanceOf, roundGood, roundsOf, lastOf}
 use Rattle.screen.specs.Laws.Walk.Rounds.{ran-size, ran-above, ran, farOf, left, OutAt, turnOf, Ran, Next, on}
 use Rattle.screen.specs.Laws.Walk.Boards.{BodyRan, Advanced, advanced, given-body}
@@ -43,8 +42,9 @@ use Rattle.screen.specs.Laws.Exact.Round.{not-good, limits, Floor, Agree
 use Rattle.screen.specs.Laws.Exact.Body.{far-token, body-fine, at-inside, body-no-fails, sum-is, tally-passes}
 use Rattle.screen.specs.declared.effect.Effect.{Effect}
 use Rattle.screen.specs.Laws.Found.Model.{Tally}
+use Rattle.screen.specs.Laws.Found.Cell.{height-in, back-in, cellWith, heightIn, backIn, heights, entryCell, entered}
 
-module _ (rom : List ℕ) (fits : lengthOf rom ≤ 16384) (a : Assignment rom) where
+module _ (rom : List ℕ) (fits : lengthOf rom ≤ romMost) (a : Assignment rom) where
   -- ---- the boards agree with the assignment
   -- the first
   pub agrees-first : Agrees rom fits a (start rom fits)
@@ -57,7 +57,7 @@ module _ (rom : List ℕ) (fits : lengthOf rom ≤ 16384) (a : Assignment rom) w
       }
     where
       none : (n : ℕ) → kindOf (start rom fits .kinds) n ≡ 0
-      none n = pick-is (λ k. k ≡ 0) (isProgram n) (getD (clear 2048) (slot n) 0) 0 (λ t. zeros 2048 (slot n)) (λ t. refl)
+      none n = pick-is (λ k. k ≡ 0) (isProgram n) (getD (clear programsMost) (slot n) 0) 0 (λ t. zeros programsMost (slot n)) (λ t. refl)
 
   -- what ends a round leaves the return height, and takes from the data height
   fixed-effect : {b : Board} (r : Ran rom b) → T (fixes (r .token)) → (e : Effect) → effectOf (a .sum) (r .token) ≡ e
@@ -93,7 +93,7 @@ module _ (rom : List ℕ) (fits : lengthOf rom ≤ 16384) (a : Assignment rom) w
       met : Met rom 0 (settingOf (b .stand)) (farOf rom b) (r .token)
       met = far-token rom fits a g r f
 
-      cell : b′ .stand .cell ≡ cellWith (a .height 0 (b′ .stand .start)) (a .back 0 (b′ .stand .start))
+      cell : b′ .stand .cell ≡ cellWith (heights (a .height 0 (b′ .stand .start)) (a .back 0 (b′ .stand .start)))
       cell =
           let p = farOf rom b in
           let e = r .walked .marked (r .walked .highest .1) ∙ at-here rom fits a g (r .walked .highest .1) .cell in
@@ -137,7 +137,7 @@ module _ (rom : List ℕ) (fits : lengthOf rom ≤ 16384) (a : Assignment rom) w
 
   -- ---- the heights that the model finds are the assignment's
   -- outside bodies
-  pub at-heights : {b : Board} {p c : ℕ} → Follows rom fits b → OutAt rom b p c → c ≡ cellWith (a .height 0 p) (a .back 0 p)
+  pub at-heights : {b : Board} {p c : ℕ} → Follows rom fits b → OutAt rom b p c → c ≡ cellWith (heights (a .height 0 p) (a .back 0 p))
   at-heights s i = at-here rom fits a (agrees s) i .cell
 
   -- in a body, as it was entered at 64
@@ -151,17 +151,13 @@ module _ (rom : List ℕ) (fits : lengthOf rom ≤ 16384) (a : Assignment rom) w
 
     -- its walk's cells are the heights, moved
     pub body-heights : {p d : ℕ}
-        → At rom (bodyText (lengthOf rom) (b .stand .wide) (r .token .next)) (b .kinds) (b .sums) (r .token .next) (cellWith 64 0) p d
-        → d ≡ cellWith (a .height (suc (farOf rom b)) p + 64 - a .sum (newNumber (r .token .operand)) .need) (a .back (suc (farOf rom b)) p)
+        → At rom (bodyText (lengthOf rom) (b .stand .wide) (r .token .next)) (b .kinds) (b .sums) (r .token .next) entryCell p d
+        → d ≡ cellWith (heights (a .height (suc (farOf rom b)) p + entered - a .sum (newNumber (r .token .operand)) .need) (a .back (suc (farOf rom b)) p))
     body-heights i = at-inside rom fits a (agrees s) r f c reads i .cell
 
     -- and its tally is its number's sum
     pub body-sum : sumTold (y .tally) ≡ a .sum (newNumber (r .token .operand))
     body-sum = sum-is rom fits a (agrees s) r f c reads (y .marked) (y .walked) (y .told)
-
-  -- what a board holds of a number is its sum
-  pub sum-heights : {b : Board} → Follows rom fits b → (n : ℕ) → kindOf (b .kinds) n ≢ 0 → sumAt (b .sums) n ≡ a .sum n
-  sum-heights s n h = agrees s .sums n h
 
   -- ---- a round that ends with such a token leads to the next
   module _ {b : Board} (g : Agrees rom fits a b) (r : Ran rom b) (f : T (fixes (r .token))) where
@@ -214,7 +210,7 @@ module _ (rom : List ℕ) (fits : lengthOf rom ≤ 16384) (a : Assignment rom) w
           (has-room (lengthOf rom) fits (ran-size rom (ready rom fits (g .follows)) r) .0) marks-pass
 
       -- what its walk asks is given
-      given : Given rom (bodyText (lengthOf rom) wide (t .next)) (b .kinds) (b .sums) (t .next) (cellWith 64 0) (marksB wide .seen)
+      given : Given rom (bodyText (lengthOf rom) wide (t .next)) (b .kinds) (b .sums) (t .next) entryCell (marksB wide .seen)
       given = given-body rom fits b (ready rom fits (g .follows)) r f wide marks-pass
 
       -- its walk is good
@@ -226,13 +222,13 @@ module _ (rom : List ℕ) (fits : lengthOf rom ≤ 16384) (a : Assignment rom) w
           by true e = refl
           by false e =
               absurd (body-no-fails rom fits a g r f c (the-end .1) marked
-              (walk-bad rom (bodyText (lengthOf rom) wide (t .next)) (b .kinds) (b .sums) (t .next) (cellWith 64 0) given e))
+              (walk-bad rom (bodyText (lengthOf rom) wide (t .next)) (b .kinds) (b .sums) (t .next) entryCell given e))
 
       -- and has come to every place that it can come to
-      walked : Walked rom (bodyText (lengthOf rom) wide (t .next)) (b .kinds) (b .sums) (t .next) (cellWith 64 0) (marksB wide .seen) (pathB wide)
+      walked : Walked rom (bodyText (lengthOf rom) wide (t .next)) (b .kinds) (b .sums) (t .next) entryCell (marksB wide .seen) (pathB wide)
       unfolding bodyWalked
       walked =
-          walk-good rom (bodyText (lengthOf rom) wide (t .next)) (b .kinds) (b .sums) (t .next) (cellWith 64 0) given path-passes
+          walk-good rom (bodyText (lengthOf rom) wide (t .next)) (b .kinds) (b .sums) (t .next) entryCell given path-passes
 
       -- its tally is what the places ask for
       told : TallyIs rom (lengthOf rom) wide (b .sums) (pathB wide .seen) (t .next) (marksB wide .end) (tallyB wide)
@@ -355,6 +351,6 @@ module _ (rom : List ℕ) (fits : lengthOf rom ≤ 16384) (a : Assignment rom) w
       (λ i. absurd (T-not (roundGood rom (lengthOf rom) b (ran rom b)) i (holds (roundGood rom (lengthOf rom) b (ran rom b)) (round-good rom fits a g))))
 
 -- an assignment makes the model pass
-pub exact : (rom : List ℕ) → lengthOf rom ≤ 16384 → Assignment rom → lastOf rom .good ≡ true
+pub exact : (rom : List ℕ) → lengthOf rom ≤ romMost → Assignment rom → lastOf rom .good ≡ true
 unfolding lastOf
 exact rom fits a = rounds-good rom fits a romMost (start rom fits) (agrees-first rom fits a) (omega arith)

@@ -14,10 +14,10 @@ use Rattle.cells.specs.Laws.Facts.{when-true, when-false}
 use mathlib.Core.Option.{none, some}
 use lib.Seq.{ext-getD}
 use Rattle.rom.specs.Header.{lengthOf, headerOf}
-use Rattle.rom.specs.Sizes.{romMost, marksSize}
+use Rattle.rom.specs.Sizes.{romMost, marksSize, dataMost}
 use Rattle.screen.specs.Reach.{Setting, Reach}
 use Rattle.screen.specs.Rules.{Assignment}
-use Rattle.screen.specs.Laws.Found.Model.{Board, cellWith, markIn, roomOf, lastOf, laidOf, screenOf}
+use Rattle.screen.specs.Laws.Found.Model.{Board, roomOf, lastOf, laidOf, screenOf}
 use Rattle.screen.specs.Laws.Found.Screen.{Screened, screened, verdictOn, judgedOf, screenedOf}
 use Rattle.screen.specs.Laws.Found.Room.{room-most, zeros}
 use Rattle.screen.specs.Laws.Found.Laid.{header-length, laid-size, laid-at}
@@ -31,8 +31,9 @@ use Rattle.screen.specs.Laws.Exact.Exact.{exact}
 use Rattle.screen.specs.Laws.Exact.Agree.{last-is, Reached, only-reached}
 use Rattle.screen.specs.declared.screening.Verdict.{Verdict}
 use Rattle.screen.specs.declared.screening.Verdict.the-variants.{Refused}
+use Rattle.screen.specs.Laws.Found.Cell.{cellWith, markIn, heights, Heights, same-heights, cell-mark, mark-none}
 
-module _ (rom : List ℕ) (fits : lengthOf rom ≤ 16384) where
+module _ (rom : List ℕ) (fits : lengthOf rom ≤ romMost) where
   -- the rounds of a model that passes
   passed : lastOf rom .good ≡ true → Chain rom (start rom fits) (lastOf rom .board)
   unfolding lastOf
@@ -43,16 +44,17 @@ module _ (rom : List ℕ) (fits : lengthOf rom ≤ 16384) where
   passes-exactly = (λ g. accept rom fits (passed g), λ a. exact rom fits a)
 
   -- ---- two assignments agree
-  tall : (a : Assignment rom) {x p : ℕ} {s : Setting} → Reach rom x s p → a .height x p ≤ 64
+  tall : (a : Assignment rom) {x p : ℕ} {s : Setting} → Reach rom x s p → a .height x p ≤ dataMost
   tall a r = let t = a .whole r in a .dataLimit (record { reach = r; is = t .1 }) .0
 
   pub agree : (a b : Assignment rom) {x p : ℕ} {s : Setting} → Reach rom x s p → (a .height x p ≡ b .height x p) × (a .back x p ≡ b .back x p)
   agree a b {x} {p} r =
       let c = passed (exact rom fits a) in
-      let e : cellWith (a .height x p) (a .back x p) ≡ cellWith (b .height x p) (b .back x p) = sym (last-is rom fits c a r) ∙ last-is rom fits c b r in
+      let e : cellWith (heights (a .height x p) (a .back x p)) ≡ cellWith (heights (b .height x p) (b .back x p)) = sym (last-is rom fits c a r) ∙ last-is rom fits c b r in
       let l = tall a r in
       let m = tall b r in
-      (omega arith, omega arith)
+      let h = same-heights _ _ (omega arith) (omega arith) e in
+      (ap (λ (v : Heights). v .height) h, ap (λ (v : Heights). v .back) h)
 
   -- ---- the marks
   chain-size : {b f : Board} → Ready rom b → Chain rom b f → length (f .seen) ≡ roomOf (lengthOf rom)
@@ -77,16 +79,16 @@ module _ (rom : List ℕ) (fits : lengthOf rom ≤ 16384) where
       c : Chain rom (start rom fits) (lastOf rom .board)
       c = passed (exact rom fits a)
 
-      few : length (lastOf rom .board .seen) ≤ 16384
-      few = subst (λ n. n ≤ 16384) (sym (chain-size (first-ready rom fits) c)) (room-most (lengthOf rom))
+      few : length (lastOf rom .board .seen) ≤ marksSize
+      few = subst (λ n. n ≤ marksSize) (sym (chain-size (first-ready rom fits) c)) (room-most (lengthOf rom))
 
       there : {x p : ℕ} {s : Setting} → Reach rom x s p → markIn (getD (lastOf rom .board .seen) p 0) ≡ suc (a .height x p)
-      there {x} {p} r = let e = last-is rom fits c a r in let l = tall a r in omega arith
+      there {x} {p} r = let l = tall a r in ap markIn (last-is rom fits c a r) ∙ cell-mark _ (omega arith)
 
       nowhere : (p : ℕ) → ((x : ℕ) (s : Setting) → Reach rom x s p → ⊥) → getD (laidOf (lastOf rom .board .seen)) p 0 ≡ 0
       nowhere p n =
           elim (ℕ-discrete (getD (lastOf rom .board .seen) p 0) 0) [
-            | yes e ↦ laid-at (lastOf rom .board .seen) p ∙ ap markIn e
+            | yes e ↦ laid-at (lastOf rom .board .seen) p ∙ ap markIn e ∙ mark-none
             | no z ↦ let r = found (exact rom fits a) p z in absurd (n (r .text) (r .setting) (r .reach))
           ]
 
@@ -102,7 +104,7 @@ module _ (rom : List ℕ) (fits : lengthOf rom ≤ 16384) where
           elim (ℕ-discrete (getD (laidOf (lastOf rom .board .seen)) p 0) 0) [
             | yes e ↦ m .elsewhere p (λ x s r. absurd (let h = k .height r in omega arith)) ∙ sym e
             | no z ↦
-                let r = found (exact rom fits a) p (λ e. z (laid-at (lastOf rom .board .seen) p ∙ ap markIn e)) in
+                let r = found (exact rom fits a) p (λ e. z (laid-at (lastOf rom .board .seen) p ∙ ap markIn e ∙ mark-none)) in
                 m .height (r .reach) ∙ sym (k .height (r .reach))
           ]
 

@@ -10,6 +10,7 @@ use lib.Dec.{T, T-not}
 use lib.ListN.{getD}
 use Rattle.cells.specs.Laws.Facts.{holds, fails, is-false}
 use Rattle.rom.specs.Header.{lengthOf}
+use Rattle.rom.specs.Sizes.{romMost, dataMost, returnMost, framesMost}
 use Rattle.tokens.specs.Family.{define, call}
 use Rattle.tokens.specs.Decode.{isKind}
 use Rattle.tokens.specs.Body.{kindOf, unknownOf}
@@ -25,11 +26,12 @@ use Rattle.screen.specs.Rules.{Assignment, ownFrame}
 use Rattle.screen.specs.Laws.Rules.InForce.{fixed-read, fixing, reach-first, next-met, step-of, step-passes}
 use Rattle.screen.specs.Laws.Rules.Tokens.{after-same, leave-inside, heads}
 use Rattle.screen.specs.Laws.Rules.Ways.{effect-call, effect-own, unknown-call, call-known, assign-known, unnamed-known, GivesOn, gives-leads, define-fixes, colon-fixes}
-use Rattle.screen.specs.Laws.Walk.Visits.{height-in, back-in, Meets, Fits, visit-fits, fits-visit}
+use Rattle.screen.specs.Laws.Walk.Visits.{Meets, Fits, visit-fits, fits-visit}
 use Rattle.screen.specs.Laws.Walk.Walking.{At, Fails, Given, Walked, walk-good, walk-bad}
 use Rattle.screen.specs.Laws.Walk.Apart.{Overlap, apart-bad}
 use Rattle.screen.specs.Laws.Walk.Advancing.{settingOf}
-use Rattle.screen.specs.Laws.Found.Model.{Board, cellWith, heightIn, backIn, heightAfter, backAfter, sumAt, fixedIn, endIn, outsideText, apartOf, roundOf, roundGood}
+use Rattle.screen.specs.Laws.Found.Model.{Board, sumAt, fixedIn, endIn, outsideText, apartOf, roundOf, roundGood}
+use Rattle.screen.specs.Laws.Found.Model.{heightsAfter}
 use Rattle.screen.specs.Laws.Found.Room.{has-room}
 use Rattle.screen.specs.Laws.Walk.Rounds.{ran, farOf, OutAt, Ran, good-ran}
 use Rattle.screen.specs.Laws.Walk.Boards.{Advanced, advanced}
@@ -38,6 +40,7 @@ use Rattle.screen.specs.Laws.Accept.Roots.{LeadsTo, way-leads}
 use Rattle.screen.specs.Laws.Accept.Cover.{Follows, ready, rooted, Before, round-end, cover}
 use Rattle.screen.specs.declared.effect.Effect.{Effect}
 use Rattle.screen.specs.declared.walking.Text.{Text as Scope}
+use Rattle.screen.specs.Laws.Found.Cell.{height-in, back-in, cellWith, heightIn, backIn, heights, cell-some}
 
 -- ---- what tokens are
 -- a kind is not 0
@@ -58,18 +61,18 @@ known-by (Holds.named r i n x l) = named (record { reach = r; is = i }) n x l
 pub not-good : {r : Read} {t : Token} {why : ℕ} → r ≡ Good t → r ≡ Refused why → ⊥
 not-good e f = let z : zero ≡ 1 = cc (e, f) in omega arith
 
-module _ (rom : List ℕ) (fits : lengthOf rom ≤ 16384) (a : Assignment rom) where
+module _ (rom : List ℕ) (fits : lengthOf rom ≤ romMost) (a : Assignment rom) where
   -- ---- what the rules say of a reachable token's heights
   pub record Limits (x p : ℕ) (e : Effect) : Type 0 where
-    pub height : a .height x p ≤ 64
-    pub back : a .back x p ≤ 32
+    pub height : a .height x p ≤ dataMost
+    pub back : a .back x p ≤ returnMost
     pub takes : e .takes ≤ a .height x p
-    pub high : a .height x p - e .takes + e .gives ≤ 64
-    pub rise : a .height x p - e .takes + e .rise ≤ 64
+    pub high : a .height x p - e .takes + e .gives ≤ dataMost
+    pub rise : a .height x p - e .takes + e .rise ≤ dataMost
     pub returnTakes : e .«return_takes» ≤ a .back x p
-    pub returnHigh : a .back x p - e .«return_takes» + e .«return_gives» ≤ 32
-    pub returnRise : a .back x p + e .«return_rise» ≤ 32
-    pub frames : ownFrame x + e .frames ≤ 16
+    pub returnHigh : a .back x p - e .«return_takes» + e .«return_gives» ≤ returnMost
+    pub returnRise : a .back x p + e .«return_rise» ≤ returnMost
+    pub frames : ownFrame x + e .frames ≤ framesMost
 
   -- they are within the limits, and so are those of its successors
   pub limits : {x p : ℕ} {s : Setting} {t : Token} → Met rom x s p t → Limits x p (effectOf (a .sum) t)
@@ -129,7 +132,7 @@ module _ (rom : List ℕ) (fits : lengthOf rom ≤ 16384) (a : Assignment rom) w
   -- ---- a board that agrees with the assignment
   pub record Agrees (b : Board) : Type 0 where
     pub follows : Follows rom fits b
-    pub cell : b .stand .cell ≡ cellWith (a .height 0 (b .stand .start)) (a .back 0 (b .stand .start))
+    pub cell : b .stand .cell ≡ cellWith (heights (a .height 0 (b .stand .start)) (a .back 0 (b .stand .start)))
     pub sums : (n : ℕ) → kindOf (b .kinds) n ≢ 0 → sumAt (b .sums) n ≡ a .sum n
     pub floor : Floor (b .stand .start)
 
@@ -203,12 +206,12 @@ module _ (rom : List ℕ) (fits : lengthOf rom ≤ 16384) (a : Assignment rom) w
     pub record Here (p c : ℕ) : Type 0 where
       pub reach : Reach rom 0 (settingOf (b .stand)) p
       pub above : b .stand .start ≤ p
-      pub cell : c ≡ cellWith (a .height 0 p) (a .back 0 p)
+      pub cell : c ≡ cellWith (heights (a .height 0 p) (a .back 0 p))
 
     -- the cell behind a token, where its own is a height's
     behind-cell : {p c q : ℕ} {t : Token} → Met rom 0 (settingOf (b .stand)) p t → Holds rom (Claim.leads (b .stand .wide) p t q) → unknownOf (b .kinds) t ≡ false
-        → c ≡ cellWith (a .height 0 p) (a .back 0 p)
-        → cellWith (heightAfter (effectOf (sumAt (b .sums)) t) c) (backAfter (effectOf (sumAt (b .sums)) t) c) ≡ cellWith (a .height 0 q) (a .back 0 q)
+        → c ≡ cellWith (heights (a .height 0 p) (a .back 0 p))
+        → cellWith (heightsAfter (effectOf (sumAt (b .sums)) t) c) ≡ cellWith (heights (a .height 0 q) (a .back 0 q))
     behind-cell {p} {c} {q} {t} m l u e =
         let y = limits m in
         let h : heightIn c ≡ a .height 0 p = ap heightIn e ∙ height-in (a .height 0 p) (a .back 0 p) (omega (arith, y .height)) in
@@ -307,12 +310,12 @@ module _ (rom : List ℕ) (fits : lengthOf rom ≤ 16384) (a : Assignment rom) w
     given =
         let y = ready rom fits (g .follows) in
         let h = has-room (lengthOf rom) fits (y .seen) in
-        let c = g .cell in
+        let c : b .stand .cell ≢ 0 = λ z. cell-some (heights (a .height 0 (b .stand .start)) (a .back 0 (b .stand .start))) (sym (g .cell) ∙ z) in
         record {
           room = h .0;
           few = h .1;
-          unlike = λ z. absurd (omega arith);
-          some = λ z. absurd (omega arith);
+          unlike = c;
+          some = c;
           fresh = λ p l h n. y .fresh p l;
         }
 

@@ -1,22 +1,23 @@
 -- The marks as they are laid out from the cells: one for each byte that a ROM can have. Assumes nothing.
 use Prim.Native.Nat.{ℕ, zero, suc, _-_, _≤_}
 use native.Mathlib.Omega.{arith}
-use mathlib.Core.Path.{_≡_, refl, _∙_}
+use mathlib.Core.Path.{_≡_, refl, _∙_, sym}
 use mathlib.Core.List.{List, [], _∷_, map, _++_}
 use lib.ListN.{length, getD, replicate, length-append, length-map, length-replicate}
 use Rattle.rom.specs.Header.{lengthOf, headerOf}
 use Rattle.rom.specs.Laws.Header.{header-facts}
-use Rattle.rom.specs.Sizes.{marksSize}
-use Rattle.screen.specs.Laws.Found.Model.{markIn, laidOf}
+use Rattle.rom.specs.Sizes.{marksSize, romMost}
+use Rattle.screen.specs.Laws.Found.Model.{laidOf}
 use Rattle.screen.specs.Laws.Found.Room.{zeros}
+use Rattle.screen.specs.Laws.Found.Cell.{markIn, mark-none}
 
 -- a good header leaves a program of 16,384 bytes at most
-pub header-length : (rom : List ℕ) → headerOf rom ≡ 0 → lengthOf rom ≤ 16384
+pub header-length : (rom : List ℕ) → headerOf rom ≡ 0 → lengthOf rom ≤ romMost
 header-length rom e = let h = header-facts rom e in let a = h .most in let b = h .romTo in omega arith
 
 -- a mark is its cell's
 pub mark-of : (l : List ℕ) (k : ℕ) → getD (map markIn l) k 0 ≡ markIn (getD l k 0)
-mark-of [] k = refl
+mark-of [] k = sym mark-none
 mark-of (x ∷ xs) zero = refl
 mark-of (x ∷ xs) (suc k) = mark-of xs k
 

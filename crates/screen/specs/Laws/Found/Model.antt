@@ -5,7 +5,7 @@
 -- is a row of rounds: each starts behind such a token, or at place 8, stays at or above its start, and comes to no other such token than
 -- the one that ends it, which is the highest place that it comes to. Numbers, width, nodes and open children are the same for the whole of
 -- a round. A body is walked once, when its b(:) ends a round.
-use Prim.Native.Nat.{ℕ, zero, suc, _+_, _-_, _*_, _/_, _%_, max}
+use Prim.Native.Nat.{ℕ, zero, suc, _+_, _-_, max}
 use mathlib.Core.Bool.{Bool, true, false, not, _&&_, _||_}
 use mathlib.Core.List.{List, [], _∷_, map, _++_}
 use mathlib.Core.Option.{Option, none, some}
@@ -16,6 +16,7 @@ use Rattle.rom.specs.Sizes.{firstPlace, dataMost, returnMost, framesMost, numbe
 use Rattle.rom.specs.Header.{lengthOf, wideOf}
 use Rattle.rom.specs.declared.branch.Aim.the-variants.{Inside, Outside}
 use Rattle.tokens.specs.Family.{finish, always, choice, widen, leave, define, newDevice}
+use Rattle.tokens.specs.Table.{firstProgram, programsMost}
 use Rattle.tokens.specs.Place.{readOf}
 use Rattle.tokens.specs.Body.{kindOf, unknownOf}
 use Rattle.tokens.specs.Definition.{newNumber, kindIn, takesHere}
@@ -29,42 +30,13 @@ use Rattle.screen.specs.declared.effect.Sum.{Sum}
 use Rattle.screen.specs.declared.effect.Effect.{Effect}
 use Rattle.screen.specs.declared.walking.Text.{Text as Scope}
 use Rattle.screen.specs.declared.rounds.Stand.{Stand}
+use Rattle.screen.specs.Laws.Found.Cell.{Heights, heights, cellWith, heightIn, backIn, unmet, isMet, markIn, movedCell, entered, bodyMost, entryCell, firstCell}
+use Rattle.screen.specs.Laws.Found.Sums.{packedSum, unpackedSum}
 
--- ---- a place's cell: 0 where no token was met, else one more than the data height, and 256 times the return height. Its low byte is the mark.
-abbrev pub cellWith : ℕ → ℕ → ℕ
-cellWith height back = suc height + 256 * back
-
-abbrev pub heightIn : ℕ → ℕ
-heightIn cell = cell % 256 - 1
-
-abbrev pub backIn : ℕ → ℕ
-backIn cell = cell / 256
-
--- a token start of a body that is being walked, not met so far
-abbrev pub unmet : ℕ
-unmet = 0x8000
-
--- a body is walked from 64, so that it can reach as far down and rise as high as any can that is entered at its need
-abbrev pub entered : ℕ
-entered = 64
-
--- ---- the sum of a number as one number: five pairs of hexadecimal digits
-abbrev pub packedSum : Sum → ℕ
-packedSum s = s .need * 0x1_0000_0000 + s .out * 0x100_0000 + s .peak * 0x1_0000 + s .«return_peak» * 0x100 + s .frames
-
-abbrev pub unpackedSum : ℕ → Sum
-unpackedSum code =
-    record {
-      need = code / 0x1_0000_0000 % 256;
-      out = code / 0x100_0000 % 256;
-      peak = code / 0x1_0000 % 256;
-      «return_peak» = code / 0x100 % 256;
-      frames = code % 256;
-    }
-
+-- ---- the tables of numbers
 -- a number's place in the tables of numbers
 abbrev pub slot : ℕ → ℕ
-slot n = n - 0x800
+slot n = n - firstProgram
 
 unfoldable pub sumAt : List ℕ → ℕ → Sum
 sumAt sums n = unpackedSum (getD sums (slot n) 0)
@@ -74,7 +46,7 @@ abbrev pub blankOf : Bool → ℕ
 blankOf within = pick within unmet 0
 
 abbrev pub capOf : Bool → ℕ
-capOf within = pick within 128 dataMost
+capOf within = pick within bodyMost dataMost
 
 abbrev pub ownOf : Bool → ℕ
 ownOf within = pick within 1 0
@@ -86,6 +58,9 @@ heightAfter e cell = heightIn cell - e .takes + e .gives
 
 abbrev pub backAfter : Effect → ℕ → ℕ
 backAfter e cell = backIn cell - e .«return_takes» + e .«return_gives»
+
+abbrev pub heightsAfter : Effect → ℕ → Heights
+heightsAfter e cell = heights (heightAfter e cell) (backAfter e cell)
 
 -- the heights are there, and they stay within the limits
 unfoldable pub fitsOf : Bool → Effect → ℕ → Bool
@@ -142,7 +117,7 @@ tokenVisit x kinds sums cell t =
     elim (soundOf x kinds t cell && fitsOf (x .within) (effectOf (sumAt sums) t) cell) [
       | true ↦ record {
         good = true;
-        cell = cellWith (heightAfter (effectOf (sumAt sums) t) cell) (backAfter (effectOf (sumAt sums) t) cell);
+        cell = cellWith (heightsAfter (effectOf (sumAt sums) t) cell);
         next = nextOn t;
         aim = branchIn t;
       }
@@ -331,10 +306,6 @@ startsOf rom length wide kinds zero p seen = marked false p seen
 startsOf rom length wide kinds (suc k) p seen =
     startIn kinds seen p (λ q m. startsOf rom length wide kinds k q m) (readOf rom length wide true p)
 
--- a place's cell is that of a reachable token of the body
-abbrev pub isMet : ℕ → Bool
-isMet cell = not (eqb cell 0) && not (eqb cell unmet)
-
 -- the sum of a body that was entered at 64, as it is where it is entered at its need
 abbrev pub sumTold : Tally → Sum
 sumTold a =
@@ -347,11 +318,11 @@ sumTold a =
     }
 
 unfoldable pub passesOf : Tally → Bool
-passesOf a = a .good && not (eqb (a .out) 0) && leb (a .peak + a .need) (entered + dataMost)
+passesOf a = a .good && not (eqb (a .out) 0) && leb (a .peak + a .need) bodyMost
 
 -- the heights, as they are where the body is entered at its need; what was not met has none
 abbrev pub shiftedCell : ℕ → ℕ → ℕ
-shiftedCell need cell = elim (isMet cell) [ true ↦ cell + need - entered | false ↦ 0 ]
+shiftedCell need cell = elim (isMet cell) [ true ↦ movedCell need entered cell | false ↦ 0 ]
 
 unfoldable pub shiftOf : ℕ → ℕ → ℕ → List ℕ → List ℕ
 shiftOf need zero p seen = seen
@@ -387,7 +358,7 @@ abbrev pub stoodOn : Stand → Token → ℕ → Stand
 stoodOn s t cell =
     record {
       start = t .next;
-      cell = cellWith (heightIn cell - takesHere t) (backIn cell);
+      cell = cellWith (heights (heightIn cell - takesHere t) (backIn cell));
       wide = isA widen t || s .wide;
       children = s .children;
       nodes = s .nodes;
@@ -424,7 +395,7 @@ places entry end = suc end - entry
 unfoldable pub bodyWalked : List ℕ → ℕ → Bool → Board → ℕ → Marked → Path
 unfolding walkAll
 bodyWalked rom length wide b entry m =
-    walkAll rom (bodyText length wide entry) (b .kinds) (b .sums) (m .seen) entry (cellWith entered 0)
+    walkAll rom (bodyText length wide entry) (b .kinds) (b .sums) (m .seen) entry entryCell
 
 unfoldable pub bodyShifted : Board → Stand → ℕ → ℕ → ℕ → Path → Tally → RoundEnd
 unfolding shiftOf passesOf
@@ -519,21 +490,18 @@ roundsOf rom length (suc k) b =
 
 -- ---- the whole
 abbrev pub firstStand : Bool → Stand
-firstStand wide = record { start = firstPlace; cell = cellWith 0 0; wide = wide; children = 0; nodes = 2; count = 0 }
+firstStand wide = record { start = firstPlace; cell = firstCell; wide = wide; children = 0; nodes = 2; count = 0 }
 
 -- how many cells there are for a program of a length: a small one does not pay for what a large one needs
 abbrev pub roomOf : ℕ → ℕ
 roomOf n = pick (leb n 256) 256 (pick (leb n 1024) 1024 (pick (leb n 4096) 4096 romMost))
 
 abbrev pub firstBoard : ℕ → Bool → Board
-firstBoard room wide = board (replicate room 0) (replicate 2048 0) (replicate 2048 0) (firstStand wide)
+firstBoard room wide = board (replicate room 0) (replicate programsMost 0) (replicate programsMost 0) (firstStand wide)
 
 unfoldable pub lastOf : List ℕ → RoundEnd
 unfolding roundsOf
 lastOf rom = roundsOf rom (lengthOf rom) romMost (firstBoard (roomOf (lengthOf rom)) (wideOf rom))
-
-abbrev pub markIn : ℕ → ℕ
-markIn cell = cell % 256
 
 -- behind the last cell there are none
 unfoldable pub laidOf : List ℕ → List ℕ

@@ -10,7 +10,7 @@ use Rattle.rom.specs.Sizes.{romMost}
 use Rattle.screen.specs.Laws.Found.Model.{roomOf}
 
 -- every place of a program has one
-pub room-fits : (n : ℕ) → n ≤ 16384 → n ≤ roomOf n
+pub room-fits : (n : ℕ) → n ≤ romMost → n ≤ roomOf n
 room-fits n l =
     pick-is (λ k. n ≤ k) (leb n 256) 256 _ (λ t. leb→le n 256 t)
     (λ t.
@@ -18,16 +18,16 @@ room-fits n l =
     (λ u. pick-is (λ k. n ≤ k) (leb n 4096) 4096 romMost (λ v. leb→le n 4096 v) (λ v. l)))
 
 -- and there are never more than for the longest
-pub room-most : (n : ℕ) → roomOf n ≤ 16384
+pub room-most : (n : ℕ) → roomOf n ≤ romMost
 room-most n =
-    pick-is (λ k. k ≤ 16384) (leb n 256) 256 _ (λ t. omega arith)
+    pick-is (λ k. k ≤ romMost) (leb n 256) 256 _ (λ t. omega arith)
     (λ t.
-    pick-is (λ k. k ≤ 16384) (leb n 1024) 1024 _ (λ u. omega arith)
-    (λ u. pick-is (λ k. k ≤ 16384) (leb n 4096) 4096 romMost (λ v. omega arith) (λ v. omega arith)))
+    pick-is (λ k. k ≤ romMost) (leb n 1024) 1024 _ (λ u. omega arith)
+    (λ u. pick-is (λ k. k ≤ romMost) (leb n 4096) 4096 romMost (λ v. omega arith) (λ v. omega arith)))
 
 -- so that as many cells are enough for the program, and a walk over them ends
-pub has-room : (n : ℕ) → n ≤ 16384 → {k : ℕ} → k ≡ roomOf n → (n ≤ k) × (k ≤ 16384)
-has-room n l e = (subst (λ m. n ≤ m) (sym e) (room-fits n l), subst (λ m. m ≤ 16384) (sym e) (room-most n))
+pub has-room : (n : ℕ) → n ≤ romMost → {k : ℕ} → k ≡ roomOf n → (n ≤ k) × (k ≤ romMost)
+has-room n l e = (subst (λ m. n ≤ m) (sym e) (room-fits n l), subst (λ m. m ≤ romMost) (sym e) (room-most n))
 
 -- ---- before it starts they are 0
 abbrev pub clear : ℕ → List ℕ

@@ -1,27 +1,25 @@
 -- What is known of a token that was read, by what the token list says of its family.
 -- Assumes nothing.
 use Prim.Native.Nat.{ℕ, _<_, _≤_}
-use native.Mathlib.Omega.{arith}
 use mathlib.Core.Path.{_≡_, refl, sym, _∙_, subst}
 use mathlib.Core.Bool.{Bool, true, false, not, _&&_, _||_}
-use mathlib.Core.List.{List, [], _∷_}
+use mathlib.Core.List.{List, []}
 use mathlib.Core.Logic.{_≢_}
-use lib.Dec.{T, eqb, eqb→eq, T-not}
+use lib.Dec.{T, eqb, eqb→eq}
 use borrow.Author.Tests.{ne-eqb}
-use Rattle.cells.specs.Choice.{find}
-use Rattle.cells.specs.Laws.Tests.{pick-is, neqb→ne}
+use Rattle.cells.specs.Laws.Tests.{neqb→ne}
 use Rattle.cells.specs.Laws.Facts.{both-hold, follows, fails, is-false, never-true, neither, either, denied}
 use Rattle.rom.specs.Branch.{aimOf}
 use Rattle.rom.specs.Laws.Branch.{AimFits, aim-fits}
 use Rattle.rom.specs.declared.branch.Aim.{Aim}
 use Rattle.rom.specs.declared.branch.Aim.the-variants.{Inside, Outside}
 use Rattle.tokens.specs.Family.{finish, always, choice, widen, leave, define, assign, call, newDevice, finishDevice}
-use Rattle.tokens.specs.Row.{Row, offset, head, namedHead, inside, outside}
-use Rattle.tokens.specs.Table.{ends, lows, highs, doubles, table, program, notListed, isProgram, rowOf}
-use Rattle.tokens.specs.Code.{packed, codeOf, familyIn, outOfPlaceIn, formIn, takesIn, givesIn, returnTakesIn, returnGivesIn}
+use Rattle.tokens.specs.Row.{offset, head, namedHead, inside, outside}
+use Rattle.tokens.specs.Table.{ends, lows, highs, doubles, table, isProgram, rowOf}
+use Rattle.tokens.specs.Code.{codeOf, familyIn, outOfPlaceIn, formIn, givesIn, returnTakesIn, returnGivesIn}
 use Rattle.tokens.specs.Decode.{behindNumber, numberOf, behindOf, operands, operandOf, formed, isKind, decodeOf}
 use Rattle.tokens.specs.Place.{misplacedOf, readOf}
-use Rattle.tokens.specs.Laws.Rows.{everyRow, code-fact}
+use Rattle.tokens.specs.Laws.Rows.{code-fact}
 use Rattle.tokens.specs.Laws.Tokens.{find-is}
 use Rattle.tokens.specs.Definition.{newNumber, kindIn}
 use Rattle.tokens.specs.declared.decoding.Operand.{Operand}
@@ -39,9 +37,6 @@ fixesCode c = eqb (familyIn c) define || eqb (familyIn c) widen || eqb (familyIn
 
 abbrev branchCode : ℕ → Bool
 branchCode c = eqb (familyIn c) always || eqb (familyIn c) choice
-
-abbrev endCode : ℕ → Bool
-endCode c = eqb (familyIn c) finish || eqb (familyIn c) leave || eqb (familyIn c) always
 
 abbrev stopCode : ℕ → Bool
 stopCode c = eqb (familyIn c) finish || eqb (familyIn c) leave || eqb (familyIn c) always || eqb (familyIn c) choice || fixesCode c
@@ -86,50 +81,9 @@ stops-fit : (n : ℕ) → T (stopFits (codeOf n))
 unfolding table ends lows highs doubles
 stops-fit n = code-fact stopFits tt tt tt n
 
--- what ends or always branches takes nothing
-abbrev endFits : ℕ → Bool
-endFits c = not (endCode c) || eqb (takesIn c) 0
-
-ends-fit : (n : ℕ) → T (endFits (codeOf n))
-unfolding table ends lows highs doubles
-ends-fit n = code-fact endFits tt tt tt n
-
--- only a program number's row is one of a call
-abbrev noCall : Row → Bool
-noCall r = not (eqb (familyIn (packed r)) call)
-
-found : (xs : List (ℕ × Row)) (d : Row) (n : ℕ) → T (everyRow (λ m r. noCall r) xs) → T (noCall d) → T (noCall (find xs d n))
-found [] d n h q = q
-found (x ∷ xs) d n h q =
-    let b = both-hold (noCall (x .1)) (everyRow (λ m r. noCall r) xs) h in
-    pick-is (λ r. T (noCall r)) (eqb n (x .0)) (x .1) (find xs d n) (λ i. b .0) (λ i. found xs d n (b .1) q)
-
-rows-call : (n : ℕ) → T (eqb (familyIn (codeOf n)) call) → T (isProgram n)
-unfolding codeOf rowOf table ends lows highs doubles
-rows-call n =
-    pick-is (λ r. T (eqb (familyIn (packed r)) call) → T (isProgram n)) (isProgram n) program (find table notListed n) (λ i c. i)
-    (λ i c. absurd (T-not (eqb (familyIn (packed (find table notListed n))) call) (found table notListed n tt tt) c))
-
 -- nothing is in no list
 pub none-in : {X : Type 0} {q : ℕ} → In q [] → X
 none-in = elim [ ]
-
--- ---- a code's parts are below 16
--- the cells that a token takes
-pub takes-small : (c : ℕ) → takesIn c < 16
-takes-small c = omega arith
-
--- those that it gives
-pub gives-small : (c : ℕ) → givesIn c < 16
-gives-small c = omega arith
-
--- those that it takes from the return stack
-pub return-takes-small : (c : ℕ) → returnTakesIn c < 16
-return-takes-small c = omega arith
-
--- and those that it gives to it
-pub return-gives-small : (c : ℕ) → returnGivesIn c < 16
-return-gives-small c = omega arith
 
 -- ---- families
 -- a token is of one family
@@ -264,15 +218,6 @@ module _ (rom : List ℕ) (len : ℕ) (wide within : Bool) (p : ℕ) (t : Token)
       let b = both-hold (eqb (givesIn c) 0) (eqb (returnGivesIn c) 0 && eqb (returnTakesIn c) 0) a in
       let d = both-hold (eqb (returnGivesIn c) 0) (eqb (returnTakesIn c) 0) (b .1) in
       (eqb→eq (givesIn c) 0 (b .0), eqb→eq (returnGivesIn c) 0 (d .0), eqb→eq (returnTakesIn c) 0 (d .1))
-
-  -- what ends or always branches takes nothing
-  pub ends-take : T (isA finish t || isA leave t || isA always t) → takesIn (t .code) ≡ 0
-  ends-take h = eqb→eq (takesIn (t .code)) 0 (follows (endCode (t .code)) (eqb (takesIn (t .code)) 0) (coded-so endFits ends-fit) h)
-
-  -- ---- calls
-  -- only program numbers are called
-  pub calls-program : T (isA call t) → T (isProgram (t .number))
-  calls-program h = rows-call (t .number) (rw (stands rom len wide within p t e .code) at h)
 
   -- ---- what has no offset reads the same with either width
   -- a token that is no branch

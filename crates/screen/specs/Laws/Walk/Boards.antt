@@ -13,9 +13,9 @@ use Rattle.cells.specs.Choice.{pick}
 use Rattle.cells.specs.Laws.Tests.{neqb→ne}
 use Rattle.cells.specs.Laws.Facts.{holds, fails, is-true, both-hold}
 use Rattle.rom.specs.Header.{lengthOf}
-use Rattle.rom.specs.Sizes.{nodesMost, numbersMost, romMost}
+use Rattle.rom.specs.Sizes.{nodesMost, numbersMost, romMost, dataMost, returnMost}
 use Rattle.tokens.specs.Family.{widen, define, call, newDevice, finishDevice}
-use Rattle.tokens.specs.Table.{isProgram}
+use Rattle.tokens.specs.Table.{isProgram, programsMost, firstProgram, lastProgram}
 use Rattle.tokens.specs.Body.{kindOf}
 use Rattle.tokens.specs.Laws.Tokens.{next-ahead}
 use Rattle.tokens.specs.Definition.{newNumber, kindIn, takesHere}
@@ -23,7 +23,7 @@ use Rattle.tokens.specs.declared.decoding.Token.{Token}
 use Rattle.screen.specs.Effect.{isA, fixes, isColon, valueSum}
 use Rattle.screen.specs.Reach.{after}
 use Rattle.screen.specs.Laws.Rules.Tokens.{one-family, fixes-is, heads}
-use Rattle.screen.specs.Laws.Found.Model.{Path, Board, Marked, cellWith, heightIn, backIn, slot, packedSum, unpackedSum, sumAt, isMet, unmet, passesOf, sumTold, bodyText, outsideText, places}
+use Rattle.screen.specs.Laws.Found.Model.{Path, Board, Marked, slot, sumAt, passesOf, sumTold, bodyText, outsideText, places}
 use Rattle.screen.specs.Laws.Found.Model.{startsOf, bodyWalked, shiftOf, roomOf, board, entryOf, onStand, withCount, stoodOn}
 use Rattle.screen.specs.Laws.Rules.Ways.{effect-own}
 use Rattle.screen.specs.Laws.Walk.Visits.{Meets, Fits, visit-fits}
@@ -38,6 +38,9 @@ use Rattle.screen.specs.declared.effect.Sum.{Sum}
 use Rattle.screen.specs.declared.walking.Text.{Text as Scope}
 use Rattle.screen.specs.declared.rounds.Stand.{Stand}
 use Rattle.screen.specs.Laws.Found.Model.{Tally}
+use Rattle.screen.specs.Laws.Found.Cell.{cellWith, heightIn, backIn, isMet, unmet, heights, entryCell, entered, cell-met, cell-some}
+use Rattle.screen.specs.Laws.Found.Cell.{bodyMost}
+use Rattle.screen.specs.Laws.Found.Sums.{packedSum, unpackedSum, SmallSum, unpacked-packed}
 
 -- ---- tables of numbers
 -- a number that is held is a program's
@@ -48,10 +51,10 @@ held-program kinds n h = by (isProgram n) h
     by true h = tt
     by false h = absurd (h refl)
 
-program-slot : (m : ℕ) → T (isProgram m) → (0x800 ≤ m) × (m ≤ 0xFFF)
-program-slot m t = let h = both-hold (leb 0x800 m) (leb m 0xFFF) t in (leb→le 0x800 m (h .0), leb→le m 0xFFF (h .1))
+program-slot : (m : ℕ) → T (isProgram m) → (firstProgram ≤ m) × (m ≤ lastProgram)
+program-slot m t = let h = both-hold (leb firstProgram m) (leb m lastProgram) t in (leb→le firstProgram m (h .0), leb→le m lastProgram (h .1))
 
-pub kind-same : (kinds : List ℕ) (n k : ℕ) → length kinds ≡ 2048 → T (isProgram n) → kindOf (set kinds (slot n) k) n ≡ k
+pub kind-same : (kinds : List ℕ) (n k : ℕ) → length kinds ≡ programsMost → T (isProgram n) → kindOf (set kinds (slot n) k) n ≡ k
 kind-same kinds n k l t =
     let s = program-slot n t in rw (is-true (isProgram n) t) (getD-set-same kinds (slot n) k 0 (omega arith))
 
@@ -72,22 +75,8 @@ pub sum-other : (sums : List ℕ) (n v m : ℕ) → T (isProgram n) → T (isPro
 unfolding sumAt
 sum-other sums n v m t s d = ap unpackedSum (getD-set-other sums (slot n) (slot m) v 0 (slots-differ m n s t d))
 
--- a sum whose parts are below 256 is what its code says
-pub record SmallSum (s : Sum) : Type 0 where
-  pub need : s .need < 256
-  pub out : s .out < 256
-  pub peak : s .peak < 256
-  pub back : s .«return_peak» < 256
-  pub frames : s .frames < 256
-
-pub unpacked-packed : (s : Sum) → SmallSum s → unpackedSum (packedSum s) ≡ s
-unpacked-packed s y = same (omega (arith, y)) (omega (arith, y)) (omega (arith, y)) (omega (arith, y)) (omega (arith, y))
-  where
-    same : {a b c d e : ℕ} → a ≡ s .need → b ≡ s .out → c ≡ s .peak → d ≡ s .«return_peak» → e ≡ s .frames
-        → record { need = a; out = b; peak = c; «return_peak» = d; frames = e } ≡ s
-    same f g h i j = rw (f, g, h, i, j)
-
-pub sum-same : (sums : List ℕ) (n : ℕ) (s : Sum) → length sums ≡ 2048 → T (isProgram n) → SmallSum s → sumAt (set sums (slot n) (packedSum s)) n ≡ s
+-- a sum is what the table has of it
+pub sum-same : (sums : List ℕ) (n : ℕ) (s : Sum) → length sums ≡ programsMost → T (isProgram n) → SmallSum s → sumAt (set sums (slot n) (packedSum s)) n ≡ s
 unfolding sumAt
 sum-same sums n s l t y =
     let u = program-slot n t in ap unpackedSum (getD-set-same sums (slot n) (packedSum s) 0 (omega arith)) ∙ unpacked-packed s y
@@ -99,7 +88,7 @@ pub record BodyRan (rom : List ℕ) (b : Board) (t : Token) (wide : Bool) (b′ 
   pub path : Path
   pub tally : Tally
   pub marked : MarksBody rom wide (b .kinds) (t .next) (b .seen) marks
-  pub walked : Walked rom (bodyText (lengthOf rom) wide (t .next)) (b .kinds) (b .sums) (t .next) (cellWith 64 0) (marks .seen) path
+  pub walked : Walked rom (bodyText (lengthOf rom) wide (t .next)) (b .kinds) (b .sums) (t .next) entryCell (marks .seen) path
   pub told : TallyIs rom (lengthOf rom) wide (b .sums) (path .seen) (t .next) (marks .end) tally
   pub passes : passesOf tally ≡ true
   pub shifted : Shifted (tally .need) (t .next) (marks .end) (path .seen) (b′ .seen)
@@ -109,7 +98,7 @@ pub record BodyRan (rom : List ℕ) (b : Board) (t : Token) (wide : Bool) (b′ 
 pub record Advanced (rom : List ℕ) (b : Board) (t : Token) (b′ : Board) : Type 0 where
   pub ready : Ready rom b′
   pub ahead : farOf rom b < b′ .stand .start
-  pub cell : b′ .stand .cell ≡ cellWith (heightIn (getD (ran rom b .seen) (farOf rom b) 0) - takesHere t) (backIn (getD (ran rom b .seen) (farOf rom b) 0))
+  pub cell : b′ .stand .cell ≡ cellWith (heights (heightIn (getD (ran rom b .seen) (farOf rom b) 0) - takesHere t) (backIn (getD (ran rom b .seen) (farOf rom b) 0)))
   pub setting : settingOf (b′ .stand) ≡ after t (settingOf (b .stand))
   pub seen : (p : ℕ) → p ≤ farOf rom b → getD (b′ .seen) p 0 ≡ getD (ran rom b .seen) p 0
   -- what was held is held
@@ -127,7 +116,7 @@ pub record Advanced (rom : List ℕ) (b : Board) (t : Token) (b′ : Board) : Ty
   pub body : T (isColon t) → BodyRan rom (left rom b) t (b .stand .wide) b′
 
 -- a defining token is of no other family
-module _ (rom : List ℕ) (fits : lengthOf rom ≤ 16384) (b : Board) (y : Ready rom b) (r : Ran rom b) (f : T (fixes (r .token))) where
+module _ (rom : List ℕ) (fits : lengthOf rom ≤ romMost) (b : Board) (y : Ready rom b) (r : Ran rom b) (f : T (fixes (r .token))) where
   abbrev t : Token
   t = r .token
 
@@ -150,16 +139,16 @@ module _ (rom : List ℕ) (fits : lengthOf rom ≤ 16384) (b : Board) (y : Ready
   not-call = fixes-is (λ k. eqb k call ≡ false) t refl refl refl refl f
 
   -- the heights behind it are within the limits
-  behind : Fair (cellWith (heightIn cell - takesHere t) (backIn cell))
+  behind : Fair (cellWith (heights (heightIn cell - takesHere t) (backIn cell)))
   behind = record { height = heightIn cell - takesHere t; back = backIn cell; is = refl; low = omega (arith, high); few = omega (arith, more) }
     where
       same : fitted .token ≡ t
       same = let e = fitted .meets .is in let g = r .is in cc (e, g)
 
-      high : heightIn cell - takesHere t + takesHere t ≤ 64
+      high : heightIn cell - takesHere t + takesHere t ≤ dataMost
       high = rw (same, effect-own (sumAt (b .sums)) t (fails (isA call t) not-call)) at (fitted .meets .rise)
 
-      more : backIn cell + 0 ≤ 32
+      more : backIn cell + 0 ≤ returnMost
       more = rw (same, effect-own (sumAt (b .sums)) t (fails (isA call t) not-call)) at (fitted .meets .returnRise)
 
   -- above the highest place of the round nothing is marked
@@ -182,7 +171,7 @@ module _ (rom : List ℕ) (fits : lengthOf rom ≤ 16384) (b : Board) (y : Ready
     tallyB = pathB .walk .tally
 
     abbrev BodyAt : ℕ → ℕ → Type 0
-    BodyAt p c = At rom (bodyText (lengthOf rom) wide (t .next)) (b .kinds) (b .sums) (t .next) (cellWith 64 0) p c
+    BodyAt p c = At rom (bodyText (lengthOf rom) wide (t .next)) (b .kinds) (b .sums) (t .next) entryCell p c
 
     module _ (g : marksB .good ≡ true) where
       marked-is : MarksBody rom wide (b .kinds) (t .next) (ran rom b .seen) marksB
@@ -196,14 +185,14 @@ module _ (rom : List ℕ) (fits : lengthOf rom ≤ 16384) (b : Board) (y : Ready
           by (start s e) = inl e
           by (other s e) = let n = ends in inr (e ∙ above p (omega arith))
 
-      pub given-body : Given rom (bodyText (lengthOf rom) wide (t .next)) (b .kinds) (b .sums) (t .next) (cellWith 64 0) (marksB .seen)
+      pub given-body : Given rom (bodyText (lengthOf rom) wide (t .next)) (b .kinds) (b .sums) (t .next) entryCell (marksB .seen)
       given-body =
           let h = has-room (lengthOf rom) fits (marked-is .size ∙ ran-size rom y r) in
           record {
             room = h .0;
             few = h .1;
-            unlike = λ e. absurd (omega arith);
-            some = λ e. absurd (omega arith);
+            unlike = cell-met (heights entered 0) (omega arith) (omega arith);
+            some = cell-some (heights entered 0);
             fresh = λ p l h n. by (cells p l) n;
           }
         where
@@ -212,9 +201,9 @@ module _ (rom : List ℕ) (fits : lengthOf rom ≤ 16384) (b : Board) (y : Ready
           by (inr e) n = e
 
       module _ (h : pathB .walk .good ≡ true) where
-        walked-is : Walked rom (bodyText (lengthOf rom) wide (t .next)) (b .kinds) (b .sums) (t .next) (cellWith 64 0) (marksB .seen) pathB
+        walked-is : Walked rom (bodyText (lengthOf rom) wide (t .next)) (b .kinds) (b .sums) (t .next) entryCell (marksB .seen) pathB
         unfolding bodyWalked
-        walked-is = walk-good rom (bodyText (lengthOf rom) wide (t .next)) (b .kinds) (b .sums) (t .next) (cellWith 64 0) given-body h
+        walked-is = walk-good rom (bodyText (lengthOf rom) wide (t .next)) (b .kinds) (b .sums) (t .next) entryCell given-body h
 
         told-is : TallyIs rom (lengthOf rom) wide (b .sums) (pathB .seen) (t .next) (marksB .end) tallyB
         told-is = let e = ends in tally-is marked-is (λ p l. above p (omega arith)) given-body walked-is
@@ -240,13 +229,13 @@ module _ (rom : List ℕ) (fits : lengthOf rom ≤ 16384) (b : Board) (y : Ready
         module _ (ok : passesOf tallyB ≡ true) where
           small-is : SmallSum (sumTold tallyB)
           unfolding passesOf
-          small-is = record { need = omega (arith, under); out = omega (arith, under, low); peak = omega (arith, under); back = few; frames = shallow }
+          small-is = record { need = omega (arith, under); out = omega (arith, under, low); peak = omega (arith, under); returnPeak = few; frames = shallow }
             where
-              tests-hold : T (tallyB .good && not (eqb (tallyB .out) 0)) × T (leb (tallyB .peak + tallyB .need) (64 + 64))
-              tests-hold = both-hold (tallyB .good && not (eqb (tallyB .out) 0)) (leb (tallyB .peak + tallyB .need) (64 + 64)) (holds (passesOf tallyB) ok)
+              tests-hold : T (tallyB .good && not (eqb (tallyB .out) 0)) × T (leb (tallyB .peak + tallyB .need) bodyMost)
+              tests-hold = both-hold (tallyB .good && not (eqb (tallyB .out) 0)) (leb (tallyB .peak + tallyB .need) bodyMost) (holds (passesOf tallyB) ok)
 
-              under : tallyB .peak + tallyB .need ≤ 128
-              under = leb→le (tallyB .peak + tallyB .need) (64 + 64) (tests-hold .1)
+              under : tallyB .peak + tallyB .need ≤ bodyMost
+              under = leb→le (tallyB .peak + tallyB .need) bodyMost (tests-hold .1)
 
               some : tallyB .out ≢ 0
               some = neqb→ne (tallyB .out) 0 (both-hold (tallyB .good) (not (eqb (tallyB .out) 0)) (tests-hold .0) .1)
@@ -298,7 +287,7 @@ module _ (rom : List ℕ) (fits : lengthOf rom ≤ 16384) (b : Board) (y : Ready
 
             by : (getD (pathB .seen) p 0 ≡ getD (marksB .seen) p 0) ⊎ BodyAt p (getD (pathB .seen) p 0) → getD (pathB .seen) p 0 ≡ 0
             by (inl e) = e ∙ plain
-            by (inr a) = let z : getD (marksB .seen) p 0 ≡ 0x8000 = walked-is .inside a .3 in absurd (omega (arith, plain, z))
+            by (inr a) = let z : getD (marksB .seen) p 0 ≡ unmet = walked-is .inside a .3 in absurd (omega (arith, plain, z))
 
         -- before it everything is as it was
         before-body : (p : ℕ) → p ≤ far → getD (pathB .seen) p 0 ≡ getD (ran rom b .seen) p 0
@@ -322,7 +311,7 @@ module _ (rom : List ℕ) (fits : lengthOf rom ≤ 16384) (b : Board) (y : Ready
   not-colon k i n c = clash k define i n (both-hold (isA define t) (eqb (kindIn (t .operand)) 0xB7) c .0)
 
   -- a token that defines nothing
-  plainly : (k : ℕ) → T (isA k t) → T (not (eqb k define)) → (s : Stand) → s .start ≡ t .next → s .cell ≡ cellWith (heightIn cell - takesHere t) (backIn cell)
+  plainly : (k : ℕ) → T (isA k t) → T (not (eqb k define)) → (s : Stand) → s .start ≡ t .next → s .cell ≡ cellWith (heights (heightIn cell - takesHere t) (backIn cell))
       → settingOf s ≡ after t (settingOf (b .stand)) → (T (isA newDevice t) → b .stand .nodes < nodesMost)
       → (T (isA finishDevice t) → b .stand .children ≢ 0) → Advanced rom b t (onStand (left rom b) s)
   plainly k i n s st ce se nd ch =
@@ -418,7 +407,7 @@ module _ (rom : List ℕ) (fits : lengthOf rom ≤ 16384) (b : Board) (y : Ready
   advanced-by (values d nc z l) =
       let e = ends in
       defines-number (ran rom b .seen) (kindIn (t .operand)) valueSum (t .next) d z l refl
-      (record { need = omega arith; out = omega arith; peak = omega arith; back = omega arith; frames = omega arith }) (ran-size rom y r)
+      (record { need = omega arith; out = omega arith; peak = omega arith; returnPeak = omega arith; frames = omega arith }) (ran-size rom y r)
       (omega arith) (λ p h. above p (omega arith)) (λ p h. refl) (λ c. refl) (λ c p h. above p h) (λ c. refl)
       (λ c. absurd (T-not (isColon t) nc c))
   advanced-by (bodies d c z l m a p) =
@@ -436,6 +425,6 @@ module _ (rom : List ℕ) (fits : lengthOf rom ≤ 16384) (b : Board) (y : Ready
       (λ g. in-width (wide-same d) (body-ran w m a p (stoodOn (b .stand) t cell) (number-is d)))
 
 -- what a round does to the board
-pub advanced : (rom : List ℕ) → lengthOf rom ≤ 16384 → {b b′ : Board} → Ready rom b → Next rom b b′ → (r : Ran rom b) × Advanced rom b (r .token) b′ × T (fixes (r .token))
+pub advanced : (rom : List ℕ) → lengthOf rom ≤ romMost → {b b′ : Board} → Ready rom b → Next rom b b′ → (r : Ran rom b) × Advanced rom b (r .token) b′ × T (fixes (r .token))
 advanced rom fits {b} y (on r f g) =
     (r, advanced-by rom fits b y r f (advance-did rom (lengthOf rom) (left rom b) (getD (ran rom b .seen) (farOf rom b) 0) (r .token) f g), f)

@@ -11,8 +11,10 @@ use lib.ListN.{getD, length-replicate}
 use Rattle.cells.specs.Laws.Tests.{when-is}
 use Rattle.cells.specs.Laws.Facts.{is-true, is-false}
 use Rattle.rom.specs.Header.{lengthOf, wideOf}
+use Rattle.rom.specs.Sizes.{romMost}
 use Rattle.tokens.specs.Place.{readOf}
 use Rattle.tokens.specs.Body.{kindOf}
+use Rattle.tokens.specs.Table.{programsMost}
 use Rattle.screen.specs.Effect.{fixes}
 use Rattle.screen.specs.Laws.Found.Model.{Board, RoundEnd, sumAt, roundEnd, roundRest, goOn, roundGood, roundsOf, roomOf, firstBoard}
 use Rattle.screen.specs.Laws.Found.Room.{zeros}
@@ -20,7 +22,7 @@ use Rattle.screen.specs.Laws.Walk.Rounds.{ran, farOf, left, turnOf, Read
 use Rattle.screen.specs.Laws.Walk.Boards.{advanced}
 use Rattle.screen.specs.Laws.Walk.Walking.{walked-below}
 
-module _ (rom : List ℕ) (fits : lengthOf rom ≤ 16384) where
+module _ (rom : List ℕ) (fits : lengthOf rom ≤ romMost) where
   -- ---- a run of the model that is good is a chain of rounds
   abbrev Chained : Board → RoundEnd → Type 0
   Chained b y = y .good ≡ true → Chain rom b (y .board)
@@ -52,8 +54,8 @@ module _ (rom : List ℕ) (fits : lengthOf rom ≤ 16384) where
   first-ready =
       record {
         seen = length-replicate {A = ℕ} (roomOf (lengthOf rom)) 0;
-        kinds = length-replicate {A = ℕ} 2048 0;
-        sums = length-replicate {A = ℕ} 2048 0;
+        kinds = length-replicate {A = ℕ} programsMost 0;
+        sums = length-replicate {A = ℕ} programsMost 0;
         fresh = λ p l. zeros (roomOf (lengthOf rom)) p;
         fair = record { height = 0; back = 0; is = refl; low = omega arith; few = omega arith };
       }

@@ -22,9 +22,10 @@ use Rattle.tokens.specs.declared.read.Read.the-variants.{Refused, Good}
 use Rattle.screen.specs.Effect.{astray}
 use Rattle.screen.specs.Reach.{tokenAt, Claim, Holds, Starts}
 use Rattle.screen.specs.Laws.Rules.Reach.{by-start, prepend}
-use Rattle.screen.specs.Laws.Found.Model.{Path, unmet, isMet, Marked, marked, startIn, startsOf}
+use Rattle.screen.specs.Laws.Found.Model.{Path, Marked, marked, startIn, startsOf}
 use Rattle.screen.specs.Laws.Walk.Walking.{At, Walked}
 use Rattle.screen.specs.declared.walking.Text.{Text as Scope}
+use Rattle.screen.specs.Laws.Found.Cell.{unmet, isMet}
 
 -- ---- what the pass finds
 -- a place is a start, and marked, or none, and as it was

@@ -2,7 +2,7 @@
 -- nothing.
 use Prim.Native.Nat.{ℕ, suc, _-_, _≤_, _<_}
 use native.Mathlib.Omega.{arith}
-use mathlib.Core.Path.{_≡_, _∙_}
+use mathlib.Core.Path.{_≡_, _∙_, sym}
 use mathlib.Core.Bool.{Bool, true, false, not}
 use mathlib.Core.List.{List}
 use mathlib.Core.Logic.{_≢_}
@@ -10,24 +10,27 @@ use lib.Dec.{T}
 use lib.ListN.{length, getD}
 use Rattle.cells.specs.Laws.Facts.{and-first, and-second}
 use Rattle.rom.specs.Header.{lengthOf}
+use Rattle.rom.specs.Sizes.{romMost, dataMost, returnMost}
 use Rattle.tokens.specs.Place.{readOf}
 use Rattle.tokens.specs.declared.decoding.Token.{Token}
 use Rattle.tokens.specs.declared.read.Read.the-variants.{Good}
+use Rattle.tokens.specs.Table.{programsMost}
 use Rattle.screen.specs.Effect.{fixes}
-use Rattle.screen.specs.Laws.Found.Model.{Path, Board, RoundEnd, cellWith, outsideText, onSeen, roundOf, roundGood, advanceOf, apartOf, roomOf}
+use Rattle.screen.specs.Laws.Found.Model.{Path, Board, RoundEnd, outsideText, onSeen, roundOf, roundGood, advanceOf, apartOf, roomOf}
 use Rattle.screen.specs.Laws.Walk.Visits.{Fits, visit-fits}
 use Rattle.screen.specs.Laws.Walk.Walking.{At, Given, Walked, at-real, walk-good, walked-above}
 use Rattle.screen.specs.Laws.Walk.Apart.{Apart, apart-good}
 use Rattle.screen.specs.Laws.Found.Room.{has-room}
 use Rattle.screen.specs.declared.walking.Text.{Text as Scope}
+use Rattle.screen.specs.Laws.Found.Cell.{cellWith, heights, cell-some}
 
 -- heights within the limits, as a cell
 pub record Fair (cell : ℕ) : Type 0 where
   pub height : ℕ
   pub back : ℕ
-  pub is : cell ≡ cellWith height back
-  pub low : height ≤ 64
-  pub few : back ≤ 32
+  pub is : cell ≡ cellWith (heights height back)
+  pub low : height ≤ dataMost
+  pub few : back ≤ returnMost
 
 module _ (rom : List ℕ) where
   -- a round's walk, the highest place that it comes to, what it leaves
@@ -49,8 +52,8 @@ module _ (rom : List ℕ) where
   -- what every round starts with
   pub record Ready (b : Board) : Type 0 where
     pub seen : length (b .seen) ≡ roomOf (lengthOf rom)
-    pub kinds : length (b .kinds) ≡ 2048
-    pub sums : length (b .sums) ≡ 2048
+    pub kinds : length (b .kinds) ≡ programsMost
+    pub sums : length (b .sums) ≡ programsMost
     pub fresh : (p : ℕ) → b .stand .start ≤ p → getD (b .seen) p 0 ≡ 0
     pub fair : Fair (b .stand .cell)
 
@@ -79,7 +82,7 @@ module _ (rom : List ℕ) where
     ends : {b : Board} → (r : Ran b) → T (not (fixes (r .token))) → Chain b (left b)
     goes : {b b′ f : Board} → Next b b′ → Chain b′ f → Chain b f
 
-  module _ (fits : lengthOf rom ≤ 16384) where
+  module _ (fits : lengthOf rom ≤ romMost) where
     pub good-ran : (b : Board) → Ready b → roundGood rom (lengthOf rom) b (ran b) ≡ true → Ran b
     unfolding roundOf
     good-ran b y e = record { walked = w; some = λ i. at-real rom x (b .kinds) (b .sums) (b .stand .start) (b .stand .cell) given i .0; apart = a; token = f .token; is = f .meets .is }
@@ -91,7 +94,7 @@ module _ (rom : List ℕ) where
         fair = y .fair
 
         positive : b .stand .cell ≢ 0
-        positive z = let i = fair .is in omega arith
+        positive z = cell-some (heights (fair .height) (fair .back)) (sym (fair .is) ∙ z)
 
         test : Bool
         test = apartOf rom x (ran b .seen) (farOf b) (suc (farOf b) - b .stand .start) (b .stand .start) 0

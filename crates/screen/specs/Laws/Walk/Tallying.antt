@@ -22,10 +22,11 @@ use Rattle.screen.specs.declared.walking.Text.{Text as Scope}
 use Rattle.screen.specs.Effect.{isA, effectOf}
 use Rattle.screen.specs.Reach.{In}
 use Rattle.screen.specs.Laws.Rules.Tokens.{none-in}
-use Rattle.screen.specs.Laws.Found.Model.{Path, Marked, heightIn, backIn, entered, unmet, sumAt, noTally, tallied, talliedIn, isMet, bodyText}
+use Rattle.screen.specs.Laws.Found.Model.{Path, Marked, sumAt, noTally, tallied, talliedIn, bodyText}
 use Rattle.screen.specs.Laws.Walk.Visits.{Fits, visit-fits}
 use Rattle.screen.specs.Laws.Walk.Walking.{in-parts, At, Told, untold, telling, Given, Walked, at-real}
 use Rattle.screen.specs.Laws.Walk.Marking.{MarksBody, marks-only, walked-met}
+use Rattle.screen.specs.Laws.Found.Cell.{heightIn, backIn, entered, unmet, isMet}
 
 -- a place of a body that was met, with its token
 pub record Visited (rom : List ℕ) (length : ℕ) (wide : Bool) (seen : List ℕ) (p : ℕ) (t : Token) : Type 0 where

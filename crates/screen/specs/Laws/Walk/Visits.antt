@@ -1,13 +1,12 @@
--- What a visit says of the token at a place, and what it takes for it to be good; where the walk goes on from there; and a place's cell.
+-- What a visit says of the token at a place, and what it takes for it to be good; and where the walk goes on from there.
 -- Assumes nothing.
 use Prim.Native.Nat.{ℕ, _+_, _-_, _≤_}
-use native.Mathlib.Omega.{arith}
 use mathlib.Core.Path.{_≡_, refl, sym, _∙_, ap, subst}
 use mathlib.Core.Bool.{Bool, true, false, not, _&&_, _||_}
 use mathlib.Core.List.{List, [], _∷_}
 use mathlib.Core.Logic.{_≢_}
 use lib.Dec.{T, leb, eqb, le→leb, eqb→eq, T-not}
-use borrow.Author.Tests.{ne-eqb, eq-eqb}
+use borrow.Author.Tests.{eq-eqb}
 use Rattle.cells.specs.Laws.Tests.{when-is}
 use Rattle.cells.specs.Laws.Facts.{holds, fails, is-true, is-false, both-hold, join-hold, four-hold, join-four, follows, when-true}
 use Rattle.cells.specs.Laws.Facts.{either, or-second}
@@ -25,34 +24,14 @@ use Rattle.tokens.specs.declared.read.Read.the-variants.{Refused, Good}
 use Rattle.screen.specs.Effect.{isA, allowed, fixes, isBranch, aims, noEffect, astray, bothWays, leadsOf, effectOf}
 use Rattle.screen.specs.Reach.{In, here, there}
 use Rattle.screen.specs.Laws.Code.Codes.{fits-known}
-use Rattle.screen.specs.Laws.Found.Model.{cellWith, heightIn, backIn, unmet, isMet, sumAt, capOf, ownOf, heightAfter, backAfter, fitsOf, soundOf}
+use Rattle.screen.specs.Laws.Found.Model.{sumAt, capOf, ownOf, heightAfter, backAfter, fitsOf, soundOf, heightsAfter}
 use Rattle.screen.specs.Laws.Found.Model.{aimOn, stops, nextOn, branchIn, badVisit, tokenVisit, readVisit, visitOf}
 use Rattle.screen.specs.Laws.Rules.Ways.{Ways, ending, jumping, choosing, skipping, fixing, falling, ways-of, colon-fixes, in-one, WaySplit, first, second, split, aimed-some, leads-ahead}
 use Rattle.screen.specs.Laws.Rules.Tokens.{none-in, fixes-no-branch}
 use Rattle.screen.specs.declared.effect.Effect.{Effect}
 use Rattle.screen.specs.declared.walking.Text.{Text as Scope}
 use Rattle.screen.specs.Laws.Found.Model.{Visit}
-
--- ---- a place's cell
--- its data height
-pub height-in : (k r : ℕ) → k ≤ 254 → heightIn (cellWith k r) ≡ k
-height-in k r h = omega arith
-
--- its return height
-pub back-in : (k r : ℕ) → k ≤ 254 → backIn (cellWith k r) ≡ r
-back-in k r h = omega arith
-
--- it is not the cell of a place where no token was met
-pub cell-some : (k r : ℕ) → cellWith k r ≢ 0
-cell-some k r = omega arith
-
--- nor that of a token start of a body which was not met
-pub cell-met : (k r : ℕ) → k ≤ 128 → r ≤ 32 → cellWith k r ≢ 0x8000
-cell-met k r h i = omega arith
-
--- so that the place was met
-pub is-met : (k r : ℕ) → k ≤ 128 → r ≤ 32 → isMet (cellWith k r) ≡ true
-is-met k r h i = rw (ne-eqb (cellWith k r) 0 (cell-some k r), ne-eqb (cellWith k r) unmet (cell-met k r h i))
+use Rattle.screen.specs.Laws.Found.Cell.{cellWith, heightIn, backIn}
 
 -- ---- tests
 -- one that holds where another does
@@ -174,7 +153,7 @@ pub record Meets (rom : List ℕ) (x : Scope) (kinds sums : List ℕ) (p c : ℕ
 pub record Fits (rom : List ℕ) (x : Scope) (kinds sums : List ℕ) (p c : ℕ) : Type 0 where
   pub token : Token
   pub meets : Meets rom x kinds sums p c token
-  pub cell : visitOf rom x kinds sums p c .cell ≡ cellWith (heightAfter (effectOf (sumAt sums) token) c) (backAfter (effectOf (sumAt sums) token) c)
+  pub cell : visitOf rom x kinds sums p c .cell ≡ cellWith (heightsAfter (effectOf (sumAt sums) token) c)
   pub next : visitOf rom x kinds sums p c .next ≡ nextOn token
   pub aim : visitOf rom x kinds sums p c .aim ≡ branchIn token
 
@@ -183,7 +162,7 @@ abbrev pub goodVisit : List ℕ → ℕ → Token → Visit
 goodVisit sums c t =
     record {
       good = true;
-      cell = cellWith (heightAfter (effectOf (sumAt sums) t) c) (backAfter (effectOf (sumAt sums) t) c);
+      cell = cellWith (heightsAfter (effectOf (sumAt sums) t) c);
       next = nextOn t;
       aim = branchIn t;
     }
@@ -246,7 +225,7 @@ module _ (rom : List ℕ) (x : Scope) (kinds sums : List ℕ) (p c : ℕ) where
           high = l .most;
           rise = l .rise;
           returnTakes = l .returnTakes;
-          returnHigh = l .returnMost;
+          returnHigh = l .returnHigh;
           returnRise = l .returnRise;
           frames = l .frames;
         }

@@ -1,7 +1,7 @@
 -- What a walk finds, in any text and with any tables: it is good exactly where each place that it comes to has one cell, meets its token's
 -- rules and lies where the text may have a token; then these places have their cells, its tally was told of each of them and of nothing
 -- else, and no other place has changed. Assumes nothing.
-use Prim.Native.Nat.{ℕ, zero, suc, _+_, _-_, _%_, _≤_, _<_, max}
+use Prim.Native.Nat.{ℕ, zero, suc, _+_, _-_, _≤_, _<_, max}
 use mathlib.Core.Path.{_≡_, refl, sym, ap, _∙_, subst}
 use mathlib.Core.Bool.{Bool, true, false, not, _&&_, _||_}
 use mathlib.Core.List.{List, [], _∷_}
@@ -24,39 +24,9 @@ use Rattle.screen.specs.declared.effect.Effect.{Effect}
 use Rattle.screen.specs.Laws.Found.Model.{Tally}
 use Rattle.screen.specs.declared.walking.Text.{Text as Scope}
 use Rattle.screen.specs.Laws.Found.Model.{Visit}
-use Rattle.screen.specs.Laws.Found.Model.{
-  Path,
-  path,
-  headIn,
-  restIn,
-  isSome,
-  topped,
-  waiting,
-  walking,
-  noTally,
-  toldIn,
-  setOut,
-  blankOf,
-  capOf,
-  cellWith,
-  heightIn,
-  heightAfter,
-  backAfter,
-  backIn,
-  ownOf,
-  sumAt,
-  soundOf,
-  fitsOf,
-  tokenVisit,
-  readVisit,
-  visitOf,
-  putVisit,
-  putsOf,
-  visitedOn,
-  walkStep,
-  walkSteps,
-  walkAll,
-}
+use Rattle.screen.specs.Laws.Found.Model.{Path, path, headIn, restIn, isSome, topped, waiting, walking, noTally, toldIn, setOut, blankOf, capOf, heightAfter, backAfter, ownOf, sumAt, soundOf, fitsOf, tokenVisit, readVisit, visitOf, putVisit, putsOf, visitedOn, walkStep, walkSteps, walkAll}
+use Rattle.screen.specs.Laws.Found.Cell.{cellWith, heightIn, backIn}
+use Rattle.screen.specs.Laws.Found.Cell.{Heights, markIn, bodyMost, cell-mark, mark-none, mark-unmet}
 
 -- ---- tests and lists
 -- where some wait, the first does
@@ -122,7 +92,7 @@ blanks-set b (y ∷ ys) zero v l e n = rw (same-one b y e, same-none b v n) (ome
 blanks-set b (y ∷ ys) (suc q) v l e n = rw (← blanks-set b ys q v (omega arith) e n) (omega arith)
 
 -- ---- a good visit's cell is a height's: neither 0 nor that of a token start not met
-cap-small : (within : Bool) → capOf within ≤ 128
+cap-small : (within : Bool) → capOf within ≤ bodyMost
 cap-small true = omega arith
 cap-small false = omega arith
 
@@ -134,7 +104,7 @@ second-of a b c d e f g t =
     (both-hold (a && b && c) d (both-hold (a && b && c && d) e (both-hold (a && b && c && d && e) f (both-hold (a && b && c && d && e && f) g t .0) .0) .0) .0) .0) .1
 
 -- nor is that behind a token which fits
-fits-small : (within : Bool) (e : Effect) (cell : ℕ) → T (fitsOf within e cell) → heightAfter e cell ≤ 128
+fits-small : (within : Bool) (e : Effect) (cell : ℕ) → T (fitsOf within e cell) → heightAfter e cell ≤ bodyMost
 unfolding fitsOf
 fits-small within e cell t =
     let h =
@@ -143,33 +113,33 @@ fits-small within e cell t =
     (leb (ownOf within + e .frames) framesMost) t in
     le-trans (leb→le (heightAfter e cell) (capOf within) h) (cap-small within)
 
--- a height's cell has a low byte, by which it is known
-cell-real : (height back : ℕ) → height ≤ 128 → cellWith height back % 256 ≢ 0
-cell-real height back l z = omega arith
+-- a height's cell has a mark, by which it is known
+cell-real : (h : Heights) → h .height ≤ bodyMost → markIn (cellWith h) ≢ 0
+cell-real h l z = let m = cell-mark h (omega arith) in omega arith
 
 -- so has the cell of a good visit, by what was read
 read-real : (x : Scope) (kinds sums : List ℕ) (cell : ℕ) (r : Read) → readVisit x kinds sums cell r .good ≡ true
-    → readVisit x kinds sums cell r .cell % 256 ≢ 0
+    → markIn (readVisit x kinds sums cell r .cell) ≢ 0
 unfolding tokenVisit
 read-real x kinds sums cell (Refused why) g = absurd (holds false g)
 read-real x kinds sums cell (Good t) g =
-    when-is (λ (v : Visit). v .good ≡ true → v .cell % 256 ≢ 0) (soundOf x kinds t cell && fitsOf (x .within) (effectOf (sumAt sums) t) cell) _ _
+    when-is (λ (v : Visit). v .good ≡ true → markIn (v .cell) ≢ 0) (soundOf x kinds t cell && fitsOf (x .within) (effectOf (sumAt sums) t) cell) _ _
     (λ h i.
-    cell-real _ _
+    cell-real _
     (fits-small (x .within) (effectOf (sumAt sums) t) cell
     (both-hold (soundOf x kinds t cell) (fitsOf (x .within) (effectOf (sumAt sums) t) cell) h .1)))
     (λ h i. absurd (holds false i)) g
 
 -- and by its place
 pub visit-real : (rom : List ℕ) (x : Scope) (kinds sums : List ℕ) (p c : ℕ) → visitOf rom x kinds sums p c .good ≡ true
-    → visitOf rom x kinds sums p c .cell % 256 ≢ 0
+    → markIn (visitOf rom x kinds sums p c .cell) ≢ 0
 unfolding visitOf
 visit-real rom x kinds sums p c = read-real x kinds sums c (readOf rom (x .length) (x .wide) (x .within) p)
 
 -- a blank cell has none
-blank-even : (within : Bool) → blankOf within % 256 ≡ 0
-blank-even true = refl
-blank-even false = refl
+pub blank-mark : (within : Bool) → markIn (blankOf within) ≡ 0
+blank-mark true = mark-unmet
+blank-mark false = mark-none
 
 -- ---- the walk
 abbrev Bad : Path → Type 0
@@ -233,7 +203,7 @@ module _ (rom : List ℕ) (x : Scope) (kinds sums : List ℕ) (start cell₀ : �
   -- what a walk asks: the text has room, there are turns enough, and above its low end its cells are blank or 0
   pub record Given (seen₀ : List ℕ) : Type 0 where
     pub room : x .length ≤ length seen₀
-    pub few : length seen₀ ≤ 16384
+    pub few : length seen₀ ≤ romMost
     pub unlike : cell₀ ≢ blankOf (x .within)
     pub some : cell₀ ≢ 0
     pub fresh : (p : ℕ) → x .low ≤ p → p < x .length → getD seen₀ p 0 ≢ blankOf (x .within) → getD seen₀ p 0 ≡ 0
@@ -352,7 +322,7 @@ module _ (rom : List ℕ) (x : Scope) (kinds sums : List ℕ) (start cell₀ : �
     at-real begins = (given .some, given .unlike)
     at-real (on {p} {c} a g w) =
         let n = visit-real rom x kinds sums p c g in
-        (λ z. n (rw z refl), λ z. n (rw z (blank-even (x .within))))
+        (λ z. n (rw z mark-none), λ z. n (rw z (blank-mark (x .within))))
 
     -- where it is blank: it has the cell, and waits
     module _ {a : Path} {q c : ℕ} (b : Base seen₀ a) (y : At q c) (l : x .low ≤ q) (h : q < x .length)
@@ -679,14 +649,6 @@ module _ (rom : List ℕ) (x : Scope) (kinds sums : List ℕ) (start cell₀ : �
     -- a walk that is not good has a reason
     pub walk-bad : walkAll rom x kinds sums seen₀ start cell₀ .walk .good ≡ false → Fails seen₀
     walk-bad g = elim from-is [ went v ↦ absurd (subst T (sym (v .inv .ok .good) ∙ g) tt) | lost e f ↦ f ]
-
-  -- where a walk leaves this, there is no reason to refuse it
-  pub walked-fits : {seen₀ : List ℕ} {a : Path} → Walked seen₀ a → Fails seen₀ → ⊥
-  walked-fits w (unfit y e) = subst T (sym (w .fine y) ∙ e) tt
-  walked-fits w (clash y z n) = n (sym (w .marked y) ∙ w .marked z)
-  walked-fits w (before y l) = omega (arith, w .inside y .0)
-  walked-fits w (behind y l) = omega (arith, w .inside y .1)
-  walked-fits w (barred y n) = n (w .inside y .3)
 
   -- above the highest place, and below the text, no cell has changed
   pub walked-above : {seen₀ : List ℕ} {a : Path} → Walked seen₀ a → (p : ℕ) → a .walk .far < p → getD (a .seen) p 0 ≡ getD seen₀ p 0
