@@ -84,8 +84,8 @@ Counted = (c : SeenRun) → RunEnds (c .opened .rom) (c .opened .workLent) (c .o
     × (c .ran .count ≤ c .budget)
 
 -- the data height before each of these tokens, by the screen's marks; as many calls are open as the state has frames
-abbrev pub Heights : Type 0
-Heights = (c : Opened) (n : ℕ) (open-calls : List OpenCall) (s : Scene) → TrailOf c n open-calls s
+abbrev pub HeightsByMarks : Type 0
+HeightsByMarks = (c : Opened) (n : ℕ) (open-calls : List OpenCall) (s : Scene) → TrailOf c n open-calls s
     → HeightIs (c .marks) (s .state) open-calls × (length open-calls ≡ s .state .calls .count)
 
 -- what a run leaves for the next

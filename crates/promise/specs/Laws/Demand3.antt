@@ -22,7 +22,7 @@ use Rattle.state.specs.declared.answer.Answer.the-variants.{Going, Finished, Re
 use Rattle.promise.specs.Trail.{Allowed, finished, spent, refused, start, RunEnds, finishes, stops, runs-out, OpenCall}
 use Rattle.promise.specs.Laws.Steps.{Fine}
 use Rattle.promise.specs.Laws.Running.{trail-arrived, trail-ends, ends-trail, stands-high, steps-so}
-use Rattle.promise.specs.Demand3.{Exactly, Opened, SeenRun, Demand3, TrailOf, Counted, Heights, Came, Resumed, AllowedStep, Stepwise, first, again, goes, ends, refuses}
+use Rattle.promise.specs.Demand3.{Exactly, Opened, SeenRun, Demand3, TrailOf, Counted, HeightsByMarks, Came, Resumed, AllowedStep, Stepwise, first, again, goes, ends, refuses}
 
 refused-not-pass : {why : ℕ} → Rejects why ≡ Passes → ⊥
 refused-not-pass e = let z : _≡_ {A = ℕ} 0 1 = cc in omega arith
@@ -101,7 +101,7 @@ demand-3 = (exactly, λ c. allowed (ran-ends c))
 pub counted : Counted
 counted c = (ran-ends c, most (ran-ends c))
 
-pub heights : Heights
+pub heights : HeightsByMarks
 heights c n open-calls s t = stands-high (pass c .assignment) (c .workLent) (c .storeLent) (work-size c) (store-size c) (pass c .header) (pass c .marked) t
 
 pub resumed : Resumed

@@ -242,7 +242,7 @@ module _ (rom other work store : List ℕ) (st : State) (a : AlikeTo (st .length
 -- ---- opening
 module _ {rom other : List ℕ} (a : Alike rom other) where
   pub same-fresh : freshState rom ≡ freshState other
-  same-fresh = λ i. emptyState (same-length a i) firstPlace (same-wide a i) freshTree
+  same-fresh = λ i. emptyState (same-length a i) firstPlace (same-wide a i) 1 freshTree
 
   pub same-open-refusal : (work store : List ℕ) → openRefusal rom work store ≡ openRefusal other work store
   same-open-refusal work store = ap (λ n. pick (wrongSize work store) 6 n) (same-header a)
