@@ -8,7 +8,8 @@ pub mod Cover
 pub mod Spots
 -- Where the model's rounds pass: the heights that a token of a body has at the end.
 pub mod Cells
--- The heights and sums of the assignment where the model's rounds pass: those that the rounds leave; and what holds of every reachable token.
+-- The heights and sums of the assignment where the model's rounds pass: those that the rounds leave; and what holds of every reachable
+-- token.
 pub mod Heights
 -- What holds of every reachable token outside bodies, where the model's rounds pass.
 pub mod Outside

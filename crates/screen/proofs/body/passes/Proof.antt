@@ -10,6 +10,10 @@ passes-spec =
     tie.close
     (tie.spec
     (λ c. rw (eq-eqb _ _ (c .if1 .taken)))
-    (λ c. rw (ne-eqb _ _ (c .before .before .if1 .left), eq-eqb _ _ (c .if2 .taken)))
+    (λ c.
+    let if1 = c .before .before .if1 in
+    rw (ne-eqb _ _ (if1 .left), eq-eqb _ _ (c .if2 .taken)))
     (λ c. search needs)
-    (λ c. rw (ne-eqb _ _ (c .before .before .before .if1 .left), ne-eqb _ _ (c .before .if2 .left))))
+    (λ c.
+    let if1 = c .before .before .before .if1 in
+    rw (ne-eqb _ _ (if1 .left), ne-eqb _ _ (c .before .if2 .left))))

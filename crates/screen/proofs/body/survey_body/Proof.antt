@@ -12,8 +12,9 @@ use Rattle.screen.proofs.body.survey_body.Tie as tie
 
 mark-starts-requires : tie.Need-mark-starts-requires
 mark-starts-requires c κs =
-    let t = c .before .before .before .before .before .pre .1 in
-    (c .before .before .before .before .before .pre .0, t .room, omega arith)
+    let pre = c .before .before .before .before .before .pre in
+    let t = pre .1 in
+    (pre .0, t .room, omega arith)
 
 returns : tie.Need-returns
 returns c =

@@ -15,4 +15,9 @@ sum-at-spec =
     (λ c κs. search needs)
     (λ c κs. search needs)
     (λ c κs. search needs)
-    (λ c. simp (← c .before .before .before .before .before .sum-code .ensures, c .before .before .before .before .pair .ensures, c .before .before .before .pair2 .ensures, c .before .before .pair3 .ensures, c .before .pair4 .ensures, c .pair5 .ensures)))
+    (λ c.
+    let pair3 = c .before .before .pair3 in
+    let pair2 = c .before .before .before .pair2 in
+    let pair = c .before .before .before .before .pair in
+    let sum-code = c .before .before .before .before .before .sum-code in
+    simp (← sum-code .ensures, pair .ensures, pair2 .ensures, pair3 .ensures, c .before .pair4 .ensures, c .pair5 .ensures)))

@@ -70,7 +70,8 @@ add-counted c =
 
 counted-requires : tie.Need-counted-requires
 counted-requires c κs =
-    let c₁ = c .before .before .before .before .before .before .before .before .before .before .before .before .before .before in
+    let c₁ = c .before .before .before .before .before .before .before .before .before .before .before .before in
+    let c₁ = c₁ .before .before in
     let c₂ = c₁ .before .before .before .before .before .before .before .before .before .before .before .before .before in
     c₂ .pre .5
 

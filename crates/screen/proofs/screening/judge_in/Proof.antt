@@ -38,7 +38,8 @@ returns c =
     let c₅ = c₄ .before .before .before .before .before .before in
     let a = c₅ .args in
     let k = c₅ .pre in
-    judge-passes (now (a .rom)) (now (a .marks)) _ _ _ _ (k .size) (rw (k .clear, c₄ .wide-start .ensures, ← first-cell) refl) (c₃ .all-rounds .ensures)
+    judge-passes (now (a .rom)) (now (a .marks)) _ _ _ _ (k .size) (rw (k .clear, c₄ .wide-start .ensures, ← first-cell) refl)
+    (c₃ .all-rounds .ensures)
     (c₂ .if1 .taken) _ (c₁ .lay-marks .ensures)
 
 returns-2 : tie.Need-returns-2

@@ -15,11 +15,12 @@ raised-spec =
     (λ c κs. search needs)
     (λ c κs. search needs)
     (λ c.
+    let back-in = c .before .before .back-in in
     let d = c .before .before .before in
     simp (
       c .larger4 .ensures,
       c .before .larger3 .ensures,
-      c .before .before .back-in .ensures .0,
+      back-in .ensures .0,
       d .larger2 .ensures,
       d .before .larger .ensures,
       d .before .before .less .ensures,

@@ -16,26 +16,32 @@ called-spec =
     (λ c κs. search needs)
     (λ c κs. search needs)
     (λ c.
-    let s = c .before .before .before .before .before .sum-at .ensures in
+    let sum-at = c .before .before .before .before .before .sum-at in
+    let s = sum-at .ensures in
     rw (← s) (c .bad-visit .ensures ∙ unfit-visit _ _ _ _ _ (λ r. omega arith)))
     (λ c.
-    let s = sum-small _ _ _ (c .before .before .before .before .before .before .sum-at .ensures) in
+    let sum-at = c .before .before .before .before .before .before .sum-at in
+    let s = sum-small _ _ _ (sum-at .ensures) in
     omega arith)
     (λ c κs. search needs)
     (λ c.
-    let s = c .before .before .before .before .before .before .before .before .sum-at .ensures in
+    let sum-at = c .before .before .before .before .before .before .before .before .sum-at in
+    let s = sum-at .ensures in
     rw (← s) (c .bad-visit2 .ensures ∙ unfit-visit _ _ _ _ _ (λ r. omega arith)))
     (λ c.
-    let s = sum-small _ _ _ (c .before .before .before .before .before .before .before .before .sum-at .ensures) in
+    let sum-at = c .before .before .before .before .before .before .before .before .sum-at in
+    let s = sum-small _ _ _ (sum-at .ensures) in
     omega arith)
     (λ c κs. search needs)
     (λ c.
-    let s = c .before .before .before .before .before .before .before .before .before .before .sum-at .ensures in
+    let sum-at = c .before .before .before .before .before .before .before .before .before .before .sum-at in
+    let s = sum-at .ensures in
     rw (← s) (c .bad-visit3 .ensures ∙ unfit-visit _ _ _ _ _ (λ r. omega arith)))
     (λ c κs. search needs)
     (λ c κs. search needs)
     (λ c.
-    let s = c .before .before .before .before .before .before .before .before .before .before .before .before .sum-at .ensures in
+    let sum-at = c .before .before .before .before .before .before .before .before .before .before .before .before .sum-at in
+    let s = sum-at .ensures in
     rw (← s) (c .bad-visit4 .ensures ∙ unfit-visit _ _ _ _ _ (λ r. omega arith)))
     (λ c.
     let b = c .before .before .before .before .before .before .before in
@@ -43,7 +49,9 @@ called-spec =
     omega arith)
     (λ c κs. search needs)
     (λ c.
-    let s = c .before .before .before .before .before .before .before .before .before .before .before .before .before .before .sum-at .ensures in
+    let c₁ = c .before .before .before .before .before .before .before .before .before .before .before .before in
+    let sum-at = c₁ .before .before .sum-at in
+    let s = sum-at .ensures in
     rw (← s) (c .bad-visit5 .ensures ∙ unfit-visit _ _ _ _ _ (λ r. omega arith)))
     (λ c κs. search needs)
     (λ c.

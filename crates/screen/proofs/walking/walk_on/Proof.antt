@@ -85,6 +85,12 @@ walk-on-spec =
       walks-turn _ _ _ _ (k .1) (c₅ .if1 .taken) (c₄ .if2 .left) _ _ (c₂ .visit-at .ensures) (omega arith) (c₁ .onward .ensures),
     ))
     (λ c κs. search needs)
-    (λ c. c .before .before .before .loop .inv .0 .0)
-    (λ c. c .before .before .before .loop .inv .0 .1)
-    (λ c. walks-lost _ _ _ _ (c .before .before .before .loop .inv .1) _ _ (c .ended3 .ensures .0) (c .before .if1 .left)))
+    (λ c.
+    let loop = c .before .before .before .loop in
+    loop .inv .0 .0)
+    (λ c.
+    let loop = c .before .before .before .loop in
+    loop .inv .0 .1)
+    (λ c.
+    let loop = c .before .before .before .loop in
+    walks-lost _ _ _ _ (loop .inv .1) _ _ (c .ended3 .ensures .0) (c .before .if1 .left)))

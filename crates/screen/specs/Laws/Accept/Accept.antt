@@ -15,7 +15,8 @@ use Rattle.screen.specs.Laws.Walk.Chains.{here, first-ready}
 use Rattle.screen.specs.Laws.Accept.Cover.{start}
 use Rattle.screen.specs.Laws.Accept.Spots.{chain-ran, Out, out-cell}
 use Rattle.screen.specs.Laws.Accept.Bodies.{spot}
-use Rattle.screen.specs.Laws.Accept.Maxima.{all-need, all-peak, all-back, all-frames, at-end, got-need, got-peak, got-back, got-frames, has-end, at-first}
+use Rattle.screen.specs.Laws.Accept.Maxima.{all-need, all-peak, all-back, all-frames, at-end, got-need, got-peak, got-back}
+use Rattle.screen.specs.Laws.Accept.Maxima.{got-frames, has-end, at-first}
 use Rattle.screen.specs.Laws.Accept.There.{a-token}
 use Rattle.screen.specs.Laws.Accept.Order.{stays-in, aimed-in}
 use Rattle.screen.specs.Laws.Accept.Once.{value-sum, one-definition}
@@ -43,7 +44,8 @@ module _ (rom : List ℕ) (fits : lengthOf rom ≤ romMost) {last : Board} (pass
         height = heightLeft last;
         back = backLeft last;
         sum = sumLeft last;
-        start = let c = out-cell rom fits passed start-out in (ap heightIn c ∙ height-in 0 0 (omega arith), ap backIn c ∙ back-in 0 0 (omega arith));
+        start = let c = out-cell rom fits passed start-out in
+            (ap heightIn c ∙ height-in 0 0 (omega arith), ap backIn c ∙ back-in 0 0 (omega arith));
         enter = at-first rom fits passed;
         there = λ m. (spot rom fits passed m .takes, spot rom fits passed m .returnTakes);
         flow = λ {q = q} m l. spot rom fits passed m .flow q l;

@@ -37,12 +37,14 @@ module _ (rom : List ℕ) (fits : lengthOf rom ≤ romMost) {last : Board} (pass
     pub same-token : body-fits rom fits passed i .token ≡ t
     same-token = body-token rom fits passed i e
 
-    pub in-meets : Meets rom (bodyText (lengthOf rom) (i .board .stand .wide) (i .ran .token .next)) (i .board .kinds) (i .board .sums) p (i .cell) (body-fits rom fits passed i .token)
+    pub in-meets : Meets rom (bodyText (lengthOf rom) (i .board .stand .wide) (i .ran .token .next)) (i .board .kinds) (i .board .sums) p
+        (i .cell) (body-fits rom fits passed i .token)
     in-meets = body-fits rom fits passed i .meets
 
     pub in-effect : effectIn rom fits passed i ≡ effectOf (sumLeft last) t
     in-effect =
-        effect-kept rom fits passed (i .follows) (i .chain) (body-fits rom fits passed i .token) (in-meets .named) ∙ ap (effectOf (sumLeft last)) same-token
+        effect-kept rom fits passed (i .follows) (i .chain) (body-fits rom fits passed i .token) (in-meets .named)
+        ∙ ap (effectOf (sumLeft last)) same-token
 
     pub height-inside : heightLeft last (suc d) p ≡ in-cells .height + bodyOf rom fits passed i .tally .need - entered
     height-inside = ap heightIn (in-cells .final) ∙ height-in _ _ (let l = in-cells .low in omega arith)
@@ -61,10 +63,12 @@ module _ (rom : List ℕ) (fits : lengthOf rom ≤ romMost) {last : Board} (pass
 
     in-flow : (q : ℕ) → Holds rom (Claim.leads (s .wide) p t q)
         → (heightLeft last (suc d) q ≡ heightLeft last (suc d) p - effectOf (sumLeft last) t .takes + effectOf (sumLeft last) t .gives)
-        × (backLeft last (suc d) q ≡ backLeft last (suc d) p - effectOf (sumLeft last) t .«return_takes» + effectOf (sumLeft last) t .«return_gives»)
+        × (backLeft last (suc d) q ≡ backLeft last (suc d) p - effectOf (sumLeft last) t .«return_takes» + effectOf
+        (sumLeft last) t .«return_gives»)
     in-flow q l =
         rw (height-inside, back-inside, ← in-effect) (
-          ap heightIn final ∙ height-in _ _ (omega (arith, low)) ∙ (let h = highs in let n = in-cells .enough in let k = in-cells .takes in omega arith),
+          ap heightIn final ∙ height-in _ _ (omega (arith, low))
+              ∙ (let h = highs in let n = in-cells .enough in let k = in-cells .takes in omega arith),
           ap backIn final ∙ back-in _ _ (omega (arith, low)) ∙ backs,
         )
       where
@@ -82,12 +86,14 @@ module _ (rom : List ℕ) (fits : lengthOf rom ≤ romMost) {last : Board} (pass
 
         highs : c .height ≡ in-cells .height - effectIn rom fits passed i .takes + effectIn rom fits passed i .gives
         highs =
-            sym (height-in (c .height) (c .back) (let z = c .high in omega arith)) ∙ ap heightIn cell-is ∙ height-in _ _ (let z = in-meets .high in omega arith)
+            sym (height-in (c .height) (c .back) (let z = c .high in omega arith)) ∙ ap heightIn cell-is
+            ∙ height-in _ _ (let z = in-meets .high in omega arith)
             ∙ ap (λ k. k - effectIn rom fits passed i .takes + effectIn rom fits passed i .gives) cell-height
 
         backs : c .back ≡ in-cells .back - effectIn rom fits passed i .«return_takes» + effectIn rom fits passed i .«return_gives»
         backs =
-            sym (back-in (c .height) (c .back) (let z = c .high in omega arith)) ∙ ap backIn cell-is ∙ back-in _ _ (let z = in-meets .high in omega arith)
+            sym (back-in (c .height) (c .back) (let z = c .high in omega arith)) ∙ ap backIn cell-is
+            ∙ back-in _ _ (let z = in-meets .high in omega arith)
             ∙ ap (λ k. k - effectIn rom fits passed i .«return_takes» + effectIn rom fits passed i .«return_gives») cell-back
 
     in-spot : Spot rom last (suc d) s p t
@@ -95,12 +101,16 @@ module _ (rom : List ℕ) (fits : lengthOf rom ≤ romMost) {last : Board} (pass
         record {
           allowed = subst (λ v. T (allowed v)) same-token (in-meets .allowed);
           aimed = subst (λ v. T (not (astray v))) same-token (in-meets .aimed);
-          known = subst (λ v. Holds rom (Claim.known p v)) same-token (known-real rom fits (rooted rom fits (i .follows)) p (body-fits rom fits passed i .token) above (in-meets .named));
+          known = subst (λ v. Holds rom (Claim.known p v)) same-token
+              (known-real rom fits (rooted rom fits (i .follows)) p (body-fits rom fits passed i .token) above (in-meets .named));
           takes = rw (height-inside, ← in-effect) (let n = in-cells .enough in omega arith);
-          returnTakes = rw (back-inside, ← in-effect) (subst (λ k. effectIn rom fits passed i .«return_takes» ≤ k) cell-back (in-meets .returnTakes));
+          returnTakes = rw (back-inside, ← in-effect)
+              (subst (λ k. effectIn rom fits passed i .«return_takes» ≤ k) cell-back (in-meets .returnTakes));
           low = rw height-inside (let n = in-cells .low in omega arith);
-          rise = rw (height-inside, ← in-effect) (let n = in-cells .enough in let k = in-cells .takes in let r = in-cells .rise in omega arith);
-          returnRise = rw (back-inside, ← in-effect) (subst (λ k. k + effectIn rom fits passed i .«return_rise» ≤ returnMost) cell-back (in-meets .returnRise));
+          rise = rw (height-inside, ← in-effect) (let n = in-cells .enough in let k = in-cells .takes in let r = in-cells .rise in
+              omega arith);
+          returnRise = rw (back-inside, ← in-effect)
+              (subst (λ k. k + effectIn rom fits passed i .«return_rise» ≤ returnMost) cell-back (in-meets .returnRise));
           frames = rw (← in-effect) (in-meets .frames);
           flow = in-flow;
         }

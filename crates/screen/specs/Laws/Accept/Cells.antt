@@ -67,11 +67,13 @@ module _ (rom : List ℕ) (fits : lengthOf rom ≤ romMost) {last : Board} (pass
             let n = ends in
             ran-above rom (ready rom fits (i .follows)) (i .ran) p (omega arith)
 
-        by : Cell rom (b .stand .wide) (i .ran .token .next) (ran rom b .seen) (y .marks .seen) p → Starts rom (b .stand .wide) (i .ran .token .next) p
+        by : Cell rom (b .stand .wide) (i .ran .token .next) (ran rom b .seen) (y .marks .seen) p
+            → Starts rom (b .stand .wide) (i .ran .token .next) p
         by (Cell.start s e) = s
         by (Cell.other n e) = absurd (omega (arith, above, e, at-blank))
 
-    pub among : Among rom (lengthOf rom) (i .board .stand .wide) (bodyOf rom fits passed i .path .seen) (i .ran .token .next) (suc (bodyOf rom fits passed i .marks .end)) p (body-fits rom fits passed i .token)
+    pub among : Among rom (lengthOf rom) (i .board .stand .wide) (bodyOf rom fits passed i .path .seen) (i .ran .token .next)
+        (suc (bodyOf rom fits passed i .marks .end)) p (body-fits rom fits passed i .token)
     among =
         let z = y .marked .starts body-start in
         let l = z .1 in
@@ -79,7 +81,8 @@ module _ (rom : List ℕ) (fits : lengthOf rom ≤ romMost) {last : Board} (pass
           low = z .0;
           high = omega arith;
           visited = record {
-            met = ap isMet (y .walked .marked (i .at) ∙ bound .is) ∙ is-met (heights (bound .height) (bound .back)) (bound .low) (bound .few);
+            met = ap isMet (y .walked .marked (i .at) ∙ bound .is)
+                ∙ is-met (heights (bound .height) (bound .back)) (bound .low) (bound .few);
             is = meets .is;
           };
         }
@@ -91,10 +94,12 @@ module _ (rom : List ℕ) (fits : lengthOf rom ≤ romMost) {last : Board} (pass
     marked-is = y .walked .marked (i .at)
 
     -- the tally's tests
-    pub body-limits : (bodyOf rom fits passed i .tally .peak + bodyOf rom fits passed i .tally .need ≤ bodyMost) × (bodyOf rom fits passed i .tally .good ≡ true) × (bodyOf rom fits passed i .tally .out ≢ 0)
+    pub body-limits : (bodyOf rom fits passed i .tally .peak + bodyOf rom fits passed i .tally .need ≤ bodyMost)
+        × (bodyOf rom fits passed i .tally .good ≡ true) × (bodyOf rom fits passed i .tally .out ≢ 0)
     unfolding passesOf
     body-limits =
-        let h = both-hold (y .tally .good && not (eqb (y .tally .out) 0)) (leb (y .tally .peak + y .tally .need) bodyMost) (holds (passesOf (y .tally)) (y .passes)) in
+        let h = both-hold (y .tally .good && not (eqb (y .tally .out) 0)) (leb (y .tally .peak + y .tally .need) bodyMost)
+        (holds (passesOf (y .tally)) (y .passes)) in
         let g = both-hold (y .tally .good) (not (eqb (y .tally .out) 0)) (h .0) in
         (leb→le (y .tally .peak + y .tally .need) bodyMost (h .1), is-true (y .tally .good) (g .0), neqb→ne (y .tally .out) 0 (g .1))
 
@@ -138,11 +143,13 @@ module _ (rom : List ℕ) (fits : lengthOf rom ≤ romMost) {last : Board} (pass
         peaks : max (bound .height) (bound .height - effectIn .takes + effectIn .rise) ≤ y .tally .peak
         peaks = subst (λ k. max k (k - effectIn .takes + effectIn .rise) ≤ y .tally .peak) here (y .told .peak .all among)
 
-        moved : shiftedCell (y .tally .need) (getD (y .path .seen) p 0) ≡ cellWith (heights (bound .height + y .tally .need - entered) (bound .back))
+        moved : shiftedCell (y .tally .need) (getD (y .path .seen) p 0) ≡ cellWith
+            (heights (bound .height + y .tally .need - entered) (bound .back))
         moved =
             ap (shiftedCell (y .tally .need)) (marked-is ∙ bound .is)
             ∙ when-true (movedCell (y .tally .need) entered (cellWith (heights (bound .height) (bound .back)))) 0
-            (isMet (cellWith (heights (bound .height) (bound .back)))) (is-met (heights (bound .height) (bound .back)) (bound .low) (bound .few))
+            (isMet (cellWith (heights (bound .height) (bound .back))))
+            (is-met (heights (bound .height) (bound .back)) (bound .low) (bound .few))
             ∙ moved-cell (y .tally .need) entered (heights (bound .height) (bound .back)) (let n = enough in omega arith)
 
         at-end : getD (last .seen) p 0 ≡ cellWith (heights (bound .height + y .tally .need - entered) (bound .back))
@@ -160,15 +167,19 @@ module _ (rom : List ℕ) (fits : lengthOf rom ≤ romMost) {last : Board} (pass
 
     -- a place that is met was walked to
     pub met-at : {q : ℕ} {u : Token}
-        → Among rom (lengthOf rom) (i .board .stand .wide) (bodyOf rom fits passed i .path .seen) (i .ran .token .next) (suc (bodyOf rom fits passed i .marks .end)) q u
-        → At rom (bodyText (lengthOf rom) (i .board .stand .wide) (i .ran .token .next)) (i .board .kinds) (i .board .sums) (i .ran .token .next) entryCell q (getD (bodyOf rom fits passed i .path .seen) q 0)
+        → Among rom (lengthOf rom) (i .board .stand .wide) (bodyOf rom fits passed i .path .seen) (i .ran .token .next)
+        (suc (bodyOf rom fits passed i .marks .end)) q u
+        → At rom (bodyText (lengthOf rom) (i .board .stand .wide) (i .ran .token .next)) (i .board .kinds) (i .board .sums)
+        (i .ran .token .next) entryCell q (getD (bodyOf rom fits passed i .path .seen) q 0)
     met-at {q} {u} a =
         let l = a .low in
         let n = next-ahead rom (lengthOf rom) (i .board .stand .wide) false (farOf rom (i .board)) (i .ran .token) (i .ran .is) in
-        walked-met (bodyOf rom fits passed i .marked) (bodyOf rom fits passed i .walked) q (ran-above rom (ready rom fits (i .follows)) (i .ran) q (omega arith)) (a .visited .met)
+        walked-met (bodyOf rom fits passed i .marked) (bodyOf rom fits passed i .walked) q
+        (ran-above rom (ready rom fits (i .follows)) (i .ran) q (omega arith)) (a .visited .met)
 
     abbrev pub at-met : {q : ℕ} {u : Token}
-        → Among rom (lengthOf rom) (i .board .stand .wide) (bodyOf rom fits passed i .path .seen) (i .ran .token .next) (suc (bodyOf rom fits passed i .marks .end)) q u
+        → Among rom (lengthOf rom) (i .board .stand .wide) (bodyOf rom fits passed i .path .seen) (i .ran .token .next)
+        (suc (bodyOf rom fits passed i .marks .end)) q u
         → Inside rom fits passed d s q
     at-met {q} a = inside-at rom fits passed i q (getD (bodyOf rom fits passed i .path .seen) q 0) (met-at a)
 

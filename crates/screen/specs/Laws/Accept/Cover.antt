@@ -93,12 +93,19 @@ module _ (rom : List ℕ) (fits : lengthOf rom ≤ romMost) where
     same-token = let f = fitted .meets .is in cc (e, f)
 
     pub round-on : {q : ℕ} → T (not (fixes t)) → In q (leadsOf t) → (d : ℕ) × OutAt rom b q d
-    round-on {q} n i =
-        (_, At.on a (r .walked .fine a) (leads-way fitted (subst (λ u. T (not (fixes u))) (sym same-token) n) (subst (λ u. In q (leadsOf u)) (sym same-token) i)))
+    round-on {q} n i = (
+      _,
+      At.on a (r .walked .fine a) (leads-way fitted (subst (λ u. T (not (fixes u))) (sym same-token) n)
+          (subst (λ u. In q (leadsOf u)) (sym same-token) i)),
+    )
 
     -- one that ends a round stands at its highest place
     pub round-end : T (fixes t) → (p ≡ farOf rom b) × (t ≡ r .token)
-    round-end f = (last, let g = r .is in let h : tokenAt rom 0 (b .stand .wide) (farOf rom b) ≡ Good t = subst (λ k. tokenAt rom 0 (b .stand .wide) k ≡ Good t) last e in cc (g, h))
+    round-end f = (
+      last,
+      let g = r .is in let h : tokenAt rom 0 (b .stand .wide) (farOf rom b) ≡ Good t =
+          subst (λ k. tokenAt rom 0 (b .stand .wide) k ≡ Good t) last e in cc (g, h),
+    )
       where
         i : (b .stand .start ≤ p) × (p < lengthOf rom) × (p ≤ farOf rom b) × (getD (b .seen) p 0 ≡ 0)
         i = r .walked .inside a
@@ -108,59 +115,79 @@ module _ (rom : List ℕ) (fits : lengthOf rom ≤ romMost) where
             r .apart .last p (i .0) (i .2) (λ z. r .some a (sym (r .walked .marked a) ∙ z))
             (ap fixedIn e ∙ is-true (fixes t) f)
 
-  -- Every reachable token outside bodies belongs to a round before b, or has P, where b's start has it and where a token leads that has it has it.
+  -- Every reachable token outside bodies belongs to a round before b, or has P, where b's start has it and where a token leads that has it
+  -- has it.
   module _ {b : Board} (h : Follows b) (P : Setting → ℕ → Type 0) (starts : P (settingOf (b .stand)) (b .stand .start))
-      (closed : (s : Setting) (p q : ℕ) (t : Token) → Met rom 0 s p t → P s p → Holds rom (Claim.leads (s .wide) p t q) → P (after t s) q) where
-    -- behind a round comes the next
-    next-round : {c d : Board} → Follows c → (n : Next rom c d) → Steps rom fits d b → Before b (settingOf (d .stand)) (d .stand .start) ⊎ P (settingOf (d .stand)) (d .stand .start)
-    next-round s n here = inr starts
-    next-round {d = d} s n (via m u) =
-        inl (record { board = d; after = _; from = then rom fits s n; next = m; to = u; cell = d .stand .cell; at = At.begins; setting = refl })
+      (closed : (s : Setting) (p q : ℕ) (t : Token) → Met rom 0 s p t → P s p → Holds rom (Claim.leads (s .wide) p t q) → P (after t s) q)
+    where
+      -- behind a round comes the next
+      next-round : {c d : Board} → Follows c → (n : Next rom c d) → Steps rom fits d b
+          → Before b (settingOf (d .stand)) (d .stand .start) ⊎ P (settingOf (d .stand)) (d .stand .start)
+      next-round s n here = inr starts
+      next-round {d = d} s n (via m u) =
+          inl (record {
+            board = d;
+            after = _;
+            from = then rom fits s n;
+            next = m;
+            to = u;
+            cell = d .stand .cell;
+            at = At.begins;
+            setting = refl;
+          })
 
-    from-first : {c : Board} → Follows c → Steps rom fits c b → Before b (settingOf (c .stand)) (c .stand .start) ⊎ P (settingOf (c .stand)) (c .stand .start)
-    from-first s here = inr starts
-    from-first {c} s (via m u) = inl (record { board = c; after = _; from = s; next = m; to = u; cell = c .stand .cell; at = At.begins; setting = refl })
+      from-first : {c : Board} → Follows c → Steps rom fits c b
+          → Before b (settingOf (c .stand)) (c .stand .start) ⊎ P (settingOf (c .stand)) (c .stand .start)
+      from-first s here = inr starts
+      from-first {c} s (via m u) =
+          inl (record { board = c; after = _; from = s; next = m; to = u; cell = c .stand .cell; at = At.begins; setting = refl })
 
-    onward : {s : Setting} {p q : ℕ} {t : Token} → Met rom 0 s p t → Holds rom (Claim.leads (s .wide) p t q) → Before b s p → Before b (after t s) q ⊎ P (after t s) q
-    onward {s} {p} {q} {t} m l z = subst (λ v. Holds rom (Claim.leads (v .wide) p t q) → tokenAt rom 0 (v .wide) p ≡ Good t → Before b (after t v) q ⊎ P (after t v) q) (sym (z .setting)) by l (m .is)
-      where
-        c : Board
-        c = z .board
+      onward : {s : Setting} {p q : ℕ} {t : Token} → Met rom 0 s p t → Holds rom (Claim.leads (s .wide) p t q) → Before b s p
+          → Before b (after t s) q ⊎ P (after t s) q
+      onward {s} {p} {q} {t} m l z = subst (λ v. Holds rom (Claim.leads (v .wide) p t q) → tokenAt rom 0 (v .wide) p ≡ Good t
+          → Before b (after t v) q ⊎ P (after t v) q) (sym (z .setting)) by l (m .is)
+        where
+          c : Board
+          c = z .board
 
-        by : Holds rom (Claim.leads (z .board .stand .wide) p t q) → tokenAt rom 0 (z .board .stand .wide) p ≡ Good t
-            → Before b (after t (settingOf (z .board .stand))) q ⊎ P (after t (settingOf (z .board .stand))) q
-        by k e = on-kind (fixes t) refl
-          where
-            y : (r : Ran rom (z .board)) × Advanced rom (z .board) (r .token) (z .after) × T (fixes (r .token))
-            y = advanced rom fits (ready (z .from)) (z .next)
+          by : Holds rom (Claim.leads (z .board .stand .wide) p t q) → tokenAt rom 0 (z .board .stand .wide) p ≡ Good t
+              → Before b (after t (settingOf (z .board .stand))) q ⊎ P (after t (settingOf (z .board .stand))) q
+          by k e = on-kind (fixes t) refl
+            where
+              y : (r : Ran rom (z .board)) × Advanced rom (z .board) (r .token) (z .after) × T (fixes (r .token))
+              y = advanced rom fits (ready (z .from)) (z .next)
 
-            on-kind : (f : Bool) → fixes t ≡ f → Before b (after t (settingOf (z .board .stand))) q ⊎ P (after t (settingOf (z .board .stand))) q
-            on-kind false n =
-                let g = fails (fixes t) n in
-                let i = round-on (y .0) (z .at) e g (leads-itself g k) in
-                inl (record {
-                  board = z .board;
-                  after = z .after;
-                  from = z .from;
-                  next = z .next;
-                  to = z .to;
-                  cell = i .0;
-                  at = i .1;
-                  setting = after-same t (settingOf (z .board .stand)) g;
-                })
-            on-kind true f =
-                let u = round-end (y .0) (z .at) e (holds (fixes t) f) in
-                let k′ : Holds rom (Claim.leads (z .board .stand .wide) (farOf rom (z .board)) (y .0 .token) q) =
-                subst (λ v. Holds rom (Claim.leads (z .board .stand .wide) v (y .0 .token) q)) (u .0) (subst (λ v. Holds rom (Claim.leads (z .board .stand .wide) p v q)) (u .1) k) in
-                let at-start = start-only rom fits (y .0) (y .2) (rooted (z .from)) (y .1) k′ in
-                let same : settingOf (z .after .stand) ≡ after t (settingOf (z .board .stand)) =
-                y .1 .setting ∙ ap (λ v. after v (settingOf (z .board .stand))) (sym (u .1)) in
-                subst (λ v. Before b v q ⊎ P v q) same (subst (λ v. Before b (settingOf (z .after .stand)) v ⊎ P (settingOf (z .after .stand)) v) (sym at-start) (next-round (z .from) (z .next) (z .to)))
+              on-kind : (f : Bool) → fixes t ≡ f → Before b (after t (settingOf (z .board .stand))) q ⊎ P
+                  (after t (settingOf (z .board .stand))) q
+              on-kind false n =
+                  let g = fails (fixes t) n in
+                  let i = round-on (y .0) (z .at) e g (leads-itself g k) in
+                  inl (record {
+                    board = z .board;
+                    after = z .after;
+                    from = z .from;
+                    next = z .next;
+                    to = z .to;
+                    cell = i .0;
+                    at = i .1;
+                    setting = after-same t (settingOf (z .board .stand)) g;
+                  })
+              on-kind true f =
+                  let u = round-end (y .0) (z .at) e (holds (fixes t) f) in
+                  let k′ : Holds rom (Claim.leads (z .board .stand .wide) (farOf rom (z .board)) (y .0 .token) q) =
+                  subst (λ v. Holds rom (Claim.leads (z .board .stand .wide) v (y .0 .token) q)) (u .0)
+                  (subst (λ v. Holds rom (Claim.leads (z .board .stand .wide) p v q)) (u .1) k) in
+                  let at-start = start-only rom fits (y .0) (y .2) (rooted (z .from)) (y .1) k′ in
+                  let same : settingOf (z .after .stand) ≡ after t (settingOf (z .board .stand)) =
+                  y .1 .setting ∙ ap (λ v. after v (settingOf (z .board .stand))) (sym (u .1)) in
+                  subst (λ v. Before b v q ⊎ P v q) same (subst
+                  (λ v. Before b (settingOf (z .after .stand)) v ⊎ P (settingOf (z .after .stand)) v) (sym at-start)
+                  (next-round (z .from) (z .next) (z .to)))
 
-    pub cover : {s : Setting} {q : ℕ} → Reach rom 0 s q → Before b s q ⊎ P s q
-    cover Holds.first = from-first here h
-    cover (Holds.next {s = s} {p} {q} {t} r e l) = by (cover r)
-      where
-        by : Before b s p ⊎ P s p → Before b (after t s) q ⊎ P (after t s) q
-        by (inl z) = onward (record { reach = r; is = e }) l z
-        by (inr z) = inr (closed s p q t (record { reach = r; is = e }) z l)
+      pub cover : {s : Setting} {q : ℕ} → Reach rom 0 s q → Before b s q ⊎ P s q
+      cover Holds.first = from-first here h
+      cover (Holds.next {s = s} {p} {q} {t} r e l) = by (cover r)
+        where
+          by : Before b s p ⊎ P s p → Before b (after t s) q ⊎ P (after t s) q
+          by (inl z) = onward (record { reach = r; is = e }) l z
+          by (inr z) = inr (closed s p q t (record { reach = r; is = e }) z l)

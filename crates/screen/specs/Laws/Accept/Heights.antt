@@ -1,4 +1,5 @@
--- The heights and sums of the assignment where the model's rounds pass: those that the rounds leave; and what holds of every reachable token. Assumes nothing.
+-- The heights and sums of the assignment where the model's rounds pass: those that the rounds leave; and what holds of every reachable
+-- token. Assumes nothing.
 use Prim.Native.Nat.{ℕ, _+_, _-_, _≤_}
 use mathlib.Core.Path.{_≡_}
 use mathlib.Core.Bool.{not}

@@ -33,16 +33,19 @@ module _ (rom : List ℕ) (fits : lengthOf rom ≤ romMost) {last : Board} (pass
       absurd (omega arith)
 
   -- a number that a token defines is held from then on
-  held-after : {s : Setting} {p : ℕ} {t : Token} (m : Met rom 0 s p t) (d : T (isA define t)) → kindOf (passing rom fits passed m (define-fixes t d) .after .kinds) (newNumber (t .operand)) ≢ 0
+  held-after : {s : Setting} {p : ℕ} {t : Token} (m : Met rom 0 s p t) (d : T (isA define t))
+      → kindOf (passing rom fits passed m (define-fixes t d) .after .kinds) (newNumber (t .operand)) ≢ 0
   held-after {t = t} m d z = kind-some m d (sym (passing rom fits passed m (define-fixes t d) .does .new d .1) ∙ z)
 
-  pub value-sum : {s : Setting} {d : ℕ} {t : Token} → Met rom 0 s d t → T (isA define t) → T (not (isColon t)) → sumLeft last (newNumber (t .operand)) ≡ valueSum
+  pub value-sum : {s : Setting} {d : ℕ} {t : Token} → Met rom 0 s d t → T (isA define t) → T (not (isColon t))
+      → sumLeft last (newNumber (t .operand)) ≡ valueSum
   value-sum {t = t} m d c =
       let q = passing rom fits passed m (define-fixes t d) in
       chain-kept rom fits (q .does .ready) (q .rest) .sums (newNumber (t .operand)) (held-after m d) ∙ q .does .valued d c
 
   -- a round's token that ends it is known by the board behind it too
-  next-holds : {s : Setting} {p : ℕ} {t : Token} (m : Met rom 0 s p t) (d : T (isA define t)) {c : Board} → Next rom (out-of rom fits passed m .board) c
+  next-holds : {s : Setting} {p : ℕ} {t : Token} (m : Met rom 0 s p t) (d : T (isA define t)) {c : Board}
+      → Next rom (out-of rom fits passed m .board) c
       → kindOf (c .kinds) (newNumber (t .operand)) ≢ 0
   next-holds {t = t} m d {c} n z =
       let y = advanced rom fits (ready rom fits (out-of rom fits passed m .follows)) n in
@@ -55,8 +58,10 @@ module _ (rom : List ℕ) (fits : lengthOf rom ≤ romMost) {last : Board} (pass
   one-definition {d} {e} {t = t} {u} m k f g n = by (order rom fits (out-of rom fits passed m .follows) (out-of rom fits passed k .follows))
     where
       -- the later one is refused
-      later : {s r : Setting} {d e : ℕ} {t u : Token} (m : Met rom 0 s d t) (k : Met rom 0 r e u) (f : T (isA define t)) (g : T (isA define u))
-          → newNumber (t .operand) ≡ newNumber (u .operand) → {c : Board} → Next rom (out-of rom fits passed m .board) c → Steps rom fits c (out-of rom fits passed k .board) → ⊥
+      later : {s r : Setting} {d e : ℕ} {t u : Token} (m : Met rom 0 s d t) (k : Met rom 0 r e u) (f : T (isA define t))
+          (g : T (isA define u))
+          → newNumber (t .operand) ≡ newNumber (u .operand) → {c : Board} → Next rom (out-of rom fits passed m .board) c
+          → Steps rom fits c (out-of rom fits passed k .board) → ⊥
       later {t = t} {u} m k f g n {c} x y =
           let z = advanced rom fits (ready rom fits (out-of rom fits passed m .follows)) x in
           let h = next-holds m f x in
@@ -64,6 +69,7 @@ module _ (rom : List ℕ) (fits : lengthOf rom ≤ romMost) {last : Board} (pass
           h (sym w ∙ ap (kindOf (out-of rom fits passed k .board .kinds)) n ∙ passing rom fits passed k (define-fixes u g) .does .new g .0)
 
       by : Order rom fits (out-of rom fits passed m .board) (out-of rom fits passed k .board) → d ≡ e
-      by (Order.same x) = at-far rom fits passed m (define-fixes t f) .0 ∙ ap (farOf rom) x ∙ sym (at-far rom fits passed k (define-fixes u g) .0)
+      by (Order.same x) = at-far rom fits passed m (define-fixes t f) .0 ∙ ap (farOf rom) x
+          ∙ sym (at-far rom fits passed k (define-fixes u g) .0)
       by (Order.less x y) = absurd (later m k f g n x y)
       by (Order.more x y) = absurd (later k m g f (sym n) x y)

@@ -73,23 +73,30 @@ module _ (rom : List ℕ) (fits : lengthOf rom ≤ romMost) {last : Board} (pass
       by (Order.more n s) = let l = below k n s in let u = climbs rom fits r in absurd (omega arith)
 
   -- a body's tokens are met in the setting of its b(:)
-  one-setting : {d p : ℕ} {s r : Setting} {t : Token} → Met rom 0 s d t → T (isColon t) → (k : Inside rom fits passed d r p) → s ≡ settingOf (k .board .stand)
+  one-setting : {d p : ℕ} {s r : Setting} {t : Token} → Met rom 0 s d t → T (isColon t) → (k : Inside rom fits passed d r p)
+      → s ≡ settingOf (k .board .stand)
   one-setting {d} {s = s} {t = t} m c k =
-      out-of rom fits passed m .setting ∙ ap (λ (v : Board). settingOf (v .stand)) (same-far (out-of rom fits passed m .follows) (out-of rom fits passed m .ran) (k .follows) (k .ran) (sym (at-far rom fits passed m (colon-fixes t c) .0) ∙ k .place))
+      out-of rom fits passed m .setting ∙ ap (λ (v : Board). settingOf (v .stand))
+      (same-far (out-of rom fits passed m .follows) (out-of rom fits passed m .ran) (k .follows) (k .ran)
+      (sym (at-far rom fits passed m (colon-fixes t c) .0) ∙ k .place))
 
-  pub stays-in : {s r : Setting} {d n c p q : ℕ} {t u : Token} → Body rom s d t n c → Met rom (suc d) r p u → T (isBranch u) → In q (aims (u .operand))
+  pub stays-in : {s r : Setting} {d n c p q : ℕ} {t u : Token} → Body rom s d t n c → Met rom (suc d) r p u → T (isBranch u)
+      → In q (aims (u .operand))
       → Starts rom (s .wide) (t .next) q
   stays-in {s} {r} {d} {q = q} {t} {u} b m w i =
       let k = inside rom fits passed (m .reach) in
       let l = body-on rom fits passed k (m .is) (aim-leads u q w i) in
       subst (λ v. Starts rom (v .wide) (t .next) q) (sym (one-setting (b .met) (b .colon) k))
-      (subst (λ (v : Token). Starts rom (k .board .stand .wide) (v .next) q) (sym (same-colon rom fits passed k (b .met) (b .colon))) (body-start rom fits passed l))
+      (subst (λ (v : Token). Starts rom (k .board .stand .wide) (v .next) q) (sym (same-colon rom fits passed k (b .met) (b .colon)))
+      (body-start rom fits passed l))
 
-  pub aimed-in : {s : Setting} {d n c p : ℕ} {t u : Token} → Body rom s d t n c → Starts rom (s .wide) (t .next) p → tokenAt rom 1 (s .wide) p ≡ Good u
+  pub aimed-in : {s : Setting} {d n c p : ℕ} {t u : Token} → Body rom s d t n c → Starts rom (s .wide) (t .next) p
+      → tokenAt rom 1 (s .wide) p ≡ Good u
       → T (not (astray u))
   aimed-in {s} {d} {p = p} {t} {u} b h e =
       let k = inside rom fits passed (Holds.body (b .met .reach) (b .met .is) (b .colon) (b .reads)) in
       let g = one-setting (b .met) (b .colon) k in
       let h′ = subst (λ v. Starts rom (v .wide) (t .next) p) g h in
-      let h″ = subst (λ (v : Token). Starts rom (k .board .stand .wide) (v .next) p) (same-colon rom fits passed k (b .met) (b .colon)) h′ in
+      let h″ = subst (λ (v : Token). Starts rom (k .board .stand .wide) (v .next) p) (same-colon rom fits passed k (b .met) (b .colon)) h′
+      in
       fails (astray u) (bodyOf rom fits passed k .marked .fine h″ (subst (λ v. tokenAt rom 1 (v .wide) p ≡ Good u) g e) .0)

@@ -39,11 +39,14 @@ module _ (rom : List ℕ) (fits : lengthOf rom ≤ romMost) {last : Board} (pass
     out-is = subst (λ v. tokenAt rom 0 (v .wide) p ≡ Good t) (out-of .setting) (m .is)
 
     out-fits : Fits rom (outsideText (lengthOf rom) (out-of .board .stand)) (out-of .board .kinds) (out-of .board .sums) p (out-of .cell)
-    out-fits = visit-fits rom (outsideText (lengthOf rom) (out-of .board .stand)) (out-of .board .kinds) (out-of .board .sums) p (out-of .cell) (out-of .ran .walked .fine (out-of .at))
+    out-fits = visit-fits rom (outsideText (lengthOf rom) (out-of .board .stand)) (out-of .board .kinds) (out-of .board .sums) p
+        (out-of .cell) (out-of .ran .walked .fine (out-of .at))
 
-    pub out-meets : Meets rom (outsideText (lengthOf rom) (out-of .board .stand)) (out-of .board .kinds) (out-of .board .sums) p (out-of .cell) t
+    pub out-meets : Meets rom (outsideText (lengthOf rom) (out-of .board .stand)) (out-of .board .kinds) (out-of .board .sums) p
+        (out-of .cell) t
     out-meets =
-        subst (λ v. Meets rom (outsideText (lengthOf rom) (out-of .board .stand)) (out-of .board .kinds) (out-of .board .sums) p (out-of .cell) v)
+        subst (λ v. Meets rom (outsideText (lengthOf rom) (out-of .board .stand)) (out-of .board .kinds) (out-of .board .sums) p
+        (out-of .cell) v)
         (let f = out-fits .meets .is in let g = out-is in cc (f, g)) (out-fits .meets)
 
     out-effect : effectOf (sumAt (out-of .board .sums)) t ≡ effectOf (sumLeft last) t
@@ -55,7 +58,8 @@ module _ (rom : List ℕ) (fits : lengthOf rom ≤ romMost) {last : Board} (pass
         at-bound (record { height = f .height; back = f .back; is = f .is; low = f .low; few = f .few }) (out-of .at)
 
     height-out : heightLeft last 0 p ≡ out-bound .height
-    height-out = ap heightIn (out-cell rom fits passed out-of ∙ out-bound .is) ∙ height-in (out-bound .height) (out-bound .back) (let l = out-bound .low in omega arith)
+    height-out = ap heightIn (out-cell rom fits passed out-of ∙ out-bound .is)
+        ∙ height-in (out-bound .height) (out-bound .back) (let l = out-bound .low in omega arith)
 
     pub cell-out : getD (last .seen) p 0 ≡ out-of .cell
     cell-out = out-cell rom fits passed out-of
@@ -75,8 +79,10 @@ module _ (rom : List ℕ) (fits : lengthOf rom ≤ romMost) {last : Board} (pass
               follows = out-of .follows;
               ran = out-of .ran;
               chain = out-of .chain;
-              cell = visitOf rom (outsideText (lengthOf rom) (out-of .board .stand)) (out-of .board .kinds) (out-of .board .sums) p (out-of .cell) .cell;
-              at = At.on (out-of .at) (out-of .ran .walked .fine (out-of .at)) (leads-way out-fits (subst (λ v. T (not (fixes v))) (sym same) n) (subst (λ v. In q (leadsOf v)) (sym same) i));
+              cell = visitOf rom (outsideText (lengthOf rom) (out-of .board .stand)) (out-of .board .kinds) (out-of .board .sums) p
+                  (out-of .cell) .cell;
+              at = At.on (out-of .at) (out-of .ran .walked .fine (out-of .at))
+                  (leads-way out-fits (subst (λ v. T (not (fixes v))) (sym same) n) (subst (λ v. In q (leadsOf v)) (sym same) i));
               setting = out-of .setting;
             }
 
@@ -106,7 +112,8 @@ module _ (rom : List ℕ) (fits : lengthOf rom ≤ romMost) {last : Board} (pass
 
     -- it reaches up to the next round's start, and leads there alone
     pub only-start : (f : T (fixes t)) (q : ℕ) → Holds rom (Claim.leads (s .wide) p t q) → q ≡ passing f .after .stand .start
-    only-start f q l = start-only rom fits (out-of .ran) (subst (λ v. T (fixes v)) (u .1) f) (rooted rom fits (out-of .follows)) (subst (λ v. Advanced rom (out-of .board) v (passing f .after)) (u .1) (passing f .does)) l′
+    only-start f q l = start-only rom fits (out-of .ran) (subst (λ v. T (fixes v)) (u .1) f) (rooted rom fits (out-of .follows))
+        (subst (λ v. Advanced rom (out-of .board) v (passing f .after)) (u .1) (passing f .does)) l′
       where
         u : (p ≡ farOf rom (out-of .board)) × (t ≡ out-of .ran .token)
         u = at-far f
@@ -117,9 +124,11 @@ module _ (rom : List ℕ) (fits : lengthOf rom ≤ romMost) {last : Board} (pass
             (subst (λ v. Holds rom (Claim.leads (out-of .board .stand .wide) p v q)) (u .1)
             (subst (λ v. Holds rom (Claim.leads (v .wide) p t q)) (out-of .setting) l))
 
-    next-cell : (f : T (fixes t)) → getD (last .seen) (passing f .after .stand .start) 0 ≡ cellWith (heights (heightIn (out-of .cell) - takesHere t) (backIn (out-of .cell)))
+    next-cell : (f : T (fixes t)) → getD (last .seen) (passing f .after .stand .start) 0 ≡ cellWith
+        (heights (heightIn (out-of .cell) - takesHere t) (backIn (out-of .cell)))
     next-cell f =
-        out-cell rom fits passed first-out ∙ passing f .does .cell ∙ ap (λ c. cellWith (heights (heightIn c - takesHere t) (backIn c))) here-cell
+        out-cell rom fits passed first-out ∙ passing f .does .cell
+        ∙ ap (λ c. cellWith (heights (heightIn c - takesHere t) (backIn c))) here-cell
       where
         first-out : Out rom fits passed (settingOf (passing f .after .stand)) (passing f .after .stand .start)
         first-out =
@@ -134,7 +143,8 @@ module _ (rom : List ℕ) (fits : lengthOf rom ≤ romMost) {last : Board} (pass
             }
 
         here-cell : getD (ran rom (out-of .board) .seen) (farOf rom (out-of .board)) 0 ≡ out-of .cell
-        here-cell = subst (λ k. getD (ran rom (out-of .board) .seen) k 0 ≡ out-of .cell) (passing f .place) (out-of .ran .walked .marked (out-of .at))
+        here-cell = subst (λ k. getD (ran rom (out-of .board) .seen) k 0 ≡ out-of .cell) (passing f .place)
+            (out-of .ran .walked .marked (out-of .at))
 
     out-flow : (q : ℕ) → Holds rom (Claim.leads (s .wide) p t q)
         → (heightLeft last 0 q ≡ heightLeft last 0 p - effectOf (sumLeft last) t .takes + effectOf (sumLeft last) t .gives)
@@ -146,15 +156,22 @@ module _ (rom : List ℕ) (fits : lengthOf rom ≤ romMost) {last : Board} (pass
 
         by : (k : Bool) → fixes t ≡ k
             → (heightLeft last 0 q ≡ heightLeft last 0 p - effectOf (sumLeft last) t .takes + effectOf (sumLeft last) t .gives)
-            × (backLeft last 0 q ≡ backLeft last 0 p - effectOf (sumLeft last) t .«return_takes» + effectOf (sumLeft last) t .«return_gives»)
+            × (backLeft last 0 q ≡ backLeft last 0 p - effectOf (sumLeft last) t .«return_takes» + effectOf
+            (sumLeft last) t .«return_gives»)
         by false e =
             let n = fails (fixes t) e in
             let c = same-round n q (leads-itself n l) in
-            rw (c, cell-out, ← out-effect) (height-in _ _ (let h = out-meets .high in omega arith), back-in _ _ (let h = out-meets .high in omega arith))
+            rw (c, cell-out, ← out-effect) (
+              height-in _ _ (let h = out-meets .high in omega arith),
+              back-in _ _ (let h = out-meets .high in
+                  omega arith),
+            )
         by true e =
             let f = holds (fixes t) e in
-            let c : getD (last .seen) q 0 ≡ cellWith (heights (heightIn (out-of .cell) - takesHere t) (backIn (out-of .cell))) = ap (λ k. getD (last .seen) k 0) (only-start f q l) ∙ next-cell f in
-            let g = stops-quiet rom (lengthOf rom) (s .wide) false p t (m .is) (or-second (isA finish t || isA leave t || isA always t || isA choice t) (fixes t) f) in
+            let c : getD (last .seen) q 0 ≡ cellWith (heights (heightIn (out-of .cell) - takesHere t) (backIn (out-of .cell))) =
+            ap (λ k. getD (last .seen) k 0) (only-start f q l) ∙ next-cell f in
+            let g = stops-quiet rom (lengthOf rom) (s .wide) false p t (m .is)
+            (or-second (isA finish t || isA leave t || isA always t || isA choice t) (fixes t) f) in
             rw (c, cell-out, effect-own (sumLeft last) t (not-call f)) (
               height-in _ _ (omega (arith, height-low (out-of .cell))) ∙ omega (arith, g .0),
               back-in _ _ (omega (arith, height-low (out-of .cell))) ∙ omega (arith, g .1, g .2),
@@ -165,7 +182,8 @@ module _ (rom : List ℕ) (fits : lengthOf rom ≤ romMost) {last : Board} (pass
         record {
           allowed = out-meets .allowed;
           aimed = out-meets .aimed;
-          known = known-real rom fits (rooted rom fits (out-of .follows)) p t (out-of .ran .walked .inside (out-of .at) .0) (out-meets .named);
+          known = known-real rom fits (rooted rom fits (out-of .follows)) p t (out-of .ran .walked .inside (out-of .at) .0)
+              (out-meets .named);
           takes = rw (cell-out, ← out-effect) (out-meets .takes);
           returnTakes = rw (cell-out, ← out-effect) (out-meets .returnTakes);
           low = let h = height-out in let l = out-bound .low in omega arith;

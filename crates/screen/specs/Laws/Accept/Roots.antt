@@ -36,7 +36,8 @@ pub record LeadsTo (t : Token) (q : ℕ) : Type 0 where
   pub free : T (not (fixes t))
   pub leads : In q (leadsOf t)
 
-pub way-leads : {rom : List ℕ} {x : Scope} {kinds sums : List ℕ} {p c q : ℕ} (f : Fits rom x kinds sums p c) → Way (visitOf rom x kinds sums p c) q
+pub way-leads : {rom : List ℕ} {x : Scope} {kinds sums : List ℕ} {p c q : ℕ} (f : Fits rom x kinds sums p c)
+    → Way (visitOf rom x kinds sums p c) q
     → LeadsTo (f .token) q
 way-leads {rom} {x} {kinds} {sums} {p} {c} {q} f w = by (fixes t) refl w
   where
@@ -46,8 +47,14 @@ way-leads {rom} {x} {kinds} {sums} {p} {c} {q} f w = by (fixes t) refl w
     by : (k : Bool) → fixes (f .token) ≡ k → Way (visitOf rom x kinds sums p c) q → LeadsTo (f .token) q
     by true e (Way.by-next n z) = absurd (z (sym n ∙ f .next ∙ fixes-next (f .token) (holds (fixes (f .token)) e)))
     by true e (Way.by-aim n z) = absurd (z (sym n ∙ f .aim ∙ fixes-aim (f .token) (holds (fixes (f .token)) e)))
-    by false e (Way.by-next n z) = record { free = fails (fixes (f .token)) e; leads = way-in (f .token) (f .meets .aimed) q (WayIn.by-next (sym (f .next) ∙ n)) z }
-    by false e (Way.by-aim n z) = record { free = fails (fixes (f .token)) e; leads = way-in (f .token) (f .meets .aimed) q (WayIn.by-aim (sym (f .aim) ∙ n)) z }
+    by false e (Way.by-next n z) = record {
+      free = fails (fixes (f .token)) e;
+      leads = way-in (f .token) (f .meets .aimed) q (WayIn.by-next (sym (f .next) ∙ n)) z;
+    }
+    by false e (Way.by-aim n z) = record {
+      free = fails (fixes (f .token)) e;
+      leads = way-in (f .token) (f .meets .aimed) q (WayIn.by-aim (sym (f .aim) ∙ n)) z;
+    }
 
 module _ (rom : List ℕ) (fits : lengthOf rom ≤ romMost) where
   -- a number that a board holds, with the reachable token that defined it
@@ -68,7 +75,8 @@ module _ (rom : List ℕ) (fits : lengthOf rom ≤ romMost) where
     pub real : (n : ℕ) → kindOf (b .kinds) n ≢ 0 → Real b n
 
   -- a token that names no unknown number is known
-  pub known-real : {b : Board} → Rooted b → (p : ℕ) (t : Token) → b .stand .start ≤ p → unknownOf (b .kinds) t ≡ false → Holds rom (Claim.known p t)
+  pub known-real : {b : Board} → Rooted b → (p : ℕ) (t : Token) → b .stand .start ≤ p → unknownOf (b .kinds) t ≡ false
+      → Holds rom (Claim.known p t)
   known-real {b} o p t l u = by (isA call t) refl (isA assign t) refl
     where
       called : T (isA call t) → Holds rom (Claim.known p t)
@@ -84,7 +92,8 @@ module _ (rom : List ℕ) (fits : lengthOf rom ≤ romMost) where
           let r = o .real (numberIn (t .operand)) (λ z. absurd (omega arith)) in
           let e = r .before in
           let j : r .end ≤ p = omega arith in
-          Holds.named (r .met .reach) (r .met .is) (Named.assigns i (record { is = r .defines; number = r .number }) (sym (r .kind) ∙ k)) (r .extends) j
+          Holds.named (r .met .reach) (r .met .is) (Named.assigns i (record { is = r .defines; number = r .number }) (sym (r .kind) ∙ k))
+          (r .extends) j
 
       by : (c : Bool) → isA call t ≡ c → (a : Bool) → isA assign t ≡ a → Holds rom (Claim.known p t)
       by true e a f = called (holds (isA call t) e)
@@ -99,19 +108,22 @@ module _ (rom : List ℕ) (fits : lengthOf rom ≤ romMost) where
         let f = visit-fits rom (outsideText (lengthOf rom) (b .stand)) (b .kinds) (b .sums) p c g in
         let l = way-leads f w in
         subst (λ s. Reach rom 0 s q) (after-same (f .token) (settingOf (b .stand)) (l .free))
-        (Holds.next (at-reach a) (f .meets .is) (Holds.by-itself (known-real o p (f .token) (r .walked .inside a .0) (f .meets .named)) (l .leads)))
+        (Holds.next (at-reach a) (f .meets .is) (Holds.by-itself (known-real o p (f .token) (r .walked .inside a .0) (f .meets .named))
+        (l .leads)))
 
     -- the token at the highest place is met
     pub far-met : Met rom 0 (settingOf (b .stand)) (farOf rom b) (r .token)
     far-met = record { reach = at-reach (r .walked .highest .1); is = r .is }
 
     -- ---- a body
-    module _ {b′ : Board} (y : BodyRan rom (left rom b) (r .token) (b .stand .wide) b′) (c : T (isColon (r .token))) (a : r .token .next ≤ lengthOf rom)
+    module _ {b′ : Board} (y : BodyRan rom (left rom b) (r .token) (b .stand .wide) b′) (c : T (isColon (r .token)))
+        (a : r .token .next ≤ lengthOf rom)
         (l : farOf rom b < r .token .next) where
       pub body-reads : Holds rom (Claim.reads (b .stand .wide) (r .token .next) (y .marks .end))
       body-reads = y .marked .reads (λ p t e u. let h = climbs rom fits r in known-real o p t (omega arith) u)
 
-      pub body-reach : {p d : ℕ} → At rom (bodyText (lengthOf rom) (b .stand .wide) (r .token .next)) (b .kinds) (b .sums) (r .token .next) entryCell p d
+      pub body-reach : {p d : ℕ} → At rom (bodyText (lengthOf rom) (b .stand .wide) (r .token .next)) (b .kinds) (b .sums)
+          (r .token .next) entryCell p d
           → Reach rom (suc (farOf rom b)) (settingOf (b .stand)) p
       body-reach At.begins = Holds.body (far-met .reach) (far-met .is) c body-reads
       body-reach (At.on {p} {c = d} {q} i g w) =
@@ -120,7 +132,8 @@ module _ (rom : List ℕ) (fits : lengthOf rom ≤ romMost) where
           let h = climbs rom fits r in
           let u = y .walked .inside i .0 in
           subst (λ s. Reach rom (suc (farOf rom b)) s q) (after-same (f .token) (settingOf (b .stand)) (k .free))
-          (Holds.next (body-reach i) (f .meets .is) (Holds.by-itself (known-real o p (f .token) (omega arith) (f .meets .named)) (k .leads)))
+          (Holds.next (body-reach i) (f .meets .is)
+          (Holds.by-itself (known-real o p (f .token) (omega arith) (f .meets .named)) (k .leads)))
 
   -- ---- from one round to the next
   module _ {b b′ : Board} (r : Ran rom b) (f : T (fixes (r .token))) (o : Rooted b) (a : Advanced rom b (r .token) b′) where
@@ -150,7 +163,8 @@ module _ (rom : List ℕ) (fits : lengthOf rom ≤ romMost) where
         by false e =
             let c = fails (isColon (r .token)) e in
             Holds.by-itself (Holds.unnamed (fixes-no-name (r .token) f))
-            (subst (λ q. In q (leadsOf (r .token))) (sym (a .start c)) (subst (λ l. In (r .token .next) l) (sym (fixes-on (r .token) f c)) here))
+            (subst (λ q. In q (leadsOf (r .token))) (sym (a .start c))
+            (subst (λ l. In (r .token .next) l) (sym (fixes-on (r .token) f c)) here))
 
     -- and nowhere else
     pub start-only : {q : ℕ} → Holds rom (Claim.leads (b .stand .wide) (farOf rom b) (r .token) q) → q ≡ b′ .stand .start

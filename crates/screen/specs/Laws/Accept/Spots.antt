@@ -1,4 +1,5 @@
--- Where the model's rounds pass: the round or the body that each reachable token belongs to, and what its cell is at the end. Assumes nothing.
+-- Where the model's rounds pass: the round or the body that each reachable token belongs to, and what its cell is at the end. Assumes
+-- nothing.
 use Prim.Native.Nat.{ℕ, suc, _≤_}
 use mathlib.Core.Path.{_≡_, refl, sym, ap, _∙_, subst}
 use mathlib.Core.Bool.{Bool, true, false, not}
@@ -37,7 +38,8 @@ pub record Bound (cap c : ℕ) : Type 0 where
   pub few : back ≤ returnMost
 
 -- every cell of a walk is within the cap that its first cell is within
-pub at-bound : {rom : List ℕ} {x : Scope} {kinds sums : List ℕ} {q d : ℕ} → Bound (capOf (x .within)) d → {p c : ℕ} → At rom x kinds sums q d p c → Bound (capOf (x .within)) c
+pub at-bound : {rom : List ℕ} {x : Scope} {kinds sums : List ℕ} {q d : ℕ} → Bound (capOf (x .within)) d → {p c : ℕ}
+    → At rom x kinds sums q d p c → Bound (capOf (x .within)) c
 at-bound b At.begins = b
 at-bound {rom} {x} {kinds} {sums} b (At.on {p} {c} {q} a g w) =
     let f = visit-fits rom x kinds sums p c g in
@@ -54,7 +56,8 @@ module _ (rom : List ℕ) (fits : lengthOf rom ≤ romMost) where
 
   pub last-of : {b f : Board} → Chain rom b f → Last b f
   last-of (ends r n) = record { board = _; steps = here; ran = r; free = n; chain = ends r n }
-  last-of (goes n c) = let l = last-of c in record { board = l .board; steps = via n (l .steps); ran = l .ran; free = l .free; chain = l .chain }
+  last-of (goes n c) = let l = last-of c in
+      record { board = l .board; steps = via n (l .steps); ran = l .ran; free = l .free; chain = l .chain }
 
   -- what comes behind a token that ends a round
   pub record Behind (b f : Board) : Type 0 where
@@ -90,7 +93,8 @@ module _ (rom : List ℕ) (fits : lengthOf rom ≤ romMost) {last : Board} (pass
   abbrev InLast : Setting → ℕ → Type 0
   InLast s p = (c : ℕ) × OutAt rom (final .board) p c × (s ≡ settingOf (final .board .stand))
 
-  last-closed : (s : Setting) (p q : ℕ) (t : Token) → Met rom 0 s p t → InLast s p → Holds rom (Claim.leads (s .wide) p t q) → InLast (after t s) q
+  last-closed : (s : Setting) (p q : ℕ) (t : Token) → Met rom 0 s p t → InLast s p → Holds rom (Claim.leads (s .wide) p t q)
+      → InLast (after t s) q
   last-closed s p q t m (c, a, e) l = by (fixes t) refl
     where
       is : tokenAt rom 0 (final .board .stand .wide) p ≡ Good t
@@ -155,14 +159,17 @@ module _ (rom : List ℕ) (fits : lengthOf rom ≤ romMost) {last : Board} (pass
     pub colon : T (isColon (ran .token))
     pub setting : s ≡ settingOf (board .stand)
     pub cell : ℕ
-    pub at : At rom (bodyText (lengthOf rom) (board .stand .wide) (ran .token .next)) (board .kinds) (board .sums) (ran .token .next) entryCell p cell
+    pub at : At rom (bodyText (lengthOf rom) (board .stand .wide) (ran .token .next)) (board .kinds) (board .sums)
+        (ran .token .next) entryCell p cell
 
-  abbrev pub bodyOf : {d p : ℕ} {s : Setting} → (i : Inside d s p) → BodyRan rom (left rom (i .board)) (i .ran .token) (i .board .stand .wide) (i .then)
+  abbrev pub bodyOf : {d p : ℕ} {s : Setting} → (i : Inside d s p)
+      → BodyRan rom (left rom (i .board)) (i .ran .token) (i .board .stand .wide) (i .then)
   bodyOf i = i .does .body (i .colon)
 
   -- another place of the same body
   abbrev pub inside-at : {d p : ℕ} {s : Setting} → (i : Inside d s p) → (q cell : ℕ)
-      → At rom (bodyText (lengthOf rom) (i .board .stand .wide) (i .ran .token .next)) (i .board .kinds) (i .board .sums) (i .ran .token .next) entryCell q cell
+      → At rom (bodyText (lengthOf rom) (i .board .stand .wide) (i .ran .token .next)) (i .board .kinds) (i .board .sums)
+      (i .ran .token .next) entryCell q cell
       → Inside d s q
   inside-at i q cell at =
       record {
@@ -202,7 +209,9 @@ module _ (rom : List ℕ) (fits : lengthOf rom ≤ romMost) {last : Board} (pass
         colon = subst (λ v. T (isColon v)) (u .1 ∙ one-token rom fits (o .ran) (z .0)) c;
         setting = o .setting;
         cell = entryCell;
-        at = subst (λ q. At rom (bodyText (lengthOf rom) (o .board .stand .wide) (z .0 .token .next)) (o .board .kinds) (o .board .sums) (z .0 .token .next) entryCell q entryCell) (ap (λ (v : Token). v .next) (sym (u .1 ∙ one-token rom fits (o .ran) (z .0)))) At.begins;
+        at = subst (λ q. At rom (bodyText (lengthOf rom) (o .board .stand .wide) (z .0 .token .next)) (o .board .kinds) (o .board .sums)
+            (z .0 .token .next) entryCell q entryCell) (ap (λ (v : Token). v .next) (sym (u .1 ∙ one-token rom fits (o .ran) (z .0))))
+            At.begins;
       }
 
   -- a token of a body goes on in it
@@ -224,7 +233,8 @@ module _ (rom : List ℕ) (fits : lengthOf rom ≤ romMost) {last : Board} (pass
     body-on {q} {t} e l =
         inside-at i q (visitOf rom scope (i .board .kinds) (i .board .sums) p (i .cell) .cell)
         (At.on (i .at) (bodyOf i .walked .fine (i .at))
-        (leads-way body-fits (subst (λ v. T (not (fixes v))) (sym (body-token e)) (body-free e)) (subst (λ v. In q (leadsOf v)) (sym (body-token e)) l)))
+        (leads-way body-fits (subst (λ v. T (not (fixes v))) (sym (body-token e)) (body-free e))
+        (subst (λ v. In q (leadsOf v)) (sym (body-token e)) l)))
 
   pub inside : {d p : ℕ} {s : Setting} → Reach rom (suc d) s p → Inside d s p
   inside (Holds.body r e c l) = at-colon (record { reach = r; is = e }) c

@@ -17,7 +17,8 @@ module _ (rom : List ℕ) (fits : lengthOf rom ≤ romMost) {last : Board} (pass
   pub a-token : {x p : ℕ} {s : Setting} → Reach rom x s p → (t : Token) × (tokenAt rom x (s .wide) p ≡ Good t)
   a-token {x = zero} {p = p} r =
       let o = outside rom fits passed r in
-      let f = visit-fits rom (outsideText (lengthOf rom) (o .board .stand)) (o .board .kinds) (o .board .sums) p (o .cell) (o .ran .walked .fine (o .at)) in
+      let f = visit-fits rom (outsideText (lengthOf rom) (o .board .stand)) (o .board .kinds) (o .board .sums) p (o .cell)
+      (o .ran .walked .fine (o .at)) in
       (f .token, subst (λ v. tokenAt rom 0 (v .wide) p ≡ Good (f .token)) (sym (o .setting)) (f .meets .is))
   a-token {x = suc d} {p = p} r =
       let i = inside rom fits passed r in

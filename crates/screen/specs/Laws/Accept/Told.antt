@@ -42,7 +42,8 @@ module _ (rom : List ℕ) (fits : lengthOf rom ≤ romMost) {last : Board} (pass
         defines = colon-defines (i .ran .token) (i .colon)
 
         kind : kindIn (i .ran .token .operand) ≡ 0xB7
-        kind = eqb→eq (kindIn (i .ran .token .operand)) 0xB7 (both-hold (isA define (i .ran .token)) (eqb (kindIn (i .ran .token .operand)) 0xB7) (i .colon) .1)
+        kind = eqb→eq (kindIn (i .ran .token .operand)) 0xB7
+            (both-hold (isA define (i .ran .token)) (eqb (kindIn (i .ran .token .operand)) 0xB7) (i .colon) .1)
 
         held : kindOf (i .then .kinds) (newNumber (i .ran .token .operand)) ≢ 0
         held z = let k = i .does .new defines .1 in omega (arith, k, kind, z)
@@ -62,7 +63,8 @@ module _ (rom : List ℕ) (fits : lengthOf rom ≤ romMost) {last : Board} (pass
     pub rises : entered ≤ bodyOf rom fits passed i .tally .peak
     rises =
         let a = among rom fits passed (at-entry rom fits passed i) in
-        let m : getD (bodyOf rom fits passed i .path .seen) (i .ran .token .next) 0 ≡ entryCell = bodyOf rom fits passed i .walked .marked At.begins in
+        let m : getD (bodyOf rom fits passed i .path .seen) (i .ran .token .next) 0 ≡ entryCell =
+        bodyOf rom fits passed i .walked .marked At.begins in
         let q = bodyOf rom fits passed i .told .peak .all a in
         omega (arith, q, ap heightIn m ∙ height-in entered 0 (omega arith))
 
@@ -76,22 +78,28 @@ module _ (rom : List ℕ) (fits : lengthOf rom ≤ romMost) {last : Board} (pass
       -- what the rules ask for is what the tally took
       pub need-worth : sumTold (bodyOf rom fits passed i .tally) .need + effectOf (sumLeft last) t .takes - heightLeft last (suc d) p
           ≡ needAt (i .board .sums) (body-fits rom fits passed i .token) (getD (bodyOf rom fits passed i .path .seen) p 0)
-      need-worth = rw (height-inside rom fits passed i e, ← in-effect rom fits passed i e, cell-there) (let n = in-cells rom fits passed i e .enough in omega arith)
+      need-worth = rw (height-inside rom fits passed i e, ← in-effect rom fits passed i e, cell-there)
+          (let n = in-cells rom fits passed i e .enough in omega arith)
 
-      pub peak-worth : max (heightLeft last (suc d) p) (heightLeft last (suc d) p - effectOf (sumLeft last) t .takes + effectOf (sumLeft last) t .rise)
-          ≡ peakAt (i .board .sums) (body-fits rom fits passed i .token) (getD (bodyOf rom fits passed i .path .seen) p 0) + bodyOf rom fits passed i .tally .need - entered
-      peak-worth = rw (height-inside rom fits passed i e, ← in-effect rom fits passed i e, cell-there) (let n = in-cells rom fits passed i e .enough in let k = in-cells rom fits passed i e .takes in omega arith)
+      pub peak-worth : max (heightLeft last (suc d) p)
+          (heightLeft last (suc d) p - effectOf (sumLeft last) t .takes + effectOf (sumLeft last) t .rise)
+          ≡ peakAt (i .board .sums) (body-fits rom fits passed i .token) (getD (bodyOf rom fits passed i .path .seen) p 0) + bodyOf rom fits
+          passed i .tally .need - entered
+      peak-worth = rw (height-inside rom fits passed i e, ← in-effect rom fits passed i e, cell-there)
+          (let n = in-cells rom fits passed i e .enough in let k = in-cells rom fits passed i e .takes in omega arith)
 
       pub back-worth : backLeft last (suc d) p + effectOf (sumLeft last) t .«return_rise»
           ≡ returnAt (i .board .sums) (body-fits rom fits passed i .token) (getD (bodyOf rom fits passed i .path .seen) p 0)
       back-worth = rw (back-inside rom fits passed i e, ← in-effect rom fits passed i e, back-there)
 
-      pub frames-worth : 1 + effectOf (sumLeft last) t .frames ≡ framesAt (i .board .sums) (body-fits rom fits passed i .token) (getD (bodyOf rom fits passed i .path .seen) p 0)
+      pub frames-worth : 1 + effectOf (sumLeft last) t .frames ≡ framesAt (i .board .sums) (body-fits rom fits passed i .token)
+          (getD (bodyOf rom fits passed i .path .seen) p 0)
       frames-worth = rw (← in-effect rom fits passed i e)
 
   -- a place of a body that was met, with its token, is reachable
   module _ {d p q : ℕ} {s : Setting} {u : Token} (i : Inside rom fits passed d s p)
-      (a : Among rom (lengthOf rom) (i .board .stand .wide) (bodyOf rom fits passed i .path .seen) (i .ran .token .next) (suc (bodyOf rom fits passed i .marks .end)) q u) where
+      (a : Among rom (lengthOf rom) (i .board .stand .wide) (bodyOf rom fits passed i .path .seen) (i .ran .token .next)
+      (suc (bodyOf rom fits passed i .marks .end)) q u) where
     pub token-there : tokenAt rom (suc d) (s .wide) q ≡ Good u
     token-there = subst (λ v. tokenAt rom (suc d) (v .wide) q ≡ Good u) (sym (i .setting)) (a .visited .is)
 

@@ -32,10 +32,12 @@ use Rattle.tokens.specs.Laws.Stands.{stands}
 use Rattle.screen.specs.Effect.{isA, astray}
 use Rattle.screen.specs.Laws.Rules.Ways.{unnamed-known}
 use Rattle.screen.specs.Laws.Code.Codes.{SmallEffect}
-use Rattle.screen.specs.Laws.Code.Visit.{tallyIn, VisitShown, shown, same-family, called-number, assigned-number, astray-aim, families-fit}
+use Rattle.screen.specs.Laws.Code.Visit.{tallyIn, VisitShown, shown, same-family, called-number, assigned-number, astray-aim}
+use Rattle.screen.specs.Laws.Code.Visit.{families-fit}
 use Rattle.screen.specs.Laws.Code.Walk.{WalkIs}
 use Rattle.screen.specs.Laws.Found.Model.{Path, walkAll, Marked, marked, startIn, startsOf, Tally, noTally}
-use Rattle.screen.specs.Laws.Found.Model.{tallied, sumTold, passesOf, shiftedCell, shiftOf, Board, board, RoundEnd, roundEnd, bodyText, entryOf, places}
+use Rattle.screen.specs.Laws.Found.Model.{tallied, sumTold, passesOf, shiftedCell, shiftOf, Board, board, RoundEnd, roundEnd}
+use Rattle.screen.specs.Laws.Found.Model.{bodyText, entryOf, places}
 use Rattle.screen.specs.Laws.Found.Model.{bodyWalked, bodyShifted, onSeen, colonOf}
 use Rattle.screen.specs.declared.effect.Effect.{Effect}
 use Rattle.screen.specs.declared.walking.Walk.{Walk as Walked}

@@ -39,7 +39,8 @@ sum-small sums n s e = rw e (unpacked-small (getD sums (slot n) 0))
 
 pub takes-small : (t : Token) → takesHere t < 256
 takes-small t =
-    when-is (λ n. takesIn (t .code) + n < 256) (eqb (familyIn (t .code)) define) (takesIn (codeOf (kindIn (t .operand)))) 0 (λ h. omega arith)
+    when-is (λ n. takesIn (t .code) + n < 256) (eqb (familyIn (t .code)) define) (takesIn (codeOf (kindIn (t .operand)))) 0
+    (λ h. omega arith)
     (λ h. omega arith)
 
 pub effect-small : (sums : List ℕ) (t : Token) → SmallEffect (effectOf (sumAt sums) t)

@@ -23,7 +23,8 @@ use Rattle.screen.specs.Laws.Code.Visit.{tallyIn}
 use Rattle.screen.specs.Laws.Code.Walk.{WalkIs}
 use Rattle.screen.specs.Laws.Found.Model.{sumAt, blankOf, fitsOf, soundOf, Visit, badVisit, tokenVisit, readVisit, visitOf}
 use Rattle.screen.specs.Laws.Found.Model.{heightsAfter}
-use Rattle.screen.specs.Laws.Found.Model.{Path, path, failed, putVisit, putsOf, topped, waiting, visitedOn, walkStep, walking, walkSteps, setOut, walkAll}
+use Rattle.screen.specs.Laws.Found.Model.{Path, path, failed, putVisit, putsOf, topped, waiting, visitedOn, walkStep, walking}
+use Rattle.screen.specs.Laws.Found.Model.{walkSteps, setOut, walkAll}
 use Rattle.screen.specs.Laws.Found.Model.{Tally, talliedIn, toldIn, Marked, marked, startIn, startsOf, shiftedCell, shiftOf}
 use Rattle.screen.specs.declared.walking.Text.{Text as Scope}
 use Rattle.screen.specs.declared.walking.Walk.{Walk as Walked}
@@ -168,7 +169,8 @@ moved-le : (need cell b : ℕ) → need ≤ bodyMost → cell ≤ b → shiftedC
 moved-le need cell b h l = when-is (λ n. n ≤ b + dataMost) (isMet cell) (movedCell need entered cell) 0
     (λ u. let m = moved-most need entered cell b l in omega arith) (λ u. omega arith)
 
-shift-le : (need b k p : ℕ) (seen : List ℕ) → need ≤ bodyMost → ((j : ℕ) → getD seen j 0 ≤ b + dataMost) → ((j : ℕ) → p ≤ j → getD seen j 0 ≤ b)
+shift-le : (need b k p : ℕ) (seen : List ℕ) → need ≤ bodyMost → ((j : ℕ) → getD seen j 0 ≤ b + dataMost)
+    → ((j : ℕ) → p ≤ j → getD seen j 0 ≤ b)
     → (j : ℕ)
     → getD (shiftOf need k p seen) j 0 ≤ b + dataMost
 unfolding shiftOf
@@ -177,7 +179,8 @@ shift-le need b (suc k) p seen n h a j =
     let m = moved-le need (getD seen p 0) b n (a p (omega arith)) in
     shift-le need b k (suc p) (set seen p (shiftedCell need (getD seen p 0))) n
     (λ i. set-le seen p i (shiftedCell need (getD seen p 0)) (b + dataMost) h m)
-    (λ i l. let d : i ≡ p → ⊥ = λ q. omega arith in rw (getD-set-other seen p i (shiftedCell need (getD seen p 0)) 0 d) (a i (omega arith))) j
+    (λ i l. let d : i ≡ p → ⊥ = λ q. omega arith in rw (getD-set-other seen p i (shiftedCell need (getD seen p 0)) 0 d) (a i (omega arith)))
+    j
 
 pub bounded-shift : (need b k p : ℕ) (seen : List ℕ) → need ≤ bodyMost → Bounded b seen → Bounded (b + dataMost) (shiftOf need k p seen)
 bounded-shift need b k p seen n h =

@@ -38,7 +38,8 @@ use Rattle.screen.specs.Laws.Code.Walk.{WalkIs}
 use Rattle.screen.specs.Laws.Found.Model.{sumTold, shiftOf, places}
 use Rattle.screen.specs.Laws.Found.Model.{slot, Path, walkAll, endIn, fixedIn, apartOf, Board, board}
 use Rattle.screen.specs.Laws.Found.Model.{RoundEnd, roundEnd}
-use Rattle.screen.specs.Laws.Found.Model.{outsideText, stoodOn, withNodes, withCount, onStand, newNode, closedNode, entryOf, onSeen, colonOf}
+use Rattle.screen.specs.Laws.Found.Model.{outsideText, stoodOn, withNodes, withCount, onStand, newNode, closedNode, entryOf, onSeen}
+use Rattle.screen.specs.Laws.Found.Model.{colonOf}
 use Rattle.screen.specs.Laws.Found.Model.{isNew, defineOf}
 use Rattle.screen.specs.Laws.Found.Model.{advanceOf, roundOf, roundGood, roundRest, goOn, roundsOf}
 use Rattle.screen.specs.declared.effect.Sum.{Sum}
@@ -313,7 +314,8 @@ abbrev pub AfterIs : List ℕ → ℕ → List ℕ → List ℕ → List ℕ →
 AfterIs rom length seen kinds sums s far seen′ kinds′ sums′ Fails =
     (go : Board → RoundEnd) → behind rom length (board seen kinds sums s) far go .good ≡ false
 AfterIs rom length seen kinds sums s far seen′ kinds′ sums′ Ends =
-    ((go : Board → RoundEnd) → behind rom length (board seen kinds sums s) far go ≡ roundEnd true (board seen kinds sums s)) × (seen′ ≡ seen)
+    ((go : Board → RoundEnd) → behind rom length (board seen kinds sums s) far go ≡ roundEnd true (board seen kinds sums s))
+    × (seen′ ≡ seen)
 AfterIs rom length seen kinds sums s far seen′ kinds′ sums′ (Goes next) =
     GoesIs rom length seen kinds sums s far seen′ kinds′ sums′ next
 
@@ -367,7 +369,8 @@ node-closed s h k =
       cell = λ g. refl;
     }
 
-node-turn : (m : Board → RoundEnd) (s : Stand) (r : Turned) (most : ℕ) (seen kinds sums : List ℕ) (st : Stand) → s .cell ≤ most → NodeIs m s r
+node-turn : (m : Board → RoundEnd) (s : Stand) (r : Turned) (most : ℕ) (seen kinds sums : List ℕ) (st : Stand) → s .cell ≤ most
+    → NodeIs m s r
     → TurnIs (m (board seen kinds sums st)) seen most r seen kinds sums
 node-turn m s r most seen kinds sums st l k =
     record {
@@ -387,10 +390,17 @@ moved-is s t cell c wide h w = rw (h, w) refl
 stood-cell : (s : Stand) (t : Token) (cell : ℕ) → stoodOn s t cell .cell ≤ cell + 1
 stood-cell s t cell = lower-cell cell (takesHere t)
 
-pub moved-standing : (s : Stand) (t : Token) (cell length : ℕ) → DefinesWithin length t → length ≤ romMost → StandFits s → StandFits (stoodOn s t cell)
+pub moved-standing : (s : Stand) (t : Token) (cell length : ℕ) → DefinesWithin length t → length ≤ romMost → StandFits s
+    → StandFits (stoodOn s t cell)
 moved-standing s t cell length d l k =
     let n = d .next in
-    record { start = omega arith; some = d .ahead; real = cell-some (heights (heightIn cell - takesHere t) (backIn cell)); children = k .children; nodes = k .nodes }
+    record {
+      start = omega arith;
+      some = d .ahead;
+      real = cell-some (heights (heightIn cell - takesHere t) (backIn cell));
+      children = k .children;
+      nodes = k .nodes;
+    }
 
 -- ---- b(:)
 module _ (rom : List ℕ) (length : ℕ) (seen kinds sums : List ℕ) (s : Stand) (n entry : ℕ) where
@@ -713,5 +723,6 @@ module _ (rom : List ℕ) (length left : ℕ) (seen kinds sums : List ℕ) (s : 
         standing = k .standing;
         few = omega arith;
         cell = omega arith;
-        low = bounded-more (highest left + dataMost) (highest (left - 1)) seen₂ (omega arith) (k .keeps (highest left) (omega arith) round-seen);
+        low = bounded-more (highest left + dataMost) (highest (left - 1)) seen₂ (omega arith)
+            (k .keeps (highest left) (omega arith) round-seen);
       }

@@ -37,7 +37,8 @@ use Rattle.screen.specs.Effect.{isA, fixes, aims, noEffect, called, ownE
 use Rattle.screen.specs.Reach.{In, here}
 use Rattle.screen.specs.Laws.Rules.Tokens.{aims-fit}
 use Rattle.screen.specs.Laws.Found.Model.{Visit, Tally, sumAt, fitsOf, badVisit, heightsAfter}
-use Rattle.screen.specs.Laws.Found.Model.{agreed, toldIn, soundOf, nextOn, branchIn, aimOn as Model·aimIn, tokenVisit, visitOf, tallied}
+use Rattle.screen.specs.Laws.Found.Model.{agreed, toldIn, soundOf, nextOn, branchIn, aimOn as Model·aimIn, tokenVisit, visitOf}
+use Rattle.screen.specs.Laws.Found.Model.{tallied}
 use Rattle.screen.specs.Laws.Code.Codes.{EffectRoom, unfit, fits-last}
 use Rattle.screen.specs.Laws.Walk.Visits.{visit-fits}
 use Rattle.screen.specs.declared.effect.Effect.{Effect}
@@ -147,7 +148,8 @@ pub record SeenBy (rom : List ℕ) (x : Scope) (kinds sums : List ℕ) (p cell :
 
 -- ---- a visit by its tests
 -- one that is not good, by any of the tests
-pub unfit-visit : (within : Bool) (e : Effect) (cell next aim : ℕ) → (EffectRoom within e cell → ⊥) → badVisit ≡ visitBy within e cell next aim
+pub unfit-visit : (within : Bool) (e : Effect) (cell next aim : ℕ) → (EffectRoom within e cell → ⊥)
+    → badVisit ≡ visitBy within e cell next aim
 unfolding visitBy
 unfit-visit within e cell next aim f = rw (visitBy, ← unfit within e cell f)
 

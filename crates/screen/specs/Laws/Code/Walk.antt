@@ -14,7 +14,8 @@ use Rattle.cells.specs.Choice.{pick}
 use Rattle.cells.specs.Laws.Facts.{when-true, when-false}
 use Rattle.rom.specs.Sizes.{romMost}
 use Rattle.tokens.specs.Place.{readOf}
-use Rattle.screen.specs.Laws.Found.Model.{Tally, Path, path, failed, blankOf, noTally, toldIn, putVisit, putsOf, visitedOn, walkStep, walking, walkSteps}
+use Rattle.screen.specs.Laws.Found.Model.{Tally, Path, path, failed, blankOf, noTally, toldIn, putVisit, putsOf, visitedOn, walkStep}
+use Rattle.screen.specs.Laws.Found.Model.{walking, walkSteps}
 use Rattle.screen.specs.Laws.Found.Model.{walkAll}
 use Rattle.screen.specs.Laws.Walk.Walking.{blanks, blanks-most, blanks-set, visit-real, puts-lost, blank-mark}
 use Rattle.screen.specs.Laws.Code.Visit.{visitIn, tallyIn, SeenBy}
@@ -312,7 +313,8 @@ module _ {x : Scope} {seen work : List ℕ} {w : Way} (f : WalkFit x seen work w
     module _ (z : v .cell ≡ 0 → ⊥) {r₁ : Way} {seen₁ work₁ : List ℕ}
         (a : CameIf x seen work (offWay w) (v .next) (v .cell) r₁ seen₁ work₁) where
       -- its successors are come to, one behind the other
-      both-so : (y : Tally) → visitedOn x (pathOf seen work (offWay w) y) (visitIn v) ≡ putsOf x (pathOf seen₁ work₁ r₁ y) (v .aim) (v .cell)
+      both-so : (y : Tally) → visitedOn x (pathOf seen work (offWay w) y) (visitIn v) ≡ putsOf x (pathOf seen₁ work₁ r₁ y) (v .aim)
+          (v .cell)
       unfolding visitedOn
       both-so y =
           when-true _ _ (not (eqb (v .cell) 0)) (rw (ne-eqb (v .cell) 0 z) refl)
@@ -397,7 +399,8 @@ module _ (rom : List ℕ) (x : Scope) (kinds sums : List ℕ) where
     pub lost : w .fine ≡ 0 → last .walk .good ≡ false
 
   -- the way to the first turn
-  pub walks-first : {seen work : List ℕ} {w : Way} (y : Tally) → y ≡ noTally → WalkFit x seen work w → (w .fine ≢ 0 → w .place ≡ 0 → w .top ≡ 0)
+  pub walks-first : {seen work : List ℕ} {w : Way} (y : Tally) → y ≡ noTally → WalkFit x seen work w
+      → (w .fine ≢ 0 → w .place ≡ 0 → w .top ≡ 0)
       → Walks (walkSteps rom x kinds sums romMost (pathOf seen work w noTally)) romMost seen work w y
   walks-first {seen} {work} {w} y e f n =
       record {

@@ -29,14 +29,17 @@ use Rattle.screen.specs.Laws.Accept.Cover.{start, Follows, ready, rooted
 use Rattle.screen.specs.Laws.Accept.Spots.{outside, out-cell, Inside, inside, bodyOf}
 use Rattle.screen.specs.Laws.Accept.Cells.{Cells, body-cells, at-entry}
 use Rattle.screen.specs.Laws.Exact.Exact.{at-heights, body-heights, body-sum}
-use Rattle.screen.specs.Laws.Found.Cell.{cellWith, isMet, heights, entryCell, Heights, same-heights, movedCell, entered, bodyMost}
+use Rattle.screen.specs.Laws.Found.Cell.{cellWith, isMet, heights, entryCell, TokenHeights, same-heights, movedCell, entered}
+use Rattle.screen.specs.Laws.Found.Cell.{bodyMost}
 
 module _ (rom : List ℕ) (fits : lengthOf rom ≤ romMost) {last : Board} (passed : Chain rom (start rom fits) last) where
   -- what the rounds leave at a reachable token is what any assignment says
-  pub last-is : (a : Assignment rom) {x p : ℕ} {s : Setting} → Reach rom x s p → getD (last .seen) p 0 ≡ cellWith (heights (a .height x p) (a .back x p))
+  pub last-is : (a : Assignment rom) {x p : ℕ} {s : Setting} → Reach rom x s p
+      → getD (last .seen) p 0 ≡ cellWith (heights (a .height x p) (a .back x p))
   last-is a {x = zero} {p} r =
       let o = outside rom fits passed r in out-cell rom fits passed o ∙ at-heights rom fits a (o .follows) (o .at)
-  last-is a {x = suc d} {p} {s} r = subst (λ k. getD (last .seen) p 0 ≡ cellWith (heights (a .height (suc k) p) (a .back (suc k) p))) (sym (i .place)) (c .final ∙ by)
+  last-is a {x = suc d} {p} {s} r = subst (λ k. getD (last .seen) p 0 ≡ cellWith (heights (a .height (suc k) p) (a .back (suc k) p)))
+      (sym (i .place)) (c .final ∙ by)
     where
       i : Inside rom fits passed d s p
       i = inside rom fits passed r
@@ -44,19 +47,25 @@ module _ (rom : List ℕ) (fits : lengthOf rom ≤ romMost) {last : Board} (pass
       c : Cells rom fits passed i
       c = body-cells rom fits passed i
 
-      by : cellWith (heights (c .height + bodyOf rom fits passed i .tally .need - entered) (c .back)) ≡ cellWith (heights (a .height (suc (farOf rom (i .board))) p) (a .back (suc (farOf rom (i .board))) p))
+      by : cellWith (heights (c .height + bodyOf rom fits passed i .tally .need - entered) (c .back)) ≡ cellWith
+          (heights (a .height (suc (farOf rom (i .board))) p) (a .back (suc (farOf rom (i .board))) p))
       by =
           let e = same-heights _ _ (omega (arith, c .high)) (omega (arith, tall, lowest, sums)) cells in
-          let h = ap (λ (v : Heights). v .height) e in
-          let k = ap (λ (v : Heights). v .back) e in
-          let same : c .height + bodyOf rom fits passed i .tally .need - entered ≡ a .height (suc (farOf rom (i .board))) p = omega (arith, h, tall, lowest, sums) in
+          let h = ap (λ (v : TokenHeights). v .height) e in
+          let k = ap (λ (v : TokenHeights). v .back) e in
+          let same : c .height + bodyOf rom fits passed i .tally .need - entered ≡ a .height (suc (farOf rom (i .board))) p =
+          omega (arith, h, tall, lowest, sums) in
           rw (same, k)
         where
-          cells : cellWith (heights (c .height) (c .back)) ≡ cellWith (heights (a .height (suc (farOf rom (i .board))) p + entered - a .sum (newNumber (i .ran .token .operand)) .need) (a .back (suc (farOf rom (i .board))) p))
-          cells = sym (c .is) ∙ body-heights rom fits a (i .follows) (i .ran) (colon-fixes (i .ran .token) (i .colon)) (i .colon) (bodyOf rom fits passed i) (i .at)
+          cells : cellWith (heights (c .height) (c .back)) ≡ cellWith
+              (heights (a .height (suc (farOf rom (i .board))) p + entered - a .sum (newNumber (i .ran .token .operand)) .need)
+              (a .back (suc (farOf rom (i .board))) p))
+          cells = sym (c .is) ∙ body-heights rom fits a (i .follows) (i .ran) (colon-fixes (i .ran .token) (i .colon)) (i .colon)
+              (bodyOf rom fits passed i) (i .at)
 
           sums : bodyOf rom fits passed i .tally .need ≡ a .sum (newNumber (i .ran .token .operand)) .need
-          sums = ap (λ v. v .need) (body-sum rom fits a (i .follows) (i .ran) (colon-fixes (i .ran .token) (i .colon)) (i .colon) (bodyOf rom fits passed i))
+          sums = ap (λ v. v .need) (body-sum rom fits a (i .follows) (i .ran) (colon-fixes (i .ran .token) (i .colon)) (i .colon)
+              (bodyOf rom fits passed i))
 
           tall : a .height (suc (farOf rom (i .board))) p ≤ dataMost
           tall =
@@ -70,7 +79,7 @@ module _ (rom : List ℕ) (fits : lengthOf rom ≤ romMost) {last : Board} (pass
               let f : entryCell ≡ cellWith (heights (e .height) (e .back)) = e .is in
               let g : e .height ≤ bodyMost = e .high in
               let l : e .height + bodyOf rom fits passed i .tally .need ≤ bodyMost = e .low in
-              let h = ap (λ (v : Heights). v .height) (same-heights _ _ (omega arith) (omega arith) f) in
+              let h = ap (λ (v : TokenHeights). v .height) (same-heights _ _ (omega arith) (omega arith) f) in
               omega arith
 
 -- ---- nothing else is marked
@@ -82,7 +91,8 @@ pub record Reached (rom : List ℕ) (p : ℕ) : Type 0 where
 
 module _ (rom : List ℕ) (fits : lengthOf rom ≤ romMost) where
   -- a cell of a round
-  ran-reached : {b : Board} → Follows rom fits b → Ran rom b → (p : ℕ) → b .stand .start ≤ p → getD (ran rom b .seen) p 0 ≢ 0 → Reached rom p
+  ran-reached : {b : Board} → Follows rom fits b → Ran rom b → (p : ℕ) → b .stand .start ≤ p → getD (ran rom b .seen) p 0 ≢ 0
+      → Reached rom p
   ran-reached {b} h r p l z = by (r .walked .kept p)
     where
       by : (getD (ran rom b .seen) p 0 ≡ getD (b .seen) p 0) ⊎ OutAt rom b p (getD (ran rom b .seen) p 0) → Reached rom p
@@ -90,7 +100,8 @@ module _ (rom : List ℕ) (fits : lengthOf rom ≤ romMost) where
       by (inr a) = record { text = 0; setting = _; reach = at-reach rom fits r (rooted rom fits h) a }
 
   -- a cell of a body
-  body-reached : {b c : Board} → Follows rom fits b → (r : Ran rom b) → T (isColon (r .token)) → BodyRan rom (left rom b) (r .token) (b .stand .wide) c
+  body-reached : {b c : Board} → Follows rom fits b → (r : Ran rom b) → T (isColon (r .token))
+      → BodyRan rom (left rom b) (r .token) (b .stand .wide) c
       → (p : ℕ) → farOf rom b < p → p < c .stand .start → getD (c .seen) p 0 ≢ 0 → Reached rom p
   body-reached {b} {c} h r k y p l u z = elim (decLt p (r .token .next)) [ yes q ↦ early q | no q ↦ in-body (omega arith) ]
     where
@@ -103,22 +114,33 @@ module _ (rom : List ℕ) (fits : lengthOf rom ≤ romMost) where
       -- before its first token
       early : p < r .token .next → Reached rom p
       early q =
-          absurd (z (y .shifted .other p (λ i j. omega arith) ∙ walked-below rom _ _ _ _ _ (y .walked) p q ∙ marks-kept (y .marked) p (λ i j. omega arith) ∙ above))
+          absurd (z (y .shifted .other p (λ i j. omega arith) ∙ walked-below rom _ _ _ _ _ (y .walked) p q
+          ∙ marks-kept (y .marked) p (λ i j. omega arith) ∙ above))
 
       in-body : r .token .next ≤ p → Reached rom p
       in-body q = by (isMet (getD (y .path .seen) p 0)) refl
         where
           by : (m : Bool) → isMet (getD (y .path .seen) p 0) ≡ m → Reached rom p
           by true e =
-              record { text = suc (farOf rom b); setting = settingOf (b .stand); reach = body-reach rom fits r (rooted rom fits h) y k (n .1) (n .0) (walked-met (y .marked) (y .walked) p above e) }
+              record {
+                text = suc (farOf rom b);
+                setting = settingOf (b .stand);
+                reach = body-reach rom fits r (rooted rom fits h) y k (n .1) (n .0) (walked-met (y .marked) (y .walked) p above e);
+              }
           by false e =
-              absurd (z (y .shifted .moved p q (let s = y .start in omega arith) ∙ when-false (movedCell (y .tally .need) entered (getD (y .path .seen) p 0)) 0 (isMet (getD (y .path .seen) p 0)) e))
+              absurd (z (y .shifted .moved p q (let s = y .start in omega arith)
+              ∙ when-false (movedCell (y .tally .need) entered (getD (y .path .seen) p 0)) 0 (isMet (getD (y .path .seen) p 0)) e))
 
-  pub only-reached : {b f : Board} → Follows rom fits b → Chain rom b f → (p : ℕ) → b .stand .start ≤ p → getD (f .seen) p 0 ≢ 0 → Reached rom p
+  pub only-reached : {b f : Board} → Follows rom fits b → Chain rom b f → (p : ℕ) → b .stand .start ≤ p → getD (f .seen) p 0 ≢ 0
+      → Reached rom p
   only-reached h (ends r n) p l z = ran-reached h r p l z
   only-reached {b} {f} h (goes {b′ = c} n k) p l z =
       elim (decLt (farOf rom b) p) [
-        | yes u ↦ elim (decLt p (c .stand .start)) [ yes v ↦ between u v (isColon (y .0 .token)) refl | no v ↦ only-reached (then rom fits h n) k p (omega arith) z ]
+        | yes u ↦ elim (decLt p (c .stand .start)) [
+          | yes v ↦ between u v (isColon (y .0 .token)) refl
+          | no v
+              ↦ only-reached (then rom fits h n) k p (omega arith) z
+        ]
         | no u ↦ ran-reached h (y .0) p l (λ w. z (chain-seen rom fits (ready rom fits h) (goes n k) p (omega arith) ∙ w))
       ]
     where

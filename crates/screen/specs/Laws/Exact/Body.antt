@@ -1,5 +1,5 @@
--- Where there is an assignment of heights, the body of a b(:) that ends a round which starts with them is read, its walk finds them, moved by
--- 64 less its need, and its tally is the sum of its number. Assumes nothing.
+-- Where there is an assignment of heights, the body of a b(:) that ends a round which starts with them is read, its walk finds them, moved
+-- by 64 less its need, and its tally is the sum of its number. Assumes nothing.
 use Prim.Native.Nat.{ℕ, suc, _+_, _-_, _≤_, _<_, max}
 use native.Mathlib.Omega.{arith}
 use native.Mathlib.Decide.{ℕ-discrete, decLt}
@@ -44,7 +44,8 @@ use Rattle.screen.specs.Laws.Found.Cell.{height-in, back-in, is-met, cel
 use Rattle.screen.specs.Laws.Found.Cell.{bodyMost}
 
 -- behind a token of a body that is not its last the body is read on
-reads-behind : {rom : List ℕ} {w : Bool} {p c : ℕ} {t : Token} → Holds rom (Claim.reads w p c) → tokenAt rom 1 w p ≡ Good t → (t .number ≡ 0xC2 → ⊥)
+reads-behind : {rom : List ℕ} {w : Bool} {p c : ℕ} {t : Token} → Holds rom (Claim.reads w p c) → tokenAt rom 1 w p ≡ Good t
+    → (t .number ≡ 0xC2 → ⊥)
     → Holds rom (Claim.reads w (t .next) c)
 reads-behind {t = t} (Holds.last {t = u} j m) i n = absurd (n (subst (λ v. v .number ≡ 0xC2) (one-good j i) m))
 reads-behind {rom} {w} {p} {c} {t} (Holds.more {t = u} j m k r) i n = subst (λ v. Holds rom (Claim.reads w (v .next) c)) (one-good j i) r
@@ -55,7 +56,8 @@ reads-from h Starts.entry = h
 reads-from h (Starts.behind s i n) = reads-behind (reads-from h s) i n
 
 -- the first token of a body that is read is known
-first-known : {rom : List ℕ} {w : Bool} {p c : ℕ} {u : Token} → Holds rom (Claim.reads w p c) → tokenAt rom 1 w p ≡ Good u → Holds rom (Claim.known p u)
+first-known : {rom : List ℕ} {w : Bool} {p c : ℕ} {u : Token} → Holds rom (Claim.reads w p c) → tokenAt rom 1 w p ≡ Good u
+    → Holds rom (Claim.known p u)
 first-known {rom} {w} {p} {c} {u} (Holds.last {t = v} j m) i =
     let e = one-good j i in
     let n = last-is rom (lengthOf rom) w true p u i (subst (λ o. o .number ≡ 0xC2) e m) .1 in
@@ -63,11 +65,13 @@ first-known {rom} {w} {p} {c} {u} (Holds.last {t = v} j m) i =
 first-known {rom} {w} {p} {c} {u} (Holds.more {t = v} j m k r) i = subst (λ o. Holds rom (Claim.known p o)) (one-good j i) k
 
 -- every token of a body that is read is known
-pub reads-known : {rom : List ℕ} {w : Bool} {e c p : ℕ} {u : Token} → Holds rom (Claim.reads w e c) → Starts rom w e p → tokenAt rom 1 w p ≡ Good u
+pub reads-known : {rom : List ℕ} {w : Bool} {e c p : ℕ} {u : Token} → Holds rom (Claim.reads w e c) → Starts rom w e p
+    → tokenAt rom 1 w p ≡ Good u
     → Holds rom (Claim.known p u)
 reads-known h s i = first-known (reads-from h s) i
 
-module _ (rom : List ℕ) (fits : lengthOf rom ≤ romMost) (a : Assignment rom) {b : Board} (g : Agrees rom fits a b) (r : Ran rom b) (f : T (fixes (r .token))) where
+module _ (rom : List ℕ) (fits : lengthOf rom ≤ romMost) (a : Assignment rom) {b : Board} (g : Agrees rom fits a b) (r : Ran rom b)
+    (f : T (fixes (r .token))) where
   -- the token that ends the round, its place, the width there, and the setting
   abbrev t : Token
   t = r .token
@@ -121,7 +125,8 @@ module _ (rom : List ℕ) (fits : lengthOf rom ≤ romMost) (a : Assignment rom)
         before : p ≤ k
         before = start-within rd s .high
 
-        early : (s′ : Setting) (d e : ℕ) (v : Token) → Met rom 0 s′ d v → T (isA define v) → Holds rom (Claim.extends (s′ .wide) v e) → e ≤ p
+        early : (s′ : Setting) (d e : ℕ) (v : Token) → Met rom 0 s′ d v → T (isA define v) → Holds rom (Claim.extends (s′ .wide) v e)
+            → e ≤ p
             → d < b .stand .start
         early s′ d e v m o ex l = by (decLt d (b .stand .start))
           where
@@ -140,9 +145,11 @@ module _ (rom : List ℕ) (fits : lengthOf rom ≤ romMost) (a : Assignment rom)
 
                 same : s′ ≡ here → ⊥
                 same y =
-                    let i : tokenAt rom 0 wide far ≡ Good v = subst (λ o. tokenAt rom 0 wide o ≡ Good v) q (subst (λ o. tokenAt rom 0 (o .wide) d ≡ Good v) y (m .is)) in
+                    let i : tokenAt rom 0 wide far ≡ Good v =
+                    subst (λ o. tokenAt rom 0 wide o ≡ Good v) q (subst (λ o. tokenAt rom 0 (o .wide) d ≡ Good v) y (m .is)) in
                     let j : v ≡ t = one-good i (r .is) in
-                    let h : Holds rom (Claim.extends wide t e) = subst (λ o. Holds rom (Claim.extends wide o e)) j (subst (λ o. Holds rom (Claim.extends (o .wide) v e)) y ex) in
+                    let h : Holds rom (Claim.extends wide t e) =
+                    subst (λ o. Holds rom (Claim.extends wide o e)) j (subst (λ o. Holds rom (Claim.extends (o .wide) v e)) y ex) in
                     let z = last h in
                     let w = before in
                     omega arith
@@ -190,7 +197,8 @@ module _ (rom : List ℕ) (fits : lengthOf rom ≤ romMost) (a : Assignment rom)
         let h : heightIn d ≡ H p + entered - need = ap heightIn e ∙ height-in (H p + entered - need) (B p) (omega (arith, y .height)) in
         let o : backIn d ≡ B p = ap backIn e ∙ back-in (H p + entered - need) (B p) (omega (arith, y .height)) in
         let z = a .flow m l in
-        let i : H p + entered - need - effectOf (a .sum) u .takes + effectOf (a .sum) u .gives ≡ H q + entered - need = omega (arith, y .takes, z .0) in
+        let i : H p + entered - need - effectOf (a .sum) u .takes + effectOf (a .sum) u .gives ≡ H q + entered - need =
+        omega (arith, y .takes, z .0) in
         rw (effect-same rom fits a g u v, h, o, i, z .1)
 
     -- every place that it comes to is reachable, a token start, and has the assignment's heights, moved
@@ -223,7 +231,8 @@ module _ (rom : List ℕ) (fits : lengthOf rom ≤ romMost) (a : Assignment rom)
         let z = at-inside i in
         let w = need-low in
         let v = body-fine p u (z .start) (m .is) .0 in
-        let h : heightIn d ≡ H p + entered - need = ap heightIn (z .cell) ∙ height-in (H p + entered - need) (B p) (omega (arith, y .height)) in
+        let h : heightIn d ≡ H p + entered - need =
+        ap heightIn (z .cell) ∙ height-in (H p + entered - need) (B p) (omega (arith, y .height)) in
         let o : backIn d ≡ B p = ap backIn (z .cell) ∙ back-in (H p + entered - need) (B p) (omega (arith, y .height)) in
         let e = effect-same rom fits a g u v in
         record {
@@ -266,16 +275,19 @@ module _ (rom : List ℕ) (fits : lengthOf rom ≤ romMost) (a : Assignment rom)
         every-at (Holds.body {s = s} {d} {c = o} {t = u} i j q h) e =
             let z : d ≡ far = omega arith in
             let y = one-setting (subst (λ v. Reach rom 0 s v) z i) in
-            let v : u ≡ t = one-good (subst (λ v. tokenAt rom 0 wide v ≡ Good u) z (subst (λ v. tokenAt rom 0 (v .wide) d ≡ Good u) y j)) (r .is) in
+            let v : u ≡ t = one-good (subst (λ v. tokenAt rom 0 wide v ≡ Good u) z (subst (λ v. tokenAt rom 0 (v .wide) d ≡ Good u) y j))
+            (r .is) in
             record { setting = y; cell = entryCell; at = subst (λ v. BodyAt (v .next) entryCell) (sym v) At.begins }
         every-at (Holds.next {x = o} {s = s} {p} {q} {t = u} i j l) e =
             let z = every-at i e in
             let y = z .setting in
             let ff = visit-fits rom x (b .kinds) (b .sums) p (z .cell) (wk .fine (z .at)) in
-            let j′ : tokenAt rom (suc far) wide p ≡ Good u = subst (λ v. tokenAt rom (suc far) (v .wide) p ≡ Good u) y (subst (λ v. tokenAt rom v (s .wide) p ≡ Good u) e j) in
+            let j′ : tokenAt rom (suc far) wide p ≡ Good u =
+            subst (λ v. tokenAt rom (suc far) (v .wide) p ≡ Good u) y (subst (λ v. tokenAt rom v (s .wide) p ≡ Good u) e j) in
             let same : ff .token ≡ u = one-good (ff .meets .is) j′ in
             let no-fix = fails (fixes u) (fixes-outside rom (lengthOf rom) wide p u j′ .0) in
-            let way = leads-way ff (subst (λ v. T (not (fixes v))) (sym same) no-fix) (subst (λ v. In q (leadsOf v)) (sym same) (leads-itself no-fix l)) in
+            let way = leads-way ff (subst (λ v. T (not (fixes v))) (sym same) no-fix)
+            (subst (λ v. In q (leadsOf v)) (sym same) (leads-itself no-fix l)) in
             record { setting = after-same u s no-fix ∙ y; cell = _; at = At.on (z .at) (wk .fine (z .at)) way }
 
         -- ---- its tally
@@ -306,7 +318,11 @@ module _ (rom : List ℕ) (fits : lengthOf rom ≤ romMost) (a : Assignment rom)
               among = record {
                 low = lo .0;
                 high = omega (arith, lo .1);
-                visited = record { met = ap isMet e ∙ is-met (heights (H p + entered - need) (B p)) (omega (arith, y .height)) (y .back); is = j };
+                visited =
+                    record {
+                      met = ap isMet e ∙ is-met (heights (H p + entered - need) (B p)) (omega (arith, y .height)) (y .back);
+                      is = j;
+                    };
               };
               height = ap heightIn e ∙ height-in (H p + entered - need) (B p) (omega (arith, y .height));
               back = ap backIn e ∙ back-in (H p + entered - need) (B p) (omega (arith, y .height));
@@ -316,7 +332,8 @@ module _ (rom : List ℕ) (fits : lengthOf rom ≤ romMost) (a : Assignment rom)
         -- a place with heights was come to
         among-at : (p : ℕ) → t .next ≤ p → isMet (cellAt p) ≡ true → BodyAt p (cellAt p)
         among-at p l e =
-            let z = next-ahead rom (lengthOf rom) wide false far t (r .is) in walked-met mk wk p (ran-above rom (ready rom fits (g .follows)) r p (omega arith)) e
+            let z = next-ahead rom (lengthOf rom) wide false far t (r .is) in
+            walked-met mk wk p (ran-above rom (ready rom fits (g .follows)) r p (omega arith)) e
 
         -- so that a place of the tally is that of a reachable token
         among-met : {p : ℕ} {u : Token} → Amid p u → Met rom (suc far) here p u
@@ -364,7 +381,8 @@ module _ (rom : List ℕ) (fits : lengthOf rom ≤ romMost) (a : Assignment rom)
           -- the peak, as the body was entered at 64
           peak-is : y .peak ≡ a .sum n .peak + (entered - need)
           peak-is =
-              same-most (λ p u. max (H p) (H p - effectOf (a .sum) u .takes + effectOf (a .sum) u .rise)) (peakAt (b .sums)) (entered - need) (a .sum n .peak) (y .peak)
+              same-most (λ p u. max (H p) (H p - effectOf (a .sum) u .takes + effectOf (a .sum) u .rise)) (peakAt (b .sums))
+              (entered - need) (a .sum n .peak) (y .peak)
               (λ s p u q.
               let z = met-told q in
               let l = limits rom fits a q in
@@ -385,7 +403,8 @@ module _ (rom : List ℕ) (fits : lengthOf rom ≤ romMost) (a : Assignment rom)
               (λ s p u q. let z = met-told q in rw (z .effect) (omega arith)) (a .frames the-body) (ty .frames)
 
           -- its ends have one height
-          end-height : {v : ℕ} → Leaving rom (lengthOf rom) wide (w .seen) (t .next) (suc (m .end)) v → v ≡ suc (a .sum n .out + entered - need)
+          end-height : {v : ℕ} → Leaving rom (lengthOf rom) wide (w .seen) (t .next) (suc (m .end)) v
+              → v ≡ suc (a .sum n .out + entered - need)
           end-height l =
               let q = among-met (l .among) in
               let z = met-told q .height in
@@ -407,9 +426,11 @@ module _ (rom : List ℕ) (fits : lengthOf rom ≤ romMost) (a : Assignment rom)
           pub sum-is : sumTold y ≡ a .sum n
           sum-is =
               let v = need-low in
-              same (omega (arith, need-is)) (omega (arith, out-is, need-is)) (omega (arith, peak-is, need-is)) (omega (arith, back-is)) (omega (arith, frames-is))
+              same (omega (arith, need-is)) (omega (arith, out-is, need-is)) (omega (arith, peak-is, need-is)) (omega (arith, back-is))
+              (omega (arith, frames-is))
             where
-              same : {h i j k l : ℕ} → h ≡ a .sum n .need → i ≡ a .sum n .out → j ≡ a .sum n .peak → k ≡ a .sum n .«return_peak» → l ≡ a .sum n .frames
+              same : {h i j k l : ℕ} → h ≡ a .sum n .need → i ≡ a .sum n .out → j ≡ a .sum n .peak → k ≡ a .sum n .«return_peak»
+                  → l ≡ a .sum n .frames
                   → record { need = h; out = i; peak = j; «return_peak» = k; frames = l } ≡ a .sum n
               same h i j k l = rw (h, i, j, k, l)
 
@@ -437,4 +458,9 @@ module _ (rom : List ℕ) (fits : lengthOf rom ≤ romMost) (a : Assignment rom)
           unfolding passesOf
           tally-passes =
               let l : y .peak + y .need ≤ bodyMost = (let v = need-low in omega (arith, peak-is, need-is, peak-low)) in
-              rw (ends-agree, ne-eqb (y .out) 0 some-end, is-true (leb (y .peak + y .need) bodyMost) (le→leb (y .peak + y .need) bodyMost l))
+              rw (
+                ends-agree,
+                ne-eqb (y .out) 0 some-end,
+                is-true (leb (y .peak + y .need) bodyMost)
+                    (le→leb (y .peak + y .need) bodyMost l),
+              )

@@ -30,8 +30,10 @@ use Rattle.screen.specs.Laws.Walk.Walking.{At, Given, Walked, walk-good,
 use Rattle.screen.specs.Laws.Walk.Marking.{MarksBody, marks-good, marks-found}
 use Rattle.screen.specs.Laws.Walk.Tallying.{TallyIs, tally-is}
 use Rattle.screen.specs.Laws.Walk.Advancing.{settingOf}
-use Rattle.screen.specs.Laws.Found.Model.{Path, Board, RoundEnd, Marked, slot, sumAt, bodyText, stoodOn, isNew, sumTold, passesOf, roundRest, goOn}
-use Rattle.screen.specs.Laws.Found.Model.{startsOf, bodyWalked, bodyShifted, colonOf, defineOf, advanceOf, roundGood, roundsOf, lastOf}
+use Rattle.screen.specs.Laws.Found.Model.{Path, Board, RoundEnd, Marked, slot, sumAt, bodyText, stoodOn, isNew, sumTold, passesOf}
+use Rattle.screen.specs.Laws.Found.Model.{roundRest, goOn}
+use Rattle.screen.specs.Laws.Found.Model.{startsOf, bodyWalked, bodyShifted, colonOf, defineOf, advanceOf, roundGood, roundsOf}
+use Rattle.screen.specs.Laws.Found.Model.{lastOf}
 use Rattle.screen.specs.Laws.Walk.Rounds.{ran-size, ran-above, ran, farOf, left, OutAt, turnOf, Ran, Next, on}
 use Rattle.screen.specs.Laws.Walk.Boards.{BodyRan, Advanced, advanced, given-body}
 use Rattle.screen.specs.Laws.Walk.Chains.{Steps, here, via, then, climbs}
@@ -73,7 +75,12 @@ module _ (rom : List ℕ) (fits : lengthOf rom ≤ romMost) (a : Assignment rom)
   -- from one round to the next
   pub agrees-next : {b b′ : Board} → Agrees rom fits a b → Next rom b b′ → Agrees rom fits a b′
   agrees-next {b} {b′} g n =
-      record { follows = then rom fits (g .follows) n; cell = cell; sums = sums; floor = Floor.behind met f (extends-start rom fits r f o v) }
+      record {
+        follows = then rom fits (g .follows) n;
+        cell = cell;
+        sums = sums;
+        floor = Floor.behind met f (extends-start rom fits r f o v);
+      }
     where
       z : (r : Ran rom b) × Advanced rom b (r .token) b′ × T (fixes (r .token))
       z = advanced rom fits (ready rom fits (g .follows)) n
@@ -112,7 +119,8 @@ module _ (rom : List ℕ) (fits : lengthOf rom ≤ romMost) (a : Assignment rom)
       new : T (isA define (r .token)) → sumAt (b′ .sums) (newNumber (r .token .operand)) ≡ a .sum (newNumber (r .token .operand))
       new d = by (isColon (r .token)) refl
         where
-          by : (k : Bool) → isColon (r .token) ≡ k → sumAt (b′ .sums) (newNumber (r .token .operand)) ≡ a .sum (newNumber (r .token .operand))
+          by : (k : Bool) → isColon (r .token) ≡ k
+              → sumAt (b′ .sums) (newNumber (r .token .operand)) ≡ a .sum (newNumber (r .token .operand))
           by true e =
               let c = holds (isColon (r .token)) e in
               let y = v .body c in
@@ -152,7 +160,8 @@ module _ (rom : List ℕ) (fits : lengthOf rom ≤ romMost) (a : Assignment rom)
     -- its walk's cells are the heights, moved
     pub body-heights : {p d : ℕ}
         → At rom (bodyText (lengthOf rom) (b .stand .wide) (r .token .next)) (b .kinds) (b .sums) (r .token .next) entryCell p d
-        → d ≡ cellWith (heights (a .height (suc (farOf rom b)) p + entered - a .sum (newNumber (r .token .operand)) .need) (a .back (suc (farOf rom b)) p))
+        → d ≡ cellWith (heights (a .height (suc (farOf rom b)) p + entered - a .sum (newNumber (r .token .operand)) .need)
+        (a .back (suc (farOf rom b)) p))
     body-heights i = at-inside rom fits a (agrees s) r f c reads i .cell
 
     -- and its tally is its number's sum
@@ -241,13 +250,15 @@ module _ (rom : List ℕ) (fits : lengthOf rom ≤ romMost) (a : Assignment rom)
       passes = tally-passes rom fits a g r f c (the-end .1) marked walked told
 
       -- so that the b(:) is carried out
-      colon-good : T (isA define t) → Passes (colonOf rom (lengthOf rom) (left rom b) (stoodOn (b .stand) t cellHere) (newNumber (t .operand)) (t .next))
+      colon-good : T (isA define t)
+          → Passes (colonOf rom (lengthOf rom) (left rom b) (stoodOn (b .stand) t cellHere) (newNumber (t .operand)) (t .next))
       unfolding colonOf bodyShifted
       colon-good d =
           when-is Passes (marksB w .good) _ _
           (λ m.
           when-is Passes (pathB w .walk .good) _ _ (λ i. subst (λ v. passesOf (tallyB v) ≡ true) same passes)
-          (λ i. absurd (T-not (pathB w .walk .good) i (holds (pathB w .walk .good) (subst (λ v. pathB v .walk .good ≡ true) same path-passes)))))
+          (λ i. absurd (T-not (pathB w .walk .good) i
+          (holds (pathB w .walk .good) (subst (λ v. pathB v .walk .good ≡ true) same path-passes)))))
           (λ m. absurd (T-not (marksB w .good) m (holds (marksB w .good) (subst (λ v. marksB v .good ≡ true) same marks-pass))))
         where
           w : Bool
@@ -336,19 +347,22 @@ module _ (rom : List ℕ) (fits : lengthOf rom ≤ romMost) (a : Assignment rom)
             omega arith
 
     -- and there is no rest behind any other
-    rest-good : roundRest (λ t. turnOf rom b t) (goOn go) (left rom b) (readOf rom (lengthOf rom) (b .stand .wide) false (farOf rom b)) .good ≡ true
+    rest-good : roundRest (λ t. turnOf rom b t) (goOn go) (left rom b)
+        (readOf rom (lengthOf rom) (b .stand .wide) false (farOf rom b)) .good ≡ true
     rest-good =
         subst (λ x. roundRest (λ t. turnOf rom b t) (goOn go) (left rom b) x .good ≡ true) (sym (r .is))
         (when-is (λ (y : RoundEnd). y .good ≡ true) (fixes (r .token)) _ _ on-good (λ n. refl))
 
   -- as many rounds as places are left are enough
-  rounds-good : (k : ℕ) (b : Board) → Agrees rom fits a b → lengthOf rom ≤ b .stand .start + k → roundsOf rom (lengthOf rom) k b .good ≡ true
+  rounds-good : (k : ℕ) (b : Board) → Agrees rom fits a b → lengthOf rom ≤ b .stand .start + k
+      → roundsOf rom (lengthOf rom) k b .good ≡ true
   unfolding roundsOf
   rounds-good zero b g l = absurd (start-below g (omega arith))
   rounds-good (suc k) b g l =
       when-is (λ (y : RoundEnd). y .good ≡ true) (roundGood rom (lengthOf rom) b (ran rom b)) _ _
       (λ i. rest-good g (λ c. roundsOf rom (lengthOf rom) k c) (λ c h u. rounds-good k c h (omega arith)))
-      (λ i. absurd (T-not (roundGood rom (lengthOf rom) b (ran rom b)) i (holds (roundGood rom (lengthOf rom) b (ran rom b)) (round-good rom fits a g))))
+      (λ i. absurd (T-not (roundGood rom (lengthOf rom) b (ran rom b)) i
+      (holds (roundGood rom (lengthOf rom) b (ran rom b)) (round-good rom fits a g))))
 
 -- an assignment makes the model pass
 pub exact : (rom : List ℕ) → lengthOf rom ≤ romMost → Assignment rom → lastOf rom .good ≡ true

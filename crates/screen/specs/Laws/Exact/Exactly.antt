@@ -1,5 +1,5 @@
--- The model keeps the screen's promise, and nothing else does: it passes a ROM exactly where an assignment exists, with the marks that any assignment
--- fixes. Assumes nothing.
+-- The model keeps the screen's promise, and nothing else does: it passes a ROM exactly where an assignment exists, with the marks that any
+-- assignment fixes. Assumes nothing.
 use Prim.Native.Nat.{ℕ, suc, _≤_, _<_}
 use native.Mathlib.Omega.{arith}
 use native.Mathlib.Decide.{decLt, ℕ-discrete}
@@ -31,7 +31,7 @@ use Rattle.screen.specs.Laws.Exact.Exact.{exact}
 use Rattle.screen.specs.Laws.Exact.Agree.{last-is, Reached, only-reached}
 use Rattle.screen.specs.declared.screening.Verdict.{Verdict}
 use Rattle.screen.specs.declared.screening.Verdict.the-variants.{Refused}
-use Rattle.screen.specs.Laws.Found.Cell.{cellWith, markIn, heights, Heights, same-heights, cell-mark, mark-none}
+use Rattle.screen.specs.Laws.Found.Cell.{cellWith, markIn, heights, TokenHeights, same-heights, cell-mark, mark-none}
 
 module _ (rom : List ℕ) (fits : lengthOf rom ≤ romMost) where
   -- the rounds of a model that passes
@@ -47,14 +47,16 @@ module _ (rom : List ℕ) (fits : lengthOf rom ≤ romMost) where
   tall : (a : Assignment rom) {x p : ℕ} {s : Setting} → Reach rom x s p → a .height x p ≤ dataMost
   tall a r = let t = a .whole r in a .dataLimit (record { reach = r; is = t .1 }) .0
 
-  pub agree : (a b : Assignment rom) {x p : ℕ} {s : Setting} → Reach rom x s p → (a .height x p ≡ b .height x p) × (a .back x p ≡ b .back x p)
+  pub agree : (a b : Assignment rom) {x p : ℕ} {s : Setting} → Reach rom x s p → (a .height x p ≡ b .height x p)
+      × (a .back x p ≡ b .back x p)
   agree a b {x} {p} r =
       let c = passed (exact rom fits a) in
-      let e : cellWith (heights (a .height x p) (a .back x p)) ≡ cellWith (heights (b .height x p) (b .back x p)) = sym (last-is rom fits c a r) ∙ last-is rom fits c b r in
+      let e : cellWith (heights (a .height x p) (a .back x p)) ≡ cellWith (heights (b .height x p) (b .back x p)) =
+      sym (last-is rom fits c a r) ∙ last-is rom fits c b r in
       let l = tall a r in
       let m = tall b r in
       let h = same-heights _ _ (omega arith) (omega arith) e in
-      (ap (λ (v : Heights). v .height) h, ap (λ (v : Heights). v .back) h)
+      (ap (λ (v : TokenHeights). v .height) h, ap (λ (v : TokenHeights). v .back) h)
 
   -- ---- the marks
   chain-size : {b f : Board} → Ready rom b → Chain rom b f → length (f .seen) ≡ roomOf (lengthOf rom)
@@ -116,13 +118,16 @@ module _ (rom before : List ℕ) (s : length before ≡ marksSize) (h : headerOf
   judged-good : lastOf rom .good ≡ true → KeepsPromise rom before (judgedOf rom before)
   unfolding judgedOf screenOf
   judged-good g =
-      subst (λ o. KeepsPromise rom before (verdictOn before o)) (sym (when-true (some (laidOf (lastOf rom .board .seen))) none (lastOf rom .good) g))
-      (passes s h (passes-exactly rom (header-length rom h) .0 g) (model-marks rom (header-length rom h) (passes-exactly rom (header-length rom h) .0 g)))
+      subst (λ o. KeepsPromise rom before (verdictOn before o))
+      (sym (when-true (some (laidOf (lastOf rom .board .seen))) none (lastOf rom .good) g))
+      (passes s h (passes-exactly rom (header-length rom h) .0 g)
+      (model-marks rom (header-length rom h) (passes-exactly rom (header-length rom h) .0 g)))
 
   judged-bad : lastOf rom .good ≡ false → KeepsPromise rom before (judgedOf rom before)
   unfolding judgedOf screenOf
   judged-bad g =
-      subst (λ o. KeepsPromise rom before (verdictOn before o)) (sym (when-false (some (laidOf (lastOf rom .board .seen))) none (lastOf rom .good) g))
+      subst (λ o. KeepsPromise rom before (verdictOn before o))
+      (sym (when-false (some (laidOf (lastOf rom .board .seen))) none (lastOf rom .good) g))
       (subst (λ n. Promised rom before (Refused 31) (replicate n 0)) (sym s)
       (no-heights s h (λ a. subst T (sym (exact rom (header-length rom h) a) ∙ g) tt)))
 
@@ -144,7 +149,8 @@ pub promise-by : (rom before : List ℕ) (v : Verdict) (m : List ℕ) → screen
 promise-by rom before v m e = subst (KeepsPromise rom before) (sym e) (promise-kept rom before)
 
 -- ---- any two results that the promise allows are equal
-pub one-result : {rom before : List ℕ} {v w : Verdict} {m n : List ℕ} → Promised rom before v m → Promised rom before w n → (v ≡ w) × (m ≡ n)
+pub one-result : {rom before : List ℕ} {v w : Verdict} {m n : List ℕ} → Promised rom before v m → Promised rom before w n → (v ≡ w)
+    × (m ≡ n)
 one-result (wrong-size s) (wrong-size r) = (refl, refl)
 one-result (wrong-size s) (bad-header r h) = absurd (s r)
 one-result (wrong-size s) (no-heights r h z) = absurd (s r)

@@ -25,7 +25,8 @@ use Rattle.screen.specs.Laws.Rules.Reach.{extends-ahead}
 use Rattle.screen.specs.Rules.{Assignment, ownFrame}
 use Rattle.screen.specs.Laws.Rules.InForce.{fixed-read, fixing, reach-first, next-met, step-of, step-passes}
 use Rattle.screen.specs.Laws.Rules.Tokens.{after-same, leave-inside, heads}
-use Rattle.screen.specs.Laws.Rules.Ways.{effect-call, effect-own, unknown-call, call-known, assign-known, unnamed-known, GivesOn, gives-leads, define-fixes, colon-fixes}
+use Rattle.screen.specs.Laws.Rules.Ways.{effect-call, effect-own, unknown-call, call-known, assign-known, unnamed-known, GivesOn}
+use Rattle.screen.specs.Laws.Rules.Ways.{gives-leads, define-fixes, colon-fixes}
 use Rattle.screen.specs.Laws.Walk.Visits.{Meets, Fits, visit-fits, fits-visit}
 use Rattle.screen.specs.Laws.Walk.Walking.{At, Fails, Given, Walked, walk-good, walk-bad}
 use Rattle.screen.specs.Laws.Walk.Apart.{Overlap, apart-bad}
@@ -50,7 +51,8 @@ kind-some k h e = let z : T (isKind 0) = subst (λ n. T (isKind n)) e h in z
 -- how a token is known
 pub data KnownBy (rom : List ℕ) (p : ℕ) (t : Token) : Type 0 where
   unnamed : T (not (names t)) → KnownBy rom p t
-  named : {s : Setting} {d e : ℕ} {u : Token} → Met rom 0 s d u → Named t u → Holds rom (Claim.extends (s .wide) u e) → e ≤ p → KnownBy rom p t
+  named : {s : Setting} {d e : ℕ} {u : Token} → Met rom 0 s d u → Named t u → Holds rom (Claim.extends (s .wide) u e) → e ≤ p
+      → KnownBy rom p t
 
 -- a known token is so by one of the two
 pub known-by : {rom : List ℕ} {p : ℕ} {t : Token} → Holds rom (Claim.known p t) → KnownBy rom p t
@@ -122,7 +124,8 @@ module _ (rom : List ℕ) (fits : lengthOf rom ≤ romMost) (a : Assignment rom)
     behind : {s : Setting} {m : ℕ} {u : Token} → Met rom 0 s m u → T (fixes u) → Holds rom (Claim.extends (s .wide) u k) → Floor k
 
   -- it is so of both
-  pub stay-above : {k : ℕ} → Floor k → {s : Setting} {p q : ℕ} {t : Token} → Met rom 0 s p t → k ≤ p → Holds rom (Claim.leads (s .wide) p t q) → k ≤ q
+  pub stay-above : {k : ℕ} → Floor k → {s : Setting} {p q : ℕ} {t : Token} → Met rom 0 s p t → k ≤ p
+      → Holds rom (Claim.leads (s .wide) p t q) → k ≤ q
   stay-above (first e) m l h = let y = reach-first (next-met a m h .1 .reach) in omega arith
   stay-above (behind {m = o} n f x) m l h =
       let y = extends-ahead n x in
@@ -174,7 +177,8 @@ module _ (rom : List ℕ) (fits : lengthOf rom ≤ romMost) (a : Assignment rom)
 
     -- a token is known to the tables where what it names is defined before the start
     pub known-held : {p : ℕ} {t : Token} → Holds rom (Claim.known p t)
-        → ((s : Setting) (d e : ℕ) (u : Token) → Met rom 0 s d u → T (isA define u) → Holds rom (Claim.extends (s .wide) u e) → e ≤ p → d < b .stand .start)
+        → ((s : Setting) (d e : ℕ) (u : Token) → Met rom 0 s d u → T (isA define u) → Holds rom (Claim.extends (s .wide) u e) → e ≤ p
+        → d < b .stand .start)
         → unknownOf (b .kinds) t ≡ false
     known-held {p} {t} k early = by (known-by k)
       where
@@ -199,7 +203,8 @@ module _ (rom : List ℕ) (fits : lengthOf rom ≤ romMost) (a : Assignment rom)
         by : (k : Bool) → isA call t ≡ k → effectOf (sumAt (b .sums)) t ≡ effectOf (a .sum) t
         by true e =
             let c = holds (isA call t) e in
-            effect-call (sumAt (b .sums)) t c ∙ ap called (g .sums (t .number) (unknown-call (b .kinds) t c u)) ∙ sym (effect-call (a .sum) t c)
+            effect-call (sumAt (b .sums)) t c ∙ ap called (g .sums (t .number) (unknown-call (b .kinds) t c u))
+            ∙ sym (effect-call (a .sum) t c)
         by false e = let c = fails (isA call t) e in effect-own (sumAt (b .sums)) t c ∙ sym (effect-own (a .sum) t c)
 
     -- ---- what the round comes to
@@ -209,7 +214,8 @@ module _ (rom : List ℕ) (fits : lengthOf rom ≤ romMost) (a : Assignment rom)
       pub cell : c ≡ cellWith (heights (a .height 0 p) (a .back 0 p))
 
     -- the cell behind a token, where its own is a height's
-    behind-cell : {p c q : ℕ} {t : Token} → Met rom 0 (settingOf (b .stand)) p t → Holds rom (Claim.leads (b .stand .wide) p t q) → unknownOf (b .kinds) t ≡ false
+    behind-cell : {p c q : ℕ} {t : Token} → Met rom 0 (settingOf (b .stand)) p t → Holds rom (Claim.leads (b .stand .wide) p t q)
+        → unknownOf (b .kinds) t ≡ false
         → c ≡ cellWith (heights (a .height 0 p) (a .back 0 p))
         → cellWith (heightsAfter (effectOf (sumAt (b .sums)) t) c) ≡ cellWith (heights (a .height 0 q) (a .back 0 q))
     behind-cell {p} {c} {q} {t} m l u e =
@@ -229,7 +235,8 @@ module _ (rom : List ℕ) (fits : lengthOf rom ≤ romMost) (a : Assignment rom)
         let m : Met rom 0 (settingOf (b .stand)) p (f .token) = record { reach = y .reach; is = f .meets .is } in
         let d : Holds rom (Claim.leads (b .stand .wide) p (f .token) q) = Holds.by-itself (a .known m) (l .leads) in
         record {
-          reach = subst (λ s. Reach rom 0 s q) (after-same (f .token) (settingOf (b .stand)) (l .free)) (Holds.next (y .reach) (f .meets .is) d);
+          reach = subst (λ s. Reach rom 0 s q) (after-same (f .token) (settingOf (b .stand)) (l .free))
+              (Holds.next (y .reach) (f .meets .is) d);
           above = stay-above (g .floor) m (y .above) d;
           cell = f .cell ∙ behind-cell m d (f .meets .named) (y .cell);
         }
@@ -239,7 +246,8 @@ module _ (rom : List ℕ) (fits : lengthOf rom ≤ romMost) (a : Assignment rom)
     here-met i = let y = at-here i in let w = a .whole (y .reach) in (w .0, record { reach = y .reach; is = w .1 })
 
     -- it comes to no place above a token that is met exactly once
-    pub stay-below : {p c : ℕ} → OutAt rom b p c → {s : Setting} {d : ℕ} {u : Token} → Met rom 0 s d u → T (fixes u) → b .stand .start ≤ d → p ≤ d
+    pub stay-below : {p c : ℕ} → OutAt rom b p c → {s : Setting} {d : ℕ} {u : Token} → Met rom 0 s d u → T (fixes u) → b .stand .start ≤ d
+        → p ≤ d
     stay-below At.begins m f l = l
     stay-below (At.on {p} {c} {q} i o w) {s} {d} {u} m f l = by (ℕ-discrete p d) (stay-below i m f l)
       where
@@ -259,14 +267,16 @@ module _ (rom : List ℕ) (fits : lengthOf rom ≤ romMost) (a : Assignment rom)
         by (no e) k = over (decLt d q)
           where
             over : Dec (d < q) → q ≤ d
-            over (yes y) = let z = step-passes a n (step-of a n (Holds.by-itself (a .known n) (to .leads))) .adds d (fixing m f) y in absurd (omega arith)
+            over (yes y) = let z = step-passes a n (step-of a n (Holds.by-itself (a .known n) (to .leads))) .adds d (fixing m f) y in
+                absurd (omega arith)
             over (no y) = omega arith
 
     -- ---- its tokens' rules are met
     pub here-known : {p c : ℕ} {t : Token} → OutAt rom b p c → Met rom 0 (settingOf (b .stand)) p t → unknownOf (b .kinds) t ≡ false
     here-known {p} {c} {t} i m = known-held (a .known m) (λ s d e u n f v l. by n f (extends-ahead n v) l (decLt d (b .stand .start)))
       where
-        by : {s : Setting} {d e : ℕ} {u : Token} → Met rom 0 s d u → T (isA define u) → d < e → e ≤ p → Dec (d < b .stand .start) → d < b .stand .start
+        by : {s : Setting} {d e : ℕ} {u : Token} → Met rom 0 s d u → T (isA define u) → d < e → e ≤ p → Dec (d < b .stand .start)
+            → d < b .stand .start
         by n f v l (yes y) = y
         by {u = u} n f v l (no y) = let z = stay-below i n (define-fixes u f) (omega arith) in absurd (omega arith)
 
@@ -310,7 +320,8 @@ module _ (rom : List ℕ) (fits : lengthOf rom ≤ romMost) (a : Assignment rom)
     given =
         let y = ready rom fits (g .follows) in
         let h = has-room (lengthOf rom) fits (y .seen) in
-        let c : b .stand .cell ≢ 0 = λ z. cell-some (heights (a .height 0 (b .stand .start)) (a .back 0 (b .stand .start))) (sym (g .cell) ∙ z) in
+        let c : b .stand .cell ≢ 0 = λ z. cell-some (heights (a .height 0 (b .stand .start)) (a .back 0 (b .stand .start)))
+        (sym (g .cell) ∙ z) in
         record {
           room = h .0;
           few = h .1;
@@ -337,7 +348,8 @@ module _ (rom : List ℕ) (fits : lengthOf rom ≤ romMost) (a : Assignment rom)
     seen-at : (p : ℕ) → b .stand .start ≤ p → getD (ran rom b .seen) p 0 ≢ 0 → OutAt rom b p (getD (ran rom b .seen) p 0)
     seen-at p l n = by (walked .kept p)
       where
-        by : (getD (ran rom b .seen) p 0 ≡ getD (b .seen) p 0) ⊎ OutAt rom b p (getD (ran rom b .seen) p 0) → OutAt rom b p (getD (ran rom b .seen) p 0)
+        by : (getD (ran rom b .seen) p 0 ≡ getD (b .seen) p 0) ⊎ OutAt rom b p (getD (ran rom b .seen) p 0)
+            → OutAt rom b p (getD (ran rom b .seen) p 0)
         by (inl e) = absurd (n (e ∙ ready rom fits (g .follows) .fresh p l))
         by (inr i) = i
 
@@ -375,7 +387,9 @@ module _ (rom : List ℕ) (fits : lengthOf rom ≤ romMost) (a : Assignment rom)
       where
         by : (k : Bool) → test ≡ k → k ≡ true
         by true e = refl
-        by false e = absurd (no-overlap (apart-bad rom x (ran rom b .seen) (b .stand .start) (farOf rom b) (walked .inside (walked .highest .1) .0) e))
+        by false e =
+            absurd (no-overlap (apart-bad rom x (ran rom b .seen) (b .stand .start) (farOf rom b)
+            (walked .inside (walked .highest .1) .0) e))
 
     -- so that it is good
     pub round-good : roundGood rom (lengthOf rom) b (ran rom b) ≡ true

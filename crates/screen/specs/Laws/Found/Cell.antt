@@ -11,18 +11,18 @@ use Rattle.rom.specs.Sizes.{dataMost, returnMost}
 
 -- ---- a cell
 -- the data height and the return height that a token is met with
-pub record Heights : Type 0 where
+pub record TokenHeights : Type 0 where
   pub height : ℕ
   pub back : ℕ
 
-abbrev pub heights : ℕ → ℕ → Heights
+abbrev pub heights : ℕ → ℕ → TokenHeights
 heights height back = record { height = height; back = back }
 
 -- 0 where no token was met, else one more than the data height, and 256 times the return height
-unfoldable pub cellWith : Heights → ℕ
+unfoldable pub cellWith : TokenHeights → ℕ
 cellWith h = suc (h .height) + 256 * h .back
 
-unfoldable pub heightsIn : ℕ → Heights
+unfoldable pub heightsIn : ℕ → TokenHeights
 heightsIn cell = heights (cell % 256 - 1) (cell / 256)
 
 abbrev pub heightIn : ℕ → ℕ
@@ -67,7 +67,7 @@ cellMost = 8321
 
 -- ---- the law of the code, and what follows from it
 -- a cell says the heights that it was made of
-pub cell-heights : (h : Heights) → h .height ≤ 254 → heightsIn (cellWith h) ≡ h
+pub cell-heights : (h : TokenHeights) → h .height ≤ 254 → heightsIn (cellWith h) ≡ h
 unfolding cellWith heightsIn
 cell-heights h l =
     let a : (suc (h .height) + 256 * h .back) % 256 - 1 ≡ h .height = omega arith in
@@ -75,31 +75,31 @@ cell-heights h l =
     rw (a, b) refl
 
 pub height-in : (k r : ℕ) → k ≤ 254 → heightIn (cellWith (heights k r)) ≡ k
-height-in k r l = ap (λ (h : Heights). h .height) (cell-heights (heights k r) l)
+height-in k r l = ap (λ (h : TokenHeights). h .height) (cell-heights (heights k r) l)
 
 pub back-in : (k r : ℕ) → k ≤ 254 → backIn (cellWith (heights k r)) ≡ r
-back-in k r l = ap (λ (h : Heights). h .back) (cell-heights (heights k r) l)
+back-in k r l = ap (λ (h : TokenHeights). h .back) (cell-heights (heights k r) l)
 
 -- the same heights are one cell
 pub same-cell : {h k r s : ℕ} → h ≡ k → r ≡ s → cellWith (heights h r) ≡ cellWith (heights k s)
 same-cell e f = rw (e, f)
 
 -- two cells are one only where the heights are
-pub same-heights : (h k : Heights) → h .height ≤ 254 → k .height ≤ 254 → cellWith h ≡ cellWith k → h ≡ k
+pub same-heights : (h k : TokenHeights) → h .height ≤ 254 → k .height ≤ 254 → cellWith h ≡ cellWith k → h ≡ k
 same-heights h k l m e = sym (cell-heights h l) ∙ ap heightsIn e ∙ cell-heights k m
 
 -- it is not the cell of a place where no token was met
-pub cell-some : (h : Heights) → cellWith h ≢ 0
+pub cell-some : (h : TokenHeights) → cellWith h ≢ 0
 unfolding cellWith
 cell-some h = omega arith
 
 -- nor that of a token start of a body which was not met
-pub cell-met : (h : Heights) → h .height ≤ bodyMost → h .back ≤ returnMost → cellWith h ≢ unmet
+pub cell-met : (h : TokenHeights) → h .height ≤ bodyMost → h .back ≤ returnMost → cellWith h ≢ unmet
 unfolding cellWith
 cell-met h l m = omega arith
 
 -- so that the place was met
-pub is-met : (h : Heights) → h .height ≤ bodyMost → h .back ≤ returnMost → isMet (cellWith h) ≡ true
+pub is-met : (h : TokenHeights) → h .height ≤ bodyMost → h .back ≤ returnMost → isMet (cellWith h) ≡ true
 is-met h l m = rw (ne-eqb (cellWith h) 0 (cell-some h), ne-eqb (cellWith h) unmet (cell-met h l m))
 
 -- the cells that the code starts with
@@ -112,7 +112,7 @@ unfolding cellWith
 first-cell = refl
 
 -- ---- its mark
-pub cell-mark : (h : Heights) → h .height ≤ 254 → markIn (cellWith h) ≡ suc (h .height)
+pub cell-mark : (h : TokenHeights) → h .height ≤ 254 → markIn (cellWith h) ≡ suc (h .height)
 unfolding cellWith markIn
 cell-mark h l = omega arith
 
@@ -125,7 +125,7 @@ unfolding markIn
 mark-unmet = refl
 
 -- ---- how large it is
-pub cell-most : (h : Heights) → h .height ≤ bodyMost → h .back ≤ returnMost → cellWith h ≤ cellMost
+pub cell-most : (h : TokenHeights) → h .height ≤ bodyMost → h .back ≤ returnMost → cellWith h ≤ cellMost
 unfolding cellWith
 cell-most h l m = omega arith
 
@@ -139,7 +139,7 @@ unfolding cellWith heightsIn
 lower-cell cell n = omega arith
 
 -- ---- a cell that is moved
-pub moved-cell : (up down : ℕ) (h : Heights) → down ≤ h .height + up
+pub moved-cell : (up down : ℕ) (h : TokenHeights) → down ≤ h .height + up
     → movedCell up down (cellWith h) ≡ cellWith (heights (h .height + up - down) (h .back))
 unfolding cellWith movedCell
 moved-cell up down h l = omega arith

@@ -30,7 +30,8 @@ use Rattle.screen.specs.declared.effect.Sum.{Sum}
 use Rattle.screen.specs.declared.effect.Effect.{Effect}
 use Rattle.screen.specs.declared.walking.Text.{Text as Scope}
 use Rattle.screen.specs.declared.rounds.Stand.{Stand}
-use Rattle.screen.specs.Laws.Found.Cell.{Heights, heights, cellWith, heightIn, backIn, unmet, isMet, markIn, movedCell, entered, bodyMost, entryCell, firstCell}
+use Rattle.screen.specs.Laws.Found.Cell.{TokenHeights, heights, cellWith, heightIn, backIn, unmet, isMet, markIn, movedCell, entered}
+use Rattle.screen.specs.Laws.Found.Cell.{bodyMost, entryCell, firstCell}
 use Rattle.screen.specs.Laws.Found.Sums.{packedSum, unpackedSum}
 
 -- ---- the tables of numbers
@@ -59,7 +60,7 @@ heightAfter e cell = heightIn cell - e .takes + e .gives
 abbrev pub backAfter : Effect → ℕ → ℕ
 backAfter e cell = backIn cell - e .«return_takes» + e .«return_gives»
 
-abbrev pub heightsAfter : Effect → ℕ → Heights
+abbrev pub heightsAfter : Effect → ℕ → TokenHeights
 heightsAfter e cell = heights (heightAfter e cell) (backAfter e cell)
 
 -- the heights are there, and they stay within the limits
@@ -229,7 +230,8 @@ topped rom x sums a =
       good = a .walk .good;
       far = a .walk .far;
       tally =
-          toldIn (x .within) sums (a .walk .tally) (getD (a .seen) (waiting a) 0) (readOf rom (x .length) (x .wide) (x .within) (waiting a));
+          toldIn (x .within) sums (a .walk .tally) (getD (a .seen) (waiting a) 0)
+          (readOf rom (x .length) (x .wide) (x .within) (waiting a));
     })
 
 -- its successors are come to

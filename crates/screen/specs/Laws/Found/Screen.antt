@@ -1,5 +1,5 @@
--- The screen as a whole: what it says of any bytes, and what it leaves in the marks. "Tests run in the order 6, 1, 2, 3, 4, 5", and then 31.
--- Assumes nothing.
+-- The screen as a whole: what it says of any bytes, and what it leaves in the marks. "Tests run in the order 6, 1, 2, 3, 4, 5", and then
+-- 31. Assumes nothing.
 use Prim.Native.Nat.{ℕ}
 use mathlib.Core.Bool.{true, false}
 use mathlib.Core.List.{List}

@@ -121,7 +121,8 @@ reach-first {rom} (next {s = s} {p = p} {q = q} {t = t} r i l) = by (reach-first
 
 module _ {rom : List ℕ} (a : Assignment rom) where
   -- a successor is met
-  pub next-met : {x p q : ℕ} {s : Setting} {t : Token} → Met rom x s p t → Holds rom (leads (s .wide) p t q) → (u : Token) × Met rom x (after t s) q u
+  pub next-met : {x p q : ℕ} {s : Setting} {t : Token} → Met rom x s p t → Holds rom (leads (s .wide) p t q) → (u : Token)
+      × Met rom x (after t s) q u
   next-met m l = let r = next (m .reach) (m .is) l in let w = a .whole r in (w .0, record { reach = r; is = w .1 })
 
   -- ---- outside bodies
@@ -134,7 +135,8 @@ module _ {rom : List ℕ} (a : Assignment rom) where
         where
           way : FallOrJump t q → Step rom (s .wide) p t q
           way (falls e) = past (subst (λ v. Holds rom (extends (s .wide) t v)) (sym e) (extends-next i))
-          way (jumps b j) = over (λ c x. a .clear m b j (x .met) (x .once)) (fails (fixes t) (never-true (fixes t) (λ f. T-not (isBranch t) (fixes-no-branch t f) b)))
+          way (jumps b j) = over (λ c x. a .clear m b j (x .met) (x .once))
+              (fails (fixes t) (never-true (fixes t) (λ f. T-not (isBranch t) (fixes-no-branch t f) b)))
       by (LeadsBy.behind c x) = past x
 
   -- it passes no token that is met exactly once but its own: by rule 4's first sentence where it falls through
@@ -155,7 +157,8 @@ module _ {rom : List ℕ} (a : Assignment rom) where
       }
 
   -- what is passed where the token is one of them, and where it is none
-  pub step-passed : {p q : ℕ} {s : Setting} {t : Token} → Met rom 0 s p t → Step rom (s .wide) p t q → PassedBy rom (fixedOf s) p → PassedBy rom (fixedAfter t (fixedOf s)) q
+  pub step-passed : {p q : ℕ} {s : Setting} {t : Token} → Met rom 0 s p t → Step rom (s .wide) p t q → PassedBy rom (fixedOf s) p
+      → PassedBy rom (fixedAfter t (fixedOf s)) q
   step-passed {p} {q} {s} {t} m h x = by (fixes t) refl h
     where
       moves : Passes rom p q
@@ -172,7 +175,8 @@ module _ {rom : List ℕ} (a : Assignment rom) where
       by true e (over n z) = absurd (rw e at z)
       by false e y =
           subst (λ v. PassedBy rom v q) (sym (fixed-same t (fixedOf s) (fails (fixes t) e)))
-          (same-passed (moves .keeps) (λ c f l. let k = moves .adds c f l in elim (ℕ-discrete c p) [ yes i ↦ absurd (here e c f i) | no i ↦ omega arith ]) x)
+          (same-passed (moves .keeps) (λ c f l. let k = moves .adds c f l in
+          elim (ℕ-discrete c p) [ yes i ↦ absurd (here e c f i) | no i ↦ omega arith ]) x)
 
   -- every way to a place has passed all that lie before it
   pub reach-passed : {p : ℕ} {s : Setting} → Reach rom 0 s p → PassedBy rom (fixedOf s) p
@@ -187,7 +191,8 @@ module _ {rom : List ℕ} (a : Assignment rom) where
 
   -- ---- in bodies
   -- from a start of a body a token leads to a start of it: no C2 leads on, and by rule 2 its branches stay on its starts
-  pub start-on : {d n c p q : ℕ} {s r : Setting} {t u : Token} → Body rom s d t n c → Met rom (suc d) r p u → tokenAt rom 1 (s .wide) p ≡ Good u
+  pub start-on : {d n c p q : ℕ} {s r : Setting} {t u : Token} → Body rom s d t n c → Met rom (suc d) r p u
+      → tokenAt rom 1 (s .wide) p ≡ Good u
       → Starts rom (s .wide) (t .next) p → In q (leadsOf u) → Starts rom (s .wide) (t .next) q
   start-on {p = p} {q = q} {s = s} {t = t} {u = u} b m i start l = by (fall-or-jump u q l)
     where

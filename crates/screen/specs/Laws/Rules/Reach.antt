@@ -59,7 +59,8 @@ by-start {rom} {w} {p} {q} {t} Q e s h f = by (split e s) h f
     by (further m s′) h f = f m s′
 
 -- a start of what is behind the first token is a start
-pub prepend : {rom : List ℕ} {w : Bool} {p q : ℕ} {t : Token} → tokenAt rom 1 w p ≡ Good t → (t .number ≡ 0xC2 → ⊥) → Starts rom w (t .next) q
+pub prepend : {rom : List ℕ} {w : Bool} {p q : ℕ} {t : Token} → tokenAt rom 1 w p ≡ Good t → (t .number ≡ 0xC2 → ⊥)
+    → Starts rom w (t .next) q
     → Starts rom w p q
 prepend e n Starts.entry = Starts.behind Starts.entry e n
 prepend e n (Starts.behind s f m) = Starts.behind (prepend e n s) f m

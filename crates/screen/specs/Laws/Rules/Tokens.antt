@@ -121,7 +121,8 @@ same-behind : (rom : List ℕ) (v w : Bool) (p form : ℕ) → form ≢ offset �
 unfolding behindOf
 same-behind rom v w p form n = rw (ne-eqb form offset n)
 
-same-decode : (rom : List ℕ) (len : ℕ) (v w : Bool) (p : ℕ) → formIn (codeOf (numberOf rom p)) ≢ offset → decodeOf rom len v p ≡ decodeOf rom len w p
+same-decode : (rom : List ℕ) (len : ℕ) (v w : Bool) (p : ℕ) → formIn (codeOf (numberOf rom p)) ≢ offset
+    → decodeOf rom len v p ≡ decodeOf rom len w p
 unfolding decodeOf
 same-decode rom len v w p n =
     let q = behindNumber rom p in
@@ -154,7 +155,12 @@ after-same t s n =
     let a = neither (isA define t || isA widen t || isA newDevice t) (isA finishDevice t) n in
     let b = neither (isA define t || isA widen t) (isA newDevice t) (a .0) in
     let c = neither (isA define t) (isA widen t) (b .0) in
-    rw (is-false (isA define t) (c .0), is-false (isA widen t) (c .1), is-false (isA newDevice t) (b .1), is-false (isA finishDevice t) (a .1))
+    rw (
+      is-false (isA define t) (c .0),
+      is-false (isA widen t) (c .1),
+      is-false (isA newDevice t) (b .1),
+      is-false (isA finishDevice t) (a .1),
+    )
 
 module _ (rom : List ℕ) (len : ℕ) (wide within : Bool) (p : ℕ) (t : Token) (e : readOf rom len wide within p ≡ Good t) where
   -- a test of every code is a test of the token's
@@ -214,7 +220,8 @@ module _ (rom : List ℕ) (len : ℕ) (wide within : Bool) (p : ℕ) (t : Token)
       → (givesIn (t .code) ≡ 0) × (returnGivesIn (t .code) ≡ 0) × (returnTakesIn (t .code) ≡ 0)
   stops-quiet h =
       let c = t .code in
-      let a = follows (stopCode c) (eqb (givesIn c) 0 && (eqb (returnGivesIn c) 0 && eqb (returnTakesIn c) 0)) (coded-so stopFits stops-fit) h in
+      let a = follows (stopCode c) (eqb (givesIn c) 0 && (eqb (returnGivesIn c) 0 && eqb (returnTakesIn c) 0))
+      (coded-so stopFits stops-fit) h in
       let b = both-hold (eqb (givesIn c) 0) (eqb (returnGivesIn c) 0 && eqb (returnTakesIn c) 0) a in
       let d = both-hold (eqb (returnGivesIn c) 0) (eqb (returnTakesIn c) 0) (b .1) in
       (eqb→eq (givesIn c) 0 (b .0), eqb→eq (returnGivesIn c) 0 (d .0), eqb→eq (returnTakesIn c) 0 (d .1))

@@ -51,7 +51,8 @@ unfolding unknownOf
 call-known kinds t c n = rw (is-true (isA call t) c) (ne-eqb (kindOf kinds (t .number)) 0 n)
 
 -- the number behind b(to) is a value's where the token is not unknown
-pub unknown-assign : (kinds : List ℕ) (t : Token) → T (isA assign t) → unknownOf kinds t ≡ false → kindOf kinds (numberIn (t .operand)) ≡ 0xB8
+pub unknown-assign : (kinds : List ℕ) (t : Token) → T (isA assign t) → unknownOf kinds t ≡ false
+    → kindOf kinds (numberIn (t .operand)) ≡ 0xB8
 unfolding unknownOf
 unknown-assign kinds t c u =
     let v = rw (eqb→eq (familyIn (t .code)) assign c) at u in

@@ -14,7 +14,8 @@ use Rattle.tokens.specs.Definition.{newNumber, kindIn}
 use Rattle.tokens.specs.declared.decoding.Token.{Token}
 use Rattle.screen.specs.Effect.{isA, fixes, isColon, valueSum}
 use Rattle.screen.specs.Reach.{Setting}
-use Rattle.screen.specs.Laws.Found.Model.{Path, Board, RoundEnd, Marked, board, roundEnd, stoodOn, onStand, newNode, closedNode, entryOf, isNew, sumTold, places}
+use Rattle.screen.specs.Laws.Found.Model.{Path, Board, RoundEnd, Marked, board, roundEnd, stoodOn, onStand, newNode, closedNode}
+use Rattle.screen.specs.Laws.Found.Model.{entryOf, isNew, sumTold, places}
 use Rattle.screen.specs.Laws.Found.Model.{startsOf, bodyWalked, passesOf, shiftOf, bodyShifted, colonOf, defineOf, advanceOf}
 use Rattle.screen.specs.declared.rounds.Stand.{Stand}
 use Rattle.screen.specs.Laws.Found.Model.{Tally}
@@ -60,11 +61,13 @@ module _ (rom : List ℕ) (len : ℕ) (b : Board) (cell : ℕ) (t : Token) where
   bad-turn : (c : Board) → DidIn (roundEnd false c)
   bad-turn c e = absurd (subst T (sym e) tt)
 
-  colon-did : T (isA define t) → T (isColon t) → kindOf (b .kinds) numberIn ≡ 0 → b .stand .count < numbersMost → DidIn (colonOf rom len b stood numberIn (t .next))
+  colon-did : T (isA define t) → T (isColon t) → kindOf (b .kinds) numberIn ≡ 0 → b .stand .count < numbersMost
+      → DidIn (colonOf rom len b stood numberIn (t .next))
   unfolding colonOf bodyShifted
   colon-did d c k n =
       when-is DidIn (marksIn .good) _ _
-      (λ m. when-is DidIn (pathIn .walk .good) _ _ (λ a e. bodies d c k n (is-true (marksIn .good) m) (is-true (pathIn .walk .good) a) e) (λ a. bad-turn _))
+      (λ m. when-is DidIn (pathIn .walk .good) _ _ (λ a e. bodies d c k n (is-true (marksIn .good) m) (is-true (pathIn .walk .good) a) e)
+      (λ a. bad-turn _))
       (λ m. bad-turn _)
 
   define-did : T (isA define t) → DidIn (defineOf rom len b stood t)

@@ -27,7 +27,8 @@ pub record Apart (rom : List ℕ) (x : Scope) (seen : List ℕ) (start far : ℕ
 
 -- two that do, or one that is not
 pub data Overlap (rom : List ℕ) (x : Scope) (seen : List ℕ) (start far : ℕ) : Type 0 where
-  over : (p q : ℕ) → start ≤ p → p < q → q ≤ far → getD seen p 0 ≢ 0 → getD seen q 0 ≢ 0 → q < endIn p (outer rom x p) → Overlap rom x seen start far
+  over : (p q : ℕ) → start ≤ p → p < q → q ≤ far → getD seen p 0 ≢ 0 → getD seen q 0 ≢ 0 → q < endIn p (outer rom x p)
+      → Overlap rom x seen start far
   early : (p : ℕ) → start ≤ p → p ≤ far → getD seen p 0 ≢ 0 → fixedIn (outer rom x p) ≡ true → p ≢ far → Overlap rom x seen start far
 
 -- the answer of the pass, from a place on
@@ -52,7 +53,8 @@ highest p far false t e = absurd (subst T (sym e) tt)
 
 module _ {rom : List ℕ} {x : Scope} {seen : List ℕ} {start far : ℕ} where
   -- a place without a token
-  skipped : {p free : ℕ} {b : Bool} → getD seen p 0 ≡ 0 → ApartIs rom x seen start far (suc p) free b → ApartIs rom x seen start far p free b
+  skipped : {p free : ℕ} {b : Bool} → getD seen p 0 ≡ 0 → ApartIs rom x seen start far (suc p) free b
+      → ApartIs rom x seen start far p free b
   skipped {p} z (bad o) = bad o
   skipped {p} z (good ahead a) =
       good (λ q l h n. ahead q (above q l n) h n)

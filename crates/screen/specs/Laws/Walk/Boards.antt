@@ -52,7 +52,8 @@ held-program kinds n h = by (isProgram n) h
     by false h = absurd (h refl)
 
 program-slot : (m : ℕ) → T (isProgram m) → (firstProgram ≤ m) × (m ≤ lastProgram)
-program-slot m t = let h = both-hold (leb firstProgram m) (leb m lastProgram) t in (leb→le firstProgram m (h .0), leb→le m lastProgram (h .1))
+program-slot m t = let h = both-hold (leb firstProgram m) (leb m lastProgram) t in
+    (leb→le firstProgram m (h .0), leb→le m lastProgram (h .1))
 
 pub kind-same : (kinds : List ℕ) (n k : ℕ) → length kinds ≡ programsMost → T (isProgram n) → kindOf (set kinds (slot n) k) n ≡ k
 kind-same kinds n k l t =
@@ -76,7 +77,8 @@ unfolding sumAt
 sum-other sums n v m t s d = ap unpackedSum (getD-set-other sums (slot n) (slot m) v 0 (slots-differ m n s t d))
 
 -- a sum is what the table has of it
-pub sum-same : (sums : List ℕ) (n : ℕ) (s : Sum) → length sums ≡ programsMost → T (isProgram n) → SmallSum s → sumAt (set sums (slot n) (packedSum s)) n ≡ s
+pub sum-same : (sums : List ℕ) (n : ℕ) (s : Sum) → length sums ≡ programsMost → T (isProgram n) → SmallSum s
+    → sumAt (set sums (slot n) (packedSum s)) n ≡ s
 unfolding sumAt
 sum-same sums n s l t y =
     let u = program-slot n t in ap unpackedSum (getD-set-same sums (slot n) (packedSum s) 0 (omega arith)) ∙ unpacked-packed s y
@@ -98,7 +100,8 @@ pub record BodyRan (rom : List ℕ) (b : Board) (t : Token) (wide : Bool) (b′ 
 pub record Advanced (rom : List ℕ) (b : Board) (t : Token) (b′ : Board) : Type 0 where
   pub ready : Ready rom b′
   pub ahead : farOf rom b < b′ .stand .start
-  pub cell : b′ .stand .cell ≡ cellWith (heights (heightIn (getD (ran rom b .seen) (farOf rom b) 0) - takesHere t) (backIn (getD (ran rom b .seen) (farOf rom b) 0)))
+  pub cell : b′ .stand .cell ≡ cellWith (heights (heightIn (getD (ran rom b .seen) (farOf rom b) 0) - takesHere t)
+      (backIn (getD (ran rom b .seen) (farOf rom b) 0)))
   pub setting : settingOf (b′ .stand) ≡ after t (settingOf (b .stand))
   pub seen : (p : ℕ) → p ≤ farOf rom b → getD (b′ .seen) p 0 ≡ getD (ran rom b .seen) p 0
   -- what was held is held
@@ -106,7 +109,8 @@ pub record Advanced (rom : List ℕ) (b : Board) (t : Token) (b′ : Board) : Ty
   pub sums : (n : ℕ) → kindOf (b .kinds) n ≢ 0 → sumAt (b′ .sums) n ≡ sumAt (b .sums) n
   -- what is held was held, or is new
   pub older : (n : ℕ) → kindOf (b′ .kinds) n ≢ 0 → (kindOf (b .kinds) n ≢ 0) ⊎ (T (isA define t) × (n ≡ newNumber (t .operand)))
-  pub new : T (isA define t) → (kindOf (b .kinds) (newNumber (t .operand)) ≡ 0) × (kindOf (b′ .kinds) (newNumber (t .operand)) ≡ kindIn (t .operand))
+  pub new : T (isA define t) → (kindOf (b .kinds) (newNumber (t .operand)) ≡ 0)
+      × (kindOf (b′ .kinds) (newNumber (t .operand)) ≡ kindIn (t .operand))
   pub few : T (isA define t) → b .stand .count < numbersMost
   pub planted : T (isA newDevice t) → b .stand .nodes < nodesMost
   pub finished : T (isA finishDevice t) → b .stand .children ≢ 0
@@ -140,7 +144,13 @@ module _ (rom : List ℕ) (fits : lengthOf rom ≤ romMost) (b : Board) (y : Rea
 
   -- the heights behind it are within the limits
   behind : Fair (cellWith (heights (heightIn cell - takesHere t) (backIn cell)))
-  behind = record { height = heightIn cell - takesHere t; back = backIn cell; is = refl; low = omega (arith, high); few = omega (arith, more) }
+  behind = record {
+    height = heightIn cell - takesHere t;
+    back = backIn cell;
+    is = refl;
+    low = omega (arith, high);
+    few = omega (arith, more);
+  }
     where
       same : fitted .token ≡ t
       same = let e = fitted .meets .is in let g = r .is in cc (e, g)
@@ -181,7 +191,8 @@ module _ (rom : List ℕ) (fits : lengthOf rom ≤ romMost) (b : Board) (y : Rea
       cells : (p : ℕ) → t .next ≤ p → (getD (marksB .seen) p 0 ≡ unmet) ⊎ (getD (marksB .seen) p 0 ≡ 0)
       cells p l = by (marked-is .each p)
         where
-          by : Cell rom wide (t .next) (ran rom b .seen) (marksB .seen) p → (getD (marksB .seen) p 0 ≡ unmet) ⊎ (getD (marksB .seen) p 0 ≡ 0)
+          by : Cell rom wide (t .next) (ran rom b .seen) (marksB .seen) p
+              → (getD (marksB .seen) p 0 ≡ unmet) ⊎ (getD (marksB .seen) p 0 ≡ 0)
           by (start s e) = inl e
           by (other s e) = let n = ends in inr (e ∙ above p (omega arith))
 
@@ -222,17 +233,25 @@ module _ (rom : List ℕ) (fits : lengthOf rom ≤ romMost) (b : Board) (y : Rea
         visited-fits : {p : ℕ} {u : Token} → Among rom (lengthOf rom) wide (pathB .seen) (t .next) (suc (marksB .end)) p u
             → Meets rom (bodyText (lengthOf rom) wide (t .next)) (b .kinds) (b .sums) p (getD (pathB .seen) p 0) u
         visited-fits {p} {u} a =
-            let f = visit-fits rom (bodyText (lengthOf rom) wide (t .next)) (b .kinds) (b .sums) p (getD (pathB .seen) p 0) (walked-is .fine (visited-at p (a .low) (a .visited .met))) in
+            let f = visit-fits rom (bodyText (lengthOf rom) wide (t .next)) (b .kinds) (b .sums) p (getD (pathB .seen) p 0)
+            (walked-is .fine (visited-at p (a .low) (a .visited .met))) in
             subst (λ v. Meets rom (bodyText (lengthOf rom) wide (t .next)) (b .kinds) (b .sums) p (getD (pathB .seen) p 0) v)
             (let e = f .meets .is in let g = a .visited .is in cc (e, g)) (f .meets)
 
         module _ (ok : passesOf tallyB ≡ true) where
           small-is : SmallSum (sumTold tallyB)
           unfolding passesOf
-          small-is = record { need = omega (arith, under); out = omega (arith, under, low); peak = omega (arith, under); returnPeak = few; frames = shallow }
+          small-is = record {
+            need = omega (arith, under);
+            out = omega (arith, under, low);
+            peak = omega (arith, under);
+            returnPeak = few;
+            frames = shallow;
+          }
             where
               tests-hold : T (tallyB .good && not (eqb (tallyB .out) 0)) × T (leb (tallyB .peak + tallyB .need) bodyMost)
-              tests-hold = both-hold (tallyB .good && not (eqb (tallyB .out) 0)) (leb (tallyB .peak + tallyB .need) bodyMost) (holds (passesOf tallyB) ok)
+              tests-hold = both-hold (tallyB .good && not (eqb (tallyB .out) 0)) (leb (tallyB .peak + tallyB .need) bodyMost)
+                  (holds (passesOf tallyB) ok)
 
               under : tallyB .peak + tallyB .need ≤ bodyMost
               under = leb→le (tallyB .peak + tallyB .need) bodyMost (tests-hold .1)
@@ -296,7 +315,8 @@ module _ (rom : List ℕ) (fits : lengthOf rom ≤ romMost) (b : Board) (y : Rea
             plain : getD (marksB .seen) p 0 ≡ getD (ran rom b .seen) p 0
             plain = let n = ends in marks-kept marked-is p (λ a z. omega arith)
 
-            by : (getD (pathB .seen) p 0 ≡ getD (marksB .seen) p 0) ⊎ BodyAt p (getD (pathB .seen) p 0) → getD (pathB .seen) p 0 ≡ getD (ran rom b .seen) p 0
+            by : (getD (pathB .seen) p 0 ≡ getD (marksB .seen) p 0) ⊎ BodyAt p (getD (pathB .seen) p 0)
+                → getD (pathB .seen) p 0 ≡ getD (ran rom b .seen) p 0
             by (inl e) = e ∙ plain
             by (inr a) = let i = walked-is .inside a in let n = ends in absurd (omega arith)
 
@@ -311,7 +331,8 @@ module _ (rom : List ℕ) (fits : lengthOf rom ≤ romMost) (b : Board) (y : Rea
   not-colon k i n c = clash k define i n (both-hold (isA define t) (eqb (kindIn (t .operand)) 0xB7) c .0)
 
   -- a token that defines nothing
-  plainly : (k : ℕ) → T (isA k t) → T (not (eqb k define)) → (s : Stand) → s .start ≡ t .next → s .cell ≡ cellWith (heights (heightIn cell - takesHere t) (backIn cell))
+  plainly : (k : ℕ) → T (isA k t) → T (not (eqb k define)) → (s : Stand) → s .start ≡ t .next
+      → s .cell ≡ cellWith (heights (heightIn cell - takesHere t) (backIn cell))
       → settingOf s ≡ after t (settingOf (b .stand)) → (T (isA newDevice t) → b .stand .nodes < nodesMost)
       → (T (isA finishDevice t) → b .stand .children ≢ 0) → Advanced rom b t (onStand (left rom b) s)
   plainly k i n s st ce se nd ch =
@@ -353,11 +374,13 @@ module _ (rom : List ℕ) (fits : lengthOf rom ≤ romMost) (b : Board) (y : Rea
     numbered =
         entryOf (board seen (b .kinds) (b .sums) (stoodOn (b .stand) t cell)) (stoodOn (b .stand) t cell) (newNumber (t .operand)) kind s q
 
-    defines-number : kindOf (b .kinds) (newNumber (t .operand)) ≡ 0 → b .stand .count < numbersMost → kind ≡ kindIn (t .operand) → SmallSum s
+    defines-number : kindOf (b .kinds) (newNumber (t .operand)) ≡ 0 → b .stand .count < numbersMost → kind ≡ kindIn (t .operand)
+        → SmallSum s
         → length seen ≡ roomOf (lengthOf rom) → far < q → ((p : ℕ) → q ≤ p → getD seen p 0 ≡ 0)
         → ((p : ℕ) → p ≤ far → getD seen p 0 ≡ getD (ran rom b .seen) p 0) → (T (not (isColon t)) → q ≡ t .next)
         → (T (not (isColon t)) → (p : ℕ) → far < p → getD seen p 0 ≡ 0)
-        → (T (not (isColon t)) → s ≡ valueSum) → (T (isColon t) → BodyRan rom (left rom b) t (b .stand .wide) numbered) → Advanced rom b t numbered
+        → (T (not (isColon t)) → s ≡ valueSum) → (T (isColon t) → BodyRan rom (left rom b) t (b .stand .wide) numbered)
+        → Advanced rom b t numbered
     defines-number z l k small ss ah fr ke st qu va bo =
         record {
           ready = record {
@@ -372,7 +395,8 @@ module _ (rom : List ℕ) (fits : lengthOf rom ≤ romMost) (b : Board) (y : Rea
           setting = setting-defined d q;
           seen = ke;
           kinds = λ m h. kind-other (b .kinds) (newNumber (t .operand)) kind m (number-is d) (unlike m h);
-          sums = λ m h. sum-other (b .sums) (newNumber (t .operand)) (packedSum s) m (number-is d) (held-program (b .kinds) m h) (unlike m h);
+          sums = λ m h. sum-other (b .sums) (newNumber (t .operand)) (packedSum s) m (number-is d) (held-program (b .kinds) m h)
+              (unlike m h);
           older = λ m h. elim (ℕ-discrete m (newNumber (t .operand))) [
             | yes e ↦ inr (d, e)
             | no n ↦ inl (λ e. h (kind-other (b .kinds) (newNumber (t .operand)) kind m (number-is d) n ∙ e))
@@ -395,7 +419,8 @@ module _ (rom : List ℕ) (fits : lengthOf rom ≤ romMost) (b : Board) (y : Rea
 
   advanced-by : {b′ : Board} → Did rom (lengthOf rom) (left rom b) cell t b′ → Advanced rom b t b′
   advanced-by (widens i) =
-      plainly widen i tt _ refl refl (rw (one-family widen newDevice t i tt, one-family widen finishDevice t i tt, one-family widen define t i tt))
+      plainly widen i tt _ refl refl
+      (rw (one-family widen newDevice t i tt, one-family widen finishDevice t i tt, one-family widen define t i tt))
       (λ j. absurd (clash widen newDevice i tt j)) (λ j. absurd (clash widen finishDevice i tt j))
   advanced-by (plants i l) =
       plainly newDevice i tt _ refl refl (rw (is-true (isA newDevice t) i, one-family newDevice define t i tt))
@@ -407,7 +432,8 @@ module _ (rom : List ℕ) (fits : lengthOf rom ≤ romMost) (b : Board) (y : Rea
   advanced-by (values d nc z l) =
       let e = ends in
       defines-number (ran rom b .seen) (kindIn (t .operand)) valueSum (t .next) d z l refl
-      (record { need = omega arith; out = omega arith; peak = omega arith; returnPeak = omega arith; frames = omega arith }) (ran-size rom y r)
+      (record { need = omega arith; out = omega arith; peak = omega arith; returnPeak = omega arith; frames = omega arith })
+      (ran-size rom y r)
       (omega arith) (λ p h. above p (omega arith)) (λ p h. refl) (λ c. refl) (λ c p h. above p h) (λ c. refl)
       (λ c. absurd (T-not (isColon t) nc c))
   advanced-by (bodies d c z l m a p) =
@@ -425,6 +451,10 @@ module _ (rom : List ℕ) (fits : lengthOf rom ≤ romMost) (b : Board) (y : Rea
       (λ g. in-width (wide-same d) (body-ran w m a p (stoodOn (b .stand) t cell) (number-is d)))
 
 -- what a round does to the board
-pub advanced : (rom : List ℕ) → lengthOf rom ≤ romMost → {b b′ : Board} → Ready rom b → Next rom b b′ → (r : Ran rom b) × Advanced rom b (r .token) b′ × T (fixes (r .token))
-advanced rom fits {b} y (on r f g) =
-    (r, advanced-by rom fits b y r f (advance-did rom (lengthOf rom) (left rom b) (getD (ran rom b .seen) (farOf rom b) 0) (r .token) f g), f)
+pub advanced : (rom : List ℕ) → lengthOf rom ≤ romMost → {b b′ : Board} → Ready rom b → Next rom b b′ → (r : Ran rom b)
+    × Advanced rom b (r .token) b′ × T (fixes (r .token))
+advanced rom fits {b} y (on r f g) = (
+  r,
+  advanced-by rom fits b y r f (advance-did rom (lengthOf rom) (left rom b) (getD (ran rom b .seen) (farOf rom b) 0) (r .token) f g),
+  f,
+)

@@ -30,24 +30,27 @@ module _ (rom : List ℕ) (fits : lengthOf rom ≤ romMost) where
   refused : {b : Board} (c : Board) → Chained b (roundEnd false c)
   refused c e = absurd (subst T (sym e) tt)
 
-  module _ (b : Board) (y : Ready rom b) (r : Ran rom b) (go : Board → RoundEnd) (later : (c : Board) → Ready rom c → Chained c (go c)) where
-    on-chain : T (fixes (r .token)) → Chained b (goOn go (turnOf rom b (r .token)))
-    on-chain f =
-        when-is (Chained b) (turnOf rom b (r .token) .good) _ _
-        (λ g h. let n = on r f (is-true (turnOf rom b (r .token) .good) g) in goes n (later _ (advanced rom fits y n .1 .ready) h))
-        (λ g h. absurd (subst T (sym h ∙ is-false (turnOf rom b (r .token) .good) g) tt))
+  module _ (b : Board) (y : Ready rom b) (r : Ran rom b) (go : Board → RoundEnd) (later : (c : Board) → Ready rom c → Chained c (go c))
+    where
+      on-chain : T (fixes (r .token)) → Chained b (goOn go (turnOf rom b (r .token)))
+      on-chain f =
+          when-is (Chained b) (turnOf rom b (r .token) .good) _ _
+          (λ g h. let n = on r f (is-true (turnOf rom b (r .token) .good) g) in goes n (later _ (advanced rom fits y n .1 .ready) h))
+          (λ g h. absurd (subst T (sym h ∙ is-false (turnOf rom b (r .token) .good) g) tt))
 
-    rest-chain : Chained b (roundRest (λ t. turnOf rom b t) (goOn go) (left rom b) (readOf rom (lengthOf rom) (b .stand .wide) false (farOf rom b)))
-    rest-chain =
-        subst (λ x. Chained b (roundRest (λ t. turnOf rom b t) (goOn go) (left rom b) x)) (sym (r .is))
-        (when-is (Chained b) (fixes (r .token)) _ _ on-chain (λ n e. ends r n))
+      rest-chain : Chained b (roundRest (λ t. turnOf rom b t) (goOn go) (left rom b)
+          (readOf rom (lengthOf rom) (b .stand .wide) false (farOf rom b)))
+      rest-chain =
+          subst (λ x. Chained b (roundRest (λ t. turnOf rom b t) (goOn go) (left rom b) x)) (sym (r .is))
+          (when-is (Chained b) (fixes (r .token)) _ _ on-chain (λ n e. ends r n))
 
   pub chain-of : (k : ℕ) (b : Board) → Ready rom b → Chained b (roundsOf rom (lengthOf rom) k b)
   unfolding roundsOf
   chain-of zero b y = refused b
   chain-of (suc k) b y =
       when-is (Chained b) (roundGood rom (lengthOf rom) b (ran rom b)) _ _
-      (λ g. rest-chain b y (good-ran rom fits b y (is-true (roundGood rom (lengthOf rom) b (ran rom b)) g)) (λ c. roundsOf rom (lengthOf rom) k c) (λ c z. chain-of k c z))
+      (λ g. rest-chain b y (good-ran rom fits b y (is-true (roundGood rom (lengthOf rom) b (ran rom b)) g))
+      (λ c. roundsOf rom (lengthOf rom) k c) (λ c z. chain-of k c z))
       (λ g. refused _)
 
   pub first-ready : Ready rom (firstBoard (roomOf (lengthOf rom)) (wideOf rom))

@@ -37,7 +37,8 @@ pub data Cell (rom : List ℕ) (w : Bool) (entry : ℕ) (seen then : List ℕ) (
 pub record MarksBody (rom : List ℕ) (w : Bool) (kinds : List ℕ) (entry : ℕ) (seen : List ℕ) (m : Marked) : Type 0 where
   pub low : entry ≤ m .end
   pub high : m .end < lengthOf rom
-  pub reads : ((p : ℕ) (t : Token) → entry ≤ p → unknownOf kinds t ≡ false → Holds rom (Claim.known p t)) → Holds rom (Claim.reads w entry (m .end))
+  pub reads : ((p : ℕ) (t : Token) → entry ≤ p → unknownOf kinds t ≡ false → Holds rom (Claim.known p t))
+      → Holds rom (Claim.reads w entry (m .end))
   pub starts : {p : ℕ} → Starts rom w entry p → (entry ≤ p) × (p ≤ m .end) × (getD (m .seen) p 0 ≡ unmet)
   pub whole : {p : ℕ} → Starts rom w entry p → (t : Token) × (tokenAt rom 1 w p ≡ Good t)
   pub fine : {p : ℕ} {t : Token} → Starts rom w entry p → tokenAt rom 1 w p ≡ Good t → (astray t ≡ false) × (unknownOf kinds t ≡ false)
@@ -65,7 +66,8 @@ module _ {rom : List ℕ} {w : Bool} {kinds : List ℕ} {p : ℕ} {seen : List �
             elim (ℕ-discrete q p) [
               | yes d ↦ rw d (start Starts.entry (getD-set-same seen p unmet 0 i))
               | no d ↦
-                  other (λ s. by-start (λ r. (r ≡ p → ⊥) → ⊥) e s (λ h. h refl) (λ m s′. absurd (m n)) d) (getD-set-other seen p q unmet 0 d)
+                  other (λ s. by-start (λ r. (r ≡ p → ⊥) → ⊥) e s (λ h. h refl) (λ m s′. absurd (m n)) d)
+                  (getD-set-other seen p q unmet 0 d)
             ];
         size = length-set seen p unmet;
       }
@@ -124,7 +126,8 @@ marks-in rom w kinds go f p seen l (Good t) e =
 
 -- the pass from a place on, by the tokens that it may read
 marks-from : (rom : List ℕ) (w : Bool) (kinds : List ℕ) (k p : ℕ) (seen : List ℕ) → lengthOf rom ≤ length seen
-    → startsOf rom (lengthOf rom) w kinds k p seen .good ≡ true → MarksBody rom w kinds p seen (startsOf rom (lengthOf rom) w kinds k p seen)
+    → startsOf rom (lengthOf rom) w kinds k p seen .good ≡ true
+    → MarksBody rom w kinds p seen (startsOf rom (lengthOf rom) w kinds k p seen)
 unfolding startsOf
 marks-from rom w kinds zero p seen l g = absurd (subst T (sym g) tt)
 marks-from rom w kinds (suc k) p seen l g =
@@ -167,7 +170,8 @@ FineMarks rom w kinds entry =
     (p : ℕ) (t : Token) → Starts rom w entry p → tokenAt rom 1 w p ≡ Good t → (unknownOf kinds t ≡ false) × (astray t ≡ false)
 
 -- a token that is not refused
-found-in : (kinds seen : List ℕ) (p c : ℕ) (go : ℕ → List ℕ → Marked) (r : Read) (t : Token) → r ≡ Good t → (unknownOf kinds t ≡ false) × (astray t ≡ false)
+found-in : (kinds seen : List ℕ) (p c : ℕ) (go : ℕ → List ℕ → Marked) (r : Read) (t : Token) → r ≡ Good t → (unknownOf kinds t ≡ false)
+    × (astray t ≡ false)
     → (t .number ≡ 0xC2 → p ≡ c) → ((t .number ≡ 0xC2 → ⊥) → Found (go (t .next) (set seen p unmet)) c)
     → Found (startIn kinds seen p go r) c
 found-in kinds seen p c go r t e f last more =
@@ -178,7 +182,8 @@ found-in kinds seen p c go r t e f last more =
     (λ n. more (neqb→ne (t .number) 0xC2 n))))
 
 -- the pass from a place on, where there are as many turns as places: a token is at least one byte
-found-from : {rom : List ℕ} {w : Bool} {p c : ℕ} (kinds : List ℕ) → Holds rom (Claim.reads w p c) → FineMarks rom w kinds p → (k : ℕ) (seen : List ℕ)
+found-from : {rom : List ℕ} {w : Bool} {p c : ℕ} (kinds : List ℕ) → Holds rom (Claim.reads w p c) → FineMarks rom w kinds p
+    → (k : ℕ) (seen : List ℕ)
     → lengthOf rom - p ≤ k → Found (startsOf rom (lengthOf rom) w kinds k p seen) c
 unfolding startsOf
 found-from {rom} {w} {p} kinds (Holds.last {t = t} e n) fine zero seen l =
@@ -212,6 +217,7 @@ module _ {rom : List ℕ} {w : Bool} {kinds : List ℕ} {entry : ℕ} {seen : Li
       → (p : ℕ) → getD seen p 0 ≡ 0 → isMet (getD (a .seen) p 0) ≡ true → At rom x kinds sums first cell p (getD (a .seen) p 0)
   walked-met {x} {sums} {first} {cell} {a} k p z e = by (k .kept p)
     where
-      by : (getD (a .seen) p 0 ≡ getD (m .seen) p 0) ⊎ At rom x kinds sums first cell p (getD (a .seen) p 0) → At rom x kinds sums first cell p (getD (a .seen) p 0)
+      by : (getD (a .seen) p 0 ≡ getD (m .seen) p 0) ⊎ At rom x kinds sums first cell p (getD (a .seen) p 0)
+          → At rom x kinds sums first cell p (getD (a .seen) p 0)
       by (inl q) = absurd (subst T (sym e ∙ ap isMet q ∙ unmet-before p z) tt)
       by (inr q) = q

@@ -1,5 +1,5 @@
--- The rounds of the model: what each finds, how one leads to the next, and that every reachable token outside bodies belongs to one. Assumes
--- nothing.
+-- The rounds of the model: what each finds, how one leads to the next, and that every reachable token outside bodies belongs to one.
+-- Assumes nothing.
 use Prim.Native.Nat.{ℕ, suc, _-_, _≤_, _<_}
 use native.Mathlib.Omega.{arith}
 use mathlib.Core.Path.{_≡_, _∙_, sym}
@@ -59,7 +59,8 @@ module _ (rom : List ℕ) where
 
   -- a round that is good: what it walked, no overlaps, and the token at its highest place
   pub record Ran (b : Board) : Type 0 where
-    pub walked : Walked rom (outsideText (lengthOf rom) (b .stand)) (b .kinds) (b .sums) (b .stand .start) (b .stand .cell) (b .seen) (ran b)
+    pub walked : Walked rom (outsideText (lengthOf rom) (b .stand)) (b .kinds) (b .sums) (b .stand .start) (b .stand .cell) (b .seen)
+        (ran b)
     pub some : {p c : ℕ} → OutAt b p c → c ≢ 0
     pub apart : Apart rom (outsideText (lengthOf rom) (b .stand)) (ran b .seen) (b .stand .start) (farOf b)
     pub token : Token
@@ -71,7 +72,8 @@ module _ (rom : List ℕ) where
 
   -- above the highest place of a round nothing is marked
   pub ran-above : {b : Board} → Ready b → Ran b → (p : ℕ) → farOf b < p → getD (ran b .seen) p 0 ≡ 0
-  ran-above y r p l = let s = r .walked .inside (r .walked .highest .1) in walked-above rom _ _ _ _ _ (r .walked) p l ∙ y .fresh p (omega arith)
+  ran-above y r p l = let s = r .walked .inside (r .walked .highest .1) in
+      walked-above rom _ _ _ _ _ (r .walked) p l ∙ y .fresh p (omega arith)
 
   -- one round leads to the next
   pub data Next (b : Board) : Board → Type 0 where
@@ -85,7 +87,13 @@ module _ (rom : List ℕ) where
   module _ (fits : lengthOf rom ≤ romMost) where
     pub good-ran : (b : Board) → Ready b → roundGood rom (lengthOf rom) b (ran b) ≡ true → Ran b
     unfolding roundOf
-    good-ran b y e = record { walked = w; some = λ i. at-real rom x (b .kinds) (b .sums) (b .stand .start) (b .stand .cell) given i .0; apart = a; token = f .token; is = f .meets .is }
+    good-ran b y e = record {
+      walked = w;
+      some = λ i. at-real rom x (b .kinds) (b .sums) (b .stand .start) (b .stand .cell) given i .0;
+      apart = a;
+      token = f .token;
+      is = f .meets .is;
+    }
       where
         x : Scope
         x = outsideText (lengthOf rom) (b .stand)
@@ -114,7 +122,8 @@ module _ (rom : List ℕ) where
         w = walk-good rom x (b .kinds) (b .sums) (b .stand .start) (b .stand .cell) given (and-first (ran b .walk .good) test e)
 
         a : Apart rom x (ran b .seen) (b .stand .start) (farOf b)
-        a = apart-good rom x (ran b .seen) (b .stand .start) (farOf b) (w .inside (w .highest .1) .0) (and-second (ran b .walk .good) test e)
+        a = apart-good rom x (ran b .seen) (b .stand .start) (farOf b) (w .inside (w .highest .1) .0)
+            (and-second (ran b .walk .good) test e)
 
         f : Fits rom x (b .kinds) (b .sums) (farOf b) (w .highest .0)
         f = visit-fits rom x (b .kinds) (b .sums) (farOf b) (w .highest .0) (w .fine (w .highest .1))

@@ -27,7 +27,8 @@ pub shift-moved : (need k p : ℕ) (seen : List ℕ) (q : ℕ) → p ≤ q → q
     → getD (shiftOf need k p seen) q 0 ≡ shiftedCell need (getD seen q 0)
 unfolding shiftOf
 shift-moved need zero p seen q l h i = absurd (omega arith)
-shift-moved need (suc k) p seen q l h i = by (ℕ-discrete q p) (λ n. shift-moved need k (suc p) then q (omega arith) (omega arith) (rw length-set i))
+shift-moved need (suc k) p seen q l h i =
+    by (ℕ-discrete q p) (λ n. shift-moved need k (suc p) then q (omega arith) (omega arith) (rw length-set i))
   where
     then : List ℕ
     then = set seen p (shiftedCell need (getD seen p 0))
@@ -46,7 +47,8 @@ pub record Shifted (need entry end : ℕ) (seen then : List ℕ) : Type 0 where
   pub size : length then ≡ length seen
 
 -- the pass over a body does so
-pub shift-is : (need entry end : ℕ) (seen : List ℕ) → end < length seen → Shifted need entry end seen (shiftOf need (places entry end) entry seen)
+pub shift-is : (need entry end : ℕ) (seen : List ℕ) → end < length seen
+    → Shifted need entry end seen (shiftOf need (places entry end) entry seen)
 shift-is need entry end seen h =
     record {
       moved = λ q l u. shift-moved need (places entry end) entry seen q l (omega arith) (omega arith);

@@ -69,7 +69,8 @@ pub record Differ (rom : List ℕ) (length : ℕ) (wide : Bool) (seen : List ℕ
 
 -- what is known of the ends: `out` is one more than the height of them all where that is one, and 0 where there is none
 pub record TallyEnds (rom : List ℕ) (length : ℕ) (wide : Bool) (seen : List ℕ) (from to : ℕ) (good : Bool) (out : ℕ) : Type 0 where
-  pub same : good ≡ true → {p : ℕ} {t : Token} → Among rom length wide seen from to p t → T (isA leave t) → suc (heightIn (getD seen p 0)) ≡ out
+  pub same : good ≡ true → {p : ℕ} {t : Token} → Among rom length wide seen from to p t → T (isA leave t)
+      → suc (heightIn (getD seen p 0)) ≡ out
   pub got : out ≢ 0 → Leaving rom length wide seen from to out
   pub none : out ≡ 0 → {p : ℕ} {t : Token} → Among rom length wide seen from to p t → T (isA leave t) → ⊥
   pub clash : good ≡ false → Differ rom length wide seen from to

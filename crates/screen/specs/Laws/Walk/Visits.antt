@@ -26,7 +26,8 @@ use Rattle.screen.specs.Reach.{In, here, there}
 use Rattle.screen.specs.Laws.Code.Codes.{fits-known}
 use Rattle.screen.specs.Laws.Found.Model.{sumAt, capOf, ownOf, heightAfter, backAfter, fitsOf, soundOf, heightsAfter}
 use Rattle.screen.specs.Laws.Found.Model.{aimOn, stops, nextOn, branchIn, badVisit, tokenVisit, readVisit, visitOf}
-use Rattle.screen.specs.Laws.Rules.Ways.{Ways, ending, jumping, choosing, skipping, fixing, falling, ways-of, colon-fixes, in-one, WaySplit, first, second, split, aimed-some, leads-ahead}
+use Rattle.screen.specs.Laws.Rules.Ways.{Ways, ending, jumping, choosing, skipping, fixing, falling, ways-of, colon-fixes, in-one}
+use Rattle.screen.specs.Laws.Rules.Ways.{WaySplit, first, second, split, aimed-some, leads-ahead}
 use Rattle.screen.specs.Laws.Rules.Tokens.{none-in, fixes-no-branch}
 use Rattle.screen.specs.declared.effect.Effect.{Effect}
 use Rattle.screen.specs.declared.walking.Text.{Text as Scope}
@@ -81,7 +82,8 @@ module _ (t : Token) where
   -- nor where it ends
   ends-walk : T (isA finish t || isA leave t) → (nextOn t ≡ 0) × (branchIn t ≡ 0)
   ends-walk h =
-      either (isA finish t) (isA leave t) ((nextOn t ≡ 0) × (branchIn t ≡ 0)) h (λ i. let f = eqb→eq (familyIn (t .code)) finish i in (rw f, rw f))
+      either (isA finish t) (isA leave t) ((nextOn t ≡ 0) × (branchIn t ≡ 0)) h (λ i. let f = eqb→eq (familyIn (t .code)) finish i in
+      (rw f, rw f))
       (λ i. let f = eqb→eq (familyIn (t .code)) leave i in (rw f, rw f))
 
   -- from a branch it goes on to its aim, from b?branch behind it too
@@ -183,7 +185,8 @@ join-seven a b c d e f g s t u v w y z =
 
 module _ (rom : List ℕ) (x : Scope) (kinds sums : List ℕ) (p c : ℕ) where
   -- the visit of a token that was read
-  visit-read : (t : Token) → readOf rom (x .length) (x .wide) (x .within) p ≡ Good t → visitOf rom x kinds sums p c ≡ tokenVisit x kinds sums c t
+  visit-read : (t : Token) → readOf rom (x .length) (x .wide) (x .within) p ≡ Good t
+      → visitOf rom x kinds sums p c ≡ tokenVisit x kinds sums c t
   unfolding visitOf
   visit-read t e = rw e
 
@@ -203,7 +206,8 @@ module _ (rom : List ℕ) (x : Scope) (kinds sums : List ℕ) (p c : ℕ) where
     -- and back
     good-passed : tokenVisit x kinds sums c t .good ≡ true → passed ≡ true
     unfolding tokenVisit
-    good-passed = when-is (λ v. v .good ≡ true → passed ≡ true) passed (goodVisit sums c t) badVisit (λ h e. is-true passed h) (λ h e. absurd (subst T (sym e) tt))
+    good-passed = when-is (λ v. v .good ≡ true → passed ≡ true) passed (goodVisit sums c t) badVisit (λ h e. is-true passed h)
+        (λ h e. absurd (subst T (sym e) tt))
 
     -- the tests say what is asked
     passed-meets : readOf rom (x .length) (x .wide) (x .within) p ≡ Good t → T passed → Meets rom x kinds sums p c t
@@ -264,7 +268,8 @@ pub fits-visit : {rom : List ℕ} {x : Scope} {kinds sums : List ℕ} {p c : ℕ
 fits-visit m = ap (λ v. v .good) (visited m)
 
 -- and tells the heights behind the token and where to go on
-pub meets-fits : {rom : List ℕ} {x : Scope} {kinds sums : List ℕ} {p c : ℕ} {t : Token} → Meets rom x kinds sums p c t → Fits rom x kinds sums p c
+pub meets-fits : {rom : List ℕ} {x : Scope} {kinds sums : List ℕ} {p c : ℕ} {t : Token} → Meets rom x kinds sums p c t
+    → Fits rom x kinds sums p c
 meets-fits {rom} {x} {kinds} {sums} {p} {c} {t} m =
     record {
       token = t;
@@ -276,7 +281,8 @@ meets-fits {rom} {x} {kinds} {sums} {p} {c} {t} m =
 
 module _ (rom : List ℕ) (x : Scope) (kinds sums : List ℕ) (p c : ℕ) where
   -- by what was read
-  read-fits : (r : Read) → readOf rom (x .length) (x .wide) (x .within) p ≡ r → readVisit x kinds sums c r .good ≡ true → Fits rom x kinds sums p c
+  read-fits : (r : Read) → readOf rom (x .length) (x .wide) (x .within) p ≡ r → readVisit x kinds sums c r .good ≡ true
+      → Fits rom x kinds sums p c
   read-fits (Refused why) e g = absurd (subst T (sym g) tt)
   read-fits (Good t) e g =
       meets-fits

@@ -24,9 +24,11 @@ use Rattle.screen.specs.declared.effect.Effect.{Effect}
 use Rattle.screen.specs.Laws.Found.Model.{Tally}
 use Rattle.screen.specs.declared.walking.Text.{Text as Scope}
 use Rattle.screen.specs.Laws.Found.Model.{Visit}
-use Rattle.screen.specs.Laws.Found.Model.{Path, path, headIn, restIn, isSome, topped, waiting, walking, noTally, toldIn, setOut, blankOf, capOf, heightAfter, backAfter, ownOf, sumAt, soundOf, fitsOf, tokenVisit, readVisit, visitOf, putVisit, putsOf, visitedOn, walkStep, walkSteps, walkAll}
+use Rattle.screen.specs.Laws.Found.Model.{Path, path, headIn, restIn, isSome, topped, waiting, walking, noTally, toldIn, setOut}
+use Rattle.screen.specs.Laws.Found.Model.{blankOf, capOf, heightAfter, backAfter, ownOf, sumAt, soundOf, fitsOf, tokenVisit}
+use Rattle.screen.specs.Laws.Found.Model.{readVisit, visitOf, putVisit, putsOf, visitedOn, walkStep, walkSteps, walkAll}
 use Rattle.screen.specs.Laws.Found.Cell.{cellWith, heightIn, backIn}
-use Rattle.screen.specs.Laws.Found.Cell.{Heights, markIn, bodyMost, cell-mark, mark-none, mark-unmet}
+use Rattle.screen.specs.Laws.Found.Cell.{TokenHeights, markIn, bodyMost, cell-mark, mark-none, mark-unmet}
 
 -- ---- tests and lists
 -- where some wait, the first does
@@ -101,20 +103,22 @@ second-of : (a b c d e f g : Bool) → T (a && b && c && d && e && f && g) → T
 second-of a b c d e f g t =
     both-hold a b
     (both-hold (a && b) c
-    (both-hold (a && b && c) d (both-hold (a && b && c && d) e (both-hold (a && b && c && d && e) f (both-hold (a && b && c && d && e && f) g t .0) .0) .0) .0) .0) .1
+    (both-hold (a && b && c) d (both-hold (a && b && c && d) e
+    (both-hold (a && b && c && d && e) f (both-hold (a && b && c && d && e && f) g t .0) .0) .0) .0) .0) .1
 
 -- nor is that behind a token which fits
 fits-small : (within : Bool) (e : Effect) (cell : ℕ) → T (fitsOf within e cell) → heightAfter e cell ≤ bodyMost
 unfolding fitsOf
 fits-small within e cell t =
     let h =
-    second-of (leb (e .takes) (heightIn cell)) (leb (heightAfter e cell) (capOf within)) (leb (heightIn cell - e .takes + e .rise) (capOf within))
+    second-of (leb (e .takes) (heightIn cell)) (leb (heightAfter e cell) (capOf within))
+    (leb (heightIn cell - e .takes + e .rise) (capOf within))
     (leb (e .«return_takes») (backIn cell)) (leb (backAfter e cell) returnMost) (leb (backIn cell + e .«return_rise») returnMost)
     (leb (ownOf within + e .frames) framesMost) t in
     le-trans (leb→le (heightAfter e cell) (capOf within) h) (cap-small within)
 
 -- a height's cell has a mark, by which it is known
-cell-real : (h : Heights) → h .height ≤ bodyMost → markIn (cellWith h) ≢ 0
+cell-real : (h : TokenHeights) → h .height ≤ bodyMost → markIn (cellWith h) ≢ 0
 cell-real h l z = let m = cell-mark h (omega arith) in omega arith
 
 -- so has the cell of a good visit, by what was read
@@ -123,7 +127,8 @@ read-real : (x : Scope) (kinds sums : List ℕ) (cell : ℕ) (r : Read) → read
 unfolding tokenVisit
 read-real x kinds sums cell (Refused why) g = absurd (holds false g)
 read-real x kinds sums cell (Good t) g =
-    when-is (λ (v : Visit). v .good ≡ true → markIn (v .cell) ≢ 0) (soundOf x kinds t cell && fitsOf (x .within) (effectOf (sumAt sums) t) cell) _ _
+    when-is (λ (v : Visit). v .good ≡ true → markIn (v .cell) ≢ 0)
+    (soundOf x kinds t cell && fitsOf (x .within) (effectOf (sumAt sums) t) cell) _ _
     (λ h i.
     cell-real _
     (fits-small (x .within) (effectOf (sumAt sums) t) cell
@@ -598,7 +603,11 @@ module _ (rom : List ℕ) (x : Scope) (kinds sums : List ℕ) (start cell₀ : �
     first-inv {a} v = record {
       ok = v .ok;
       base = v .has tt;
-      far = elim (v .grow .peak) [ inl e ↦ (cell₀, subst (λ (n : ℕ). Put seen₀ (a .seen) (a .walk .far) n cell₀) (sym e) (v .has tt)) | inr y ↦ y ];
+      far = elim (v .grow .peak) [
+        | inl e ↦ (cell₀, subst (λ (n : ℕ). Put seen₀ (a .seen) (a .walk .far) n cell₀) (sym e) (v .has tt))
+        | inr
+            y ↦ y
+      ];
       past = [];
       told = subst (Told []) (sym (v .grow .tally)) untold;
       shut = λ u. elim (v .grow .back u) [ inl y ↦ absurd (at-real (y .at) .1 (sym (y .is) ∙ y .fresh)) | inr y ↦ inl y ];
