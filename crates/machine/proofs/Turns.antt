@@ -200,7 +200,8 @@ module _ (b n : ℕ) (w : RunResult) (s : Scene) (i : Going-on b w n s) (l : n <
       (subst (λ (x : Scene). Going-on b w n x) q i, subst (λ (p : ℕ). IsCold (s .rom) p) (sym (u .5)) (u .0))
 
 -- ---- a token that is not hot, on the arrays of the scene's state: what it leaves is the scene's own turn
-pub came : (t : Scene) (k : Core) (c p : List ℕ) (w : List Bool) (b n ki v : List ℕ) (wy : List Bool) (pa ow ti si : List ℕ) (then : Arrays → State) (x : Answer) (work store : List ℕ)
+pub came : (t : Scene) (k : Core) (c p : List ℕ) (w : List Bool) (b n ki v : List ℕ) (wy : List Bool) (pa ow ti si : List ℕ)
+    (then : Arrays → State) (x : Answer) (work store : List ℕ)
     → readyOf t ≡ Going
     → ((a : Arrays) → wholeTree (joined (everyOn c p w b n ki v wy pa ow ti si a) k .tree) ≡ true
     → turn x (then a) work store ≡ tokenTurn (scene (t .rom) (t .work) (t .store) (joined (everyOn c p w b n ki v wy pa ow ti si a) k)))
@@ -219,7 +220,8 @@ pub came : (t : Scene) (k : Core) (c p : List ℕ) (w : List Bool) (b n ki v : L
     → si ≡ t .state .tree .«value_sizes»
     → turn x (then (arraysOf (t .state))) work store ≡ tokenTurn t
 came t k c p w b n ki v wy pa ow ti si then x work store e h q q1 q2 q3 q4 q5 q6 q7 q8 q9 q10 q11 q12 =
-    let q0 : joined (everyOn c p w b n ki v wy pa ow ti si (arraysOf (t .state))) k ≡ t .state = rw (q, q1, q2, q3, q4, q5, q6, q7, q8, q9, q10, q11, q12) in
+    let q0 : joined (everyOn c p w b n ki v wy pa ow ti si (arraysOf (t .state))) k ≡ t .state =
+        rw (q, q1, q2, q3, q4, q5, q6, q7, q8, q9, q10, q11, q12) in
     h (arraysOf (t .state)) (ap (λ (x : State). wholeTree (x .tree)) q0 ∙ tree-whole t e)
     ∙ ap (λ (x : State). tokenTurn (scene (t .rom) (t .work) (t .store) x)) q0
 
@@ -244,7 +246,8 @@ module _ (s : Scene) (z : Sized (s .state)) (e : readyOf s ≡ Going) where
           ∙ ap (λ (y : Answer). turn y (x .state) work store) (o ∙ sym g)
           ∙ ap (λ (y : RunResult). turn (r .answer) (y .state) (y .work) (y .store)) f)
 
-      by : (a : Answer) → readyOf (then s r) ≡ a → toldRan x work store ≡ unless (readyOf (then s r)) 1 (then s r) (ended (Spent 1) 1 (then s r))
+      by : (a : Answer) → readyOf (then s r) ≡ a
+          → toldRan x work store ≡ unless (readyOf (then s r)) 1 (then s r) (ended (Spent 1) 1 (then s r))
           → handedBack (oneOf x) work store ≡ r
       by Going q f = carried (Spent 1) refl (f ∙ rw q)
       by Finished q f = absurd (never-finished (eqb (r .state .active) 0) (sym q ∙ watched))
@@ -275,4 +278,5 @@ module _ (s : Scene) (z : Sized (s .state)) (e : readyOf s ≡ Going) where
       ∙ ap (λ (y : RunResult). turn (r .answer) (y .state) (y .work) (y .store)) f)
 
   pub one-told : (x : Ran) (work store : List ℕ) → toldRan x work store ≡ runFrom 1 0 s → handedBack (oneOf x) work store ≡ tokenTurn s
-  one-told x work store d = one-from (tokenTurn s .answer) (tokenTurn s) refl refl x work store (d ∙ run-turn 1 0 s (tokenTurn s) (tokenTurn s .answer) e (omega arith) refl refl)
+  one-told x work store d = one-from (tokenTurn s .answer) (tokenTurn s) refl refl x work store
+      (d ∙ run-turn 1 0 s (tokenTurn s) (tokenTurn s .answer) e (omega arith) refl refl)

@@ -1,15 +1,16 @@
--- Demand 3: screening passes a ROM exactly when stack heights can be assigned by document 01's rules, and a passed ROM's run finishes, spends its budget, or
--- meets a refusal that depends on data (21 to 27). Nothing else, ever.
+-- Demand 3: screening passes a ROM exactly when stack heights can be assigned by document 01's rules, and a passed ROM's run finishes,
+-- spends its budget, or meets a refusal that depends on data (21 to 27). Nothing else, ever.
 --
--- In plain words. Somebody screens a ROM that has a good header, with a mark buffer of its size. The answer is pass exactly where stack heights can be assigned to the ROM
--- (`Exactly`). Somebody sees a ROM pass, opens it, and runs what opening handed back, with any budget. Then the run finishes; or it spends the budget; or a token
--- is refused with a number from 21 to 27: a divisor is zero; an address range lies in no window, or a store outside work memory; a cell's address is no multiple of
--- 4; work memory is exhausted; two arrays do not adjoin; a property's name is bad; a property would be the 129th, or the store is full. It never meets 6, 1, 7, 4,
--- or 10 to 20 (`MeetsOnlyData`). This holds for every ROM, every mark buffer, work memory and store, and every budget.
+-- In plain words. Somebody screens a ROM that has a good header, with a mark buffer of its size. The answer is pass exactly where stack
+-- heights can be assigned to the ROM (`Exactly`). Somebody sees a ROM pass, opens it, and runs what opening handed back, with any budget.
+-- Then the run finishes; or it spends the budget; or a token is refused with a number from 21 to 27: a divisor is zero; an address range
+-- lies in no window, or a store outside work memory; a cell's address is no multiple of 4; work memory is exhausted; two arrays do not
+-- adjoin; a property's name is bad; a property would be the 129th, or the store is full. It never meets 6, 1, 7, 4, or 10 to 20
+-- (`MeetsOnlyData`). This holds for every ROM, every mark buffer, work memory and store, and every budget.
 --
--- It is said of what the contracts of `screen`, `open` and `run` promise, and so it holds of whatever code meets them. Of the caller it asks that the three are
--- called with the same ROM, that opening was not refused, and that the run is lent memory of the sizes that opening had. How it is proved: Standing.antt says how the
--- state stands before each token, and Running.antt that it always does. Assumes nothing.
+-- It is said of what the contracts of `screen`, `open` and `run` promise, and so it holds of whatever code meets them. Of the caller it
+-- asks that the three are called with the same ROM, that opening was not refused, and that the run is lent memory of the sizes that opening
+-- had. How it is proved: Standing.antt says how the state stands before each token, and Running.antt that it always does. Assumes nothing.
 use Prim.Native.Nat.{ℕ, _+_, _≤_}
 use mathlib.Core.Path.{_≡_}
 use mathlib.Core.Logic.{_↔_}
@@ -78,9 +79,11 @@ Demand3 = Exactly × MeetsOnlyData
 abbrev pub TrailOf : Opened → ℕ → List OpenCall → Scene → Type 0
 TrailOf c n open-calls s = Trail (c .rom) (c .workLent) (c .storeLent) n open-calls s
 
--- the run as the tokens that were carried out one by one, with the count of them, which never exceeds the budget, and with what the last of them left
+-- the run as the tokens that were carried out one by one, with the count of them, which never exceeds the budget, and with what the last of
+-- them left
 abbrev pub Counted : Type 0
-Counted = (c : SeenRun) → RunEnds (c .opened .rom) (c .opened .workLent) (c .opened .storeLent) 0 (c .budget) (toldRan (c .ran) (c .workRan) (c .storeRan))
+Counted = (c : SeenRun) → RunEnds (c .opened .rom) (c .opened .workLent) (c .opened .storeLent) 0 (c .budget)
+    (toldRan (c .ran) (c .workRan) (c .storeRan))
     × (c .ran .count ≤ c .budget)
 
 -- the data height before each of these tokens, by the screen's marks; as many calls are open as the state has frames
@@ -92,11 +95,12 @@ HeightsByMarks = (c : Opened) (n : ℕ) (open-calls : List OpenCall) (s : Scene)
 abbrev pub leftBy : Scene → RunResult → Scene
 leftBy s o = scene (s .rom) (o .work) (o .store) (o .state)
 
--- Where runs come to that are taken up one behind the other, as often as one likes, each with a budget of its own, from what the last one left that did not finish;
--- and the count of tokens in all.
+-- Where runs come to that are taken up one behind the other, as often as one likes, each with a budget of its own, from what the last one
+-- left that did not finish; and the count of tokens in all.
 pub data Came (c : Opened) : (count : ℕ) → Scene → Type 0 where
   first : Came c 0 (scene (c .rom) (c .workLent) (c .storeLent) (c .fresh .state))
-  again : {n : ℕ} {s : Scene} → Came c n s → (budget : ℕ) → (runOf budget s .answer ≡ Finished → ⊥) → Came c (n + runOf budget s .count) (leftBy s (runOf budget s))
+  again : {n : ℕ} {s : Scene} → Came c n s → (budget : ℕ) → (runOf budget s .answer ≡ Finished → ⊥)
+      → Came c (n + runOf budget s .count) (leftBy s (runOf budget s))
 
 -- each of them ends as the first may
 abbrev pub Resumed : Type 0
@@ -110,4 +114,5 @@ pub data AllowedStep : Answer → Type 0 where
   refuses : {why : ℕ} → DependsOnData why → AllowedStep (Refused why)
 
 abbrev pub Stepwise : Type 0
-Stepwise = (c : Opened) (n : ℕ) (open-calls : List OpenCall) (s : Scene) → TrailOf c n open-calls s → (stepOf s ≡ tokenTurn s) × AllowedStep (stepOf s .answer)
+Stepwise = (c : Opened) (n : ℕ) (open-calls : List OpenCall) (s : Scene) → TrailOf c n open-calls s → (stepOf s ≡ tokenTurn s)
+    × AllowedStep (stepOf s .answer)

@@ -1,5 +1,5 @@
--- How a run goes from the fresh state on, token by token, how it ends, and how high its data stack stands at each of its tokens by the screen's marks. Assumes
--- nothing.
+-- How a run goes from the fresh state on, token by token, how it ends, and how high its data stack stands at each of its tokens by the
+-- screen's marks. Assumes nothing.
 use Prim.Native.Nat.{ℕ, suc, _+_, _-_, _≤_, _<_}
 use mathlib.Core.Path.{_≡_}
 use mathlib.Core.List.{List, [], _∷_}
@@ -47,26 +47,30 @@ pub data Allowed : Answer → Type 0 where
   spent : (count : ℕ) → Allowed (Spent count)
   refused : {why : ℕ} → DependsOnData why → Allowed (Refused why)
 
--- So many tokens of a ROM were carried out from its fresh state on, with this work memory and store lent at first, and the run has come to this scene, with
--- these open calls, the youngest first.
+-- So many tokens of a ROM were carried out from its fresh state on, with this work memory and store lent at first, and the run has come to
+-- this scene, with these open calls, the youngest first.
 pub data Trail (rom work store : List ℕ) : (count : ℕ) → List OpenCall → Scene → Type 0 where
   start : Trail rom work store 0 [] (scene rom work store (freshState rom))
   token : {n : ℕ} {open-calls : List OpenCall} {s : Scene} → Trail rom work store n open-calls s → tokenTurn s .answer ≡ Going
       → Trail rom work store (suc n) (openAfter open-calls (s .state) (tokenTurn s .state)) (then s (tokenTurn s))
 
--- How a run with a budget ends that was begun, or taken up again, behind so many tokens, with its own count and the state and memory that it leaves: "The count equals
--- the tokens carried out; the final token counts, a refused one doesn't." A refused token leaves all as it was.
+-- How a run with a budget ends that was begun, or taken up again, behind so many tokens, with its own count and the state and memory that
+-- it leaves: "The count equals the tokens carried out; the final token counts, a refused one doesn't." A refused token leaves all as it
+-- was.
 pub data RunEnds (rom work store : List ℕ) (before budget : ℕ) : RunResult → Type 0 where
-  finishes : {n : ℕ} {open-calls : List OpenCall} {s : Scene} → Trail rom work store (before + n) open-calls s → n < budget → tokenTurn s .answer ≡ Finished
+  finishes : {n : ℕ} {open-calls : List OpenCall} {s : Scene} → Trail rom work store (before + n) open-calls s → n < budget
+      → tokenTurn s .answer ≡ Finished
       → RunEnds rom work store before budget (ended Finished (suc n) (then s (tokenTurn s)))
-  stops : {n why : ℕ} {open-calls : List OpenCall} {s : Scene} → Trail rom work store (before + n) open-calls s → n < budget → tokenTurn s .answer ≡ Refused why
+  stops : {n why : ℕ} {open-calls : List OpenCall} {s : Scene} → Trail rom work store (before + n) open-calls s → n < budget
+      → tokenTurn s .answer ≡ Refused why
       → DependsOnData why → RunEnds rom work store before budget (ended (Refused why) n s)
   runs-out : {open-calls : List OpenCall} {s : Scene} → Trail rom work store (before + budget) open-calls s
       → RunEnds rom work store before budget (ended (Spent budget) budget s)
 
--- The data stack's height by the marks: outside bodies it is the mark less one. In a body it is the mark less one, plus the height at entry, less the body's need; the
--- need is the mark of the body's first byte less one.
+-- The data stack's height by the marks: outside bodies it is the mark less one. In a body it is the mark less one, plus the height at
+-- entry, less the body's need; the need is the mark of the body's first byte less one.
 pub data HeightIs (marks : List ℕ) (st : State) : List OpenCall → Type 0 where
   outside : getD marks (st .place) 0 ≡ suc (st .stack .height) → HeightIs marks st []
-  within : {c : OpenCall} {older : List OpenCall} {need more : ℕ} → getD marks (c .first) 0 ≡ suc need → need ≤ c .height → getD marks (st .place) 0 ≡ suc more
+  within : {c : OpenCall} {older : List OpenCall} {need more : ℕ} → getD marks (c .first) 0 ≡ suc need → need ≤ c .height
+      → getD marks (st .place) 0 ≡ suc more
       → st .stack .height ≡ (c .height - need) + more → HeightIs marks st (c ∷ older)

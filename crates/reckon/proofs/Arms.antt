@@ -49,22 +49,28 @@ module _ (h b place : ℕ) (c : List ℕ) (t : h ≤ 64) (r : b ≤ 32) where
       unfolding leftOf
       push-fine v e f =
           let z : h - 0 ≡ h = omega arith in
-          data-fine n h b place 0x0100_0001 c (none-code n e) (refl, refl, refl, refl) t r (omega arith) (v ∷ []) _ _ (λ o bk. f _ refl) (rw z) (omega arith) (omega arith)
+          data-fine n h b place 0x0100_0001 c (none-code n e) (refl, refl, refl, refl) t r (omega arith) (v ∷ []) _ _ (λ o bk. f _ refl)
+              (rw z) (omega arith) (omega arith)
 
     -- one cell of the highest
     pub one-fine : (v : ℕ) → Like n 0x26 → 1 ≤ h → OfOne n (at 1) v → OnData n c h b place (turned On h b (place + 1)) (put c 1 v)
     unfolding leftOf
-    one-fine v e l f = data-fine n h b place 0x0100_0011 c (one-code n e) (refl, refl, refl, refl) t r l (v ∷ []) _ _ (λ o bk. f _ (seen c h 0)) refl (omega arith) t
+    one-fine v e l f = data-fine n h b place 0x0100_0011 c (one-code n e) (refl, refl, refl, refl) t r l (v ∷ []) _ _
+        (λ o bk. f _ (seen c h 0)) refl (omega arith) t
 
-    pub two-fine : (v : ℕ) → Like n 0x1E → 2 ≤ h → OfTwo n (at 2) (at 1) v → OnData n c h b place (turned On (h - 1) b (place + 1)) (put c 2 v)
+    pub two-fine : (v : ℕ) → Like n 0x1E → 2 ≤ h → OfTwo n (at 2) (at 1) v
+        → OnData n c h b place (turned On (h - 1) b (place + 1)) (put c 2 v)
     unfolding leftOf
     two-fine v e l f =
-        data-fine n h b place 0x0100_0021 c (two-code n e) (refl, refl, refl, refl) t r l (v ∷ []) _ _ (λ o bk. f _ (seen c h 1) (seen c h 0)) refl (omega arith) (omega arith)
+        data-fine n h b place 0x0100_0021 c (two-code n e) (refl, refl, refl, refl) t r l (v ∷ []) _ _
+            (λ o bk. f _ (seen c h 1) (seen c h 0)) refl (omega arith) (omega arith)
 
-    pub three-fine : (v : ℕ) → Like n 0x44 → 3 ≤ h → OfThree n (at 3) (at 2) (at 1) v → OnData n c h b place (turned On (h - 2) b (place + 1)) (put c 3 v)
+    pub three-fine : (v : ℕ) → Like n 0x44 → 3 ≤ h → OfThree n (at 3) (at 2) (at 1) v
+        → OnData n c h b place (turned On (h - 2) b (place + 1)) (put c 3 v)
     unfolding leftOf
     three-fine v e l f =
-        data-fine n h b place 0x0100_0031 c (three-code n e) (refl, refl, refl, refl) t r l (v ∷ []) _ _ (λ o bk. f _ (seen c h 2) (seen c h 1) (seen c h 0)) refl (omega arith)
+        data-fine n h b place 0x0100_0031 c (three-code n e) (refl, refl, refl, refl) t r l (v ∷ []) _ _
+            (λ o bk. f _ (seen c h 2) (seen c h 1) (seen c h 0)) refl (omega arith)
         (omega arith)
 
   -- the stack words
@@ -180,7 +186,8 @@ module _ (h b place : ℕ) (c : List ℕ) (t : h ≤ 64) (r : b ≤ 32) where
       (simp (i4, i3, i2)) (omega arith) t
 
   pub rot-two-fine : 6 ≤ h
-      → OnData 0x56 c h b place (turned On h b (place + 1)) (put (put (put (put (put (put c 6 (at 4)) 5 (at 3)) 4 (at 2)) 3 (at 1)) 2 (at 6)) 1 (at 5))
+      → OnData 0x56 c h b place (turned On h b (place + 1))
+          (put (put (put (put (put (put c 6 (at 4)) 5 (at 3)) 4 (at 2)) 3 (at 1)) 2 (at 6)) 1 (at 5))
   unfolding leftOf codeOf rowOf table ends lows highs doubles
   rot-two-fine l =
       let i6 : h - 6 + 1 ≡ h - 5 = omega arith in
@@ -201,17 +208,21 @@ module _ (rom : List ℕ) (size h b place : ℕ) (c : List ℕ) (t : h ≤ 64) (
   pub literal-high : 64 ≤ h → (wide : Bool) → Reads 0x10 rom size wide c h b place (turned (Not 15) h b place) c
   literal-high m =
       literal-made rom size h b place c t r 15 h c l t
-      (λ base k. high 0x10 (word32Of rom (place + 1)) base (stacks c h k b) 0x0101_0001 literal-code (omega arith) (omega arith) (omega arith) (omega arith))
+      (λ base k. high 0x10 (word32Of rom (place + 1)) base (stacks c h k b) 0x0101_0001 literal-code (omega arith) (omega arith)
+          (omega arith) (omega arith))
 
-  literal-left : (operand : ℕ) (k : List ℕ) → reckonedAs 0 (stacks (set c h operand) (h + 1) k b) ≡ reckonedAs 0 (plainOf 0x10 operand (stacks c h k b))
+  literal-left : (operand : ℕ) (k : List ℕ)
+      → reckonedAs 0 (stacks (set c h operand) (h + 1) k b) ≡ reckonedAs 0 (plainOf 0x10 operand (stacks c h k b))
   unfolding plainOf leftOf codeOf rowOf table ends lows highs doubles
   literal-left operand k =
       let x : h - 0 ≡ h = omega arith in
       let y : b - 0 + 0 ≡ b = omega arith in
       simp (x, y)
 
-  pub literal-fine : h < 64 → (wide : Bool) → Reads 0x10 rom size wide c h b place (turned On (h + 1) b (place + 5)) (set c h (word32Of rom (place + 1)))
+  pub literal-fine : h < 64 → (wide : Bool)
+      → Reads 0x10 rom size wide c h b place (turned On (h + 1) b (place + 5)) (set c h (word32Of rom (place + 1)))
   literal-fine m =
       literal-made rom size h b place c t r 0 (h + 1) (set c h (word32Of rom (place + 1))) l (omega arith)
       (λ base k. literal-left (word32Of rom (place + 1)) k
-      ∙ fine 0x10 (word32Of rom (place + 1)) base (stacks c h k b) 0x0101_0001 literal-code (omega arith) (omega arith) (omega arith) (omega arith))
+      ∙ fine 0x10 (word32Of rom (place + 1)) base (stacks c h k b) 0x0101_0001 literal-code (omega arith) (omega arith) (omega arith)
+          (omega arith))

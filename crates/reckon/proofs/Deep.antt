@@ -55,7 +55,8 @@ module _ (h b : ℕ) (c : List ℕ) (t : h ≤ 64) where
     divide-zero z = let y : h - 1 - 0 ≡ h - 1 = omega arith in (t, λ k. simp (le-ltb _ _ l, y, z))
 
     divide-left : (k : List ℕ)
-        → reckonedAs 0 (stacks (set (set c (h - 2) (getD c (h - 2) 0 % getD c (h - 1) 0)) (h - 1) (getD c (h - 2) 0 / getD c (h - 1) 0)) h k b) ≡ reckonedAs 0 (plainOf 0x2B 0 (stacks c h k b))
+        → reckonedAs 0 (stacks (set (set c (h - 2) (getD c (h - 2) 0 % getD c (h - 1) 0)) (h - 1) (getD c (h - 2) 0 / getD c (h - 1) 0)) h k
+            b) ≡ reckonedAs 0 (plainOf 0x2B 0 (stacks c h k b))
     unfolding plainOf leftOf codeOf rowOf table ends lows highs doubles
     divide-left k =
         let y : h - 1 - 0 ≡ h - 1 = omega arith in
@@ -65,7 +66,8 @@ module _ (h b : ℕ) (c : List ℕ) (t : h ≤ 64) where
         let u : b - 0 + 0 ≡ b = omega arith in
         simp (x, y, w, v, u)
 
-    pub divide-fine : (r q : ℕ) → eqb (getD c (h - 1) 0) 0 ≡ false → r ≡ getD c (h - 2) 0 % getD c (h - 1) 0 → q ≡ getD c (h - 2) 0 / getD c (h - 1) 0
+    pub divide-fine : (r q : ℕ) → eqb (getD c (h - 1) 0) 0 ≡ false → r ≡ getD c (h - 2) 0 % getD c (h - 1) 0
+        → q ≡ getD c (h - 2) 0 / getD c (h - 1) 0
         → Works divideOf c h b 0 h (set (set c (h - 2) r) (h - 1) q)
     divide-fine r q z d e =
         let y : h - 1 - 0 ≡ h - 1 = omega arith in
@@ -125,7 +127,8 @@ unfolding cellsFrom
 cells-above c at v p zero l = refl
 cells-above c at v p (suc k) l = rw (getD-set-other c at p v 0 (λ e. omega arith), cells-above c at v (p + 1) k (omega arith))
 
-pub turns : (c : List ℕ) (at end first : ℕ) → at < end → leftToTurn (set c at (getD c (at + 1) 0)) (at + 1) end first ≡ leftToTurn c at end first
+pub turns : (c : List ℕ) (at end first : ℕ) → at < end
+    → leftToTurn (set c at (getD c (at + 1) 0)) (at + 1) end first ≡ leftToTurn c at end first
 unfolding leftOf cellsFrom
 turns c at end first l =
     let i : end - at ≡ suc (end - (at + 1)) = omega arith in

@@ -1,5 +1,5 @@
--- A token that is done in place, as the step reads it: its number is one byte, it is never out of place, and its form is none, a literal or an offset.
--- Assumes nothing.
+-- A token that is done in place, as the step reads it: its number is one byte, it is never out of place, and its form is none, a literal or
+-- an offset. Assumes nothing.
 use Prim.Native.Nat.{ℕ, _+_, _-_, _*_, _<_, _≤_}
 use mathlib.Core.Path.{_≡_, refl, _∙_, ap}
 use mathlib.Core.Bool.{Bool, true, false, not, _&&_, _||_}
@@ -29,7 +29,9 @@ use Rattle.state.specs.Joints.Hot.{hotFamily}
 
 -- ---- what the list says of every hot number
 abbrev fits : ℕ → ℕ → Bool
-fits m c = not (isDouble m) && (ltb m 256 && (not (eqb c 0) && (eqb (outOfPlaceIn c) 0 && (eqb (formIn c) 0 || (eqb (formIn c) 1 || eqb (formIn c) 3)))))
+fits m c =
+    not (isDouble m) &&
+    (ltb m 256 && (not (eqb c 0) && (eqb (outOfPlaceIn c) 0 && (eqb (formIn c) 0 || (eqb (formIn c) 1 || eqb (formIn c) 3)))))
 
 hot-fits : (n : ℕ) → T (hotFamily (familyIn (codeOf n))) → T (fits n (codeOf n))
 unfolding codeOf table ends lows highs doubles
@@ -60,17 +62,20 @@ hot-token n h =
     }
 
 -- an operand of such a form is no definition
-form-formed : (rom : List ℕ) (size : ℕ) (wide : Bool) (q form : ℕ) → T (eqb form 0 || (eqb form 1 || eqb form 3)) → formed (operandOf rom size wide q form) ≡ true
+form-formed : (rom : List ℕ) (size : ℕ) (wide : Bool) (q form : ℕ) → T (eqb form 0 || (eqb form 1 || eqb form 3))
+    → formed (operandOf rom size wide q form) ≡ true
 unfolding operandOf
 form-formed rom size wide q form h = by (eqb form 0) (eqb form 1) (eqb form 3) refl refl refl h
   where
-    by : (a b c : Bool) → eqb form 0 ≡ a → eqb form 1 ≡ b → eqb form 3 ≡ c → T (a || (b || c)) → formed (operandOf rom size wide q form) ≡ true
+    by : (a b c : Bool) → eqb form 0 ≡ a → eqb form 1 ≡ b → eqb form 3 ≡ c → T (a || (b || c))
+        → formed (operandOf rom size wide q form) ≡ true
     by true b c x y z t = rw (eqb-true form 0 x)
     by false true c x y z t = rw (eqb-true form 1 y)
     by false false true x y z t = rw (eqb-true form 3 z)
     by false false false x y z t = absurd t
 
-module _ (rom : List ℕ) (size : ℕ) (wide within : Bool) (p : ℕ) (n : ℕ) (e : n ≡ byteOf rom p) (hot : T (hotFamily (familyIn (codeOf n)))) where
+module _ (rom : List ℕ) (size : ℕ) (wide within : Bool) (p : ℕ) (n : ℕ) (e : n ≡ byteOf rom p) (hot : T (hotFamily (familyIn (codeOf n))))
+    where
   abbrev nextOf : ℕ
   nextOf = behindOf rom wide (p + 1) (formIn (codeOf n))
 
@@ -98,15 +103,25 @@ module _ (rom : List ℕ) (size : ℕ) (wide within : Bool) (p : ℕ) (n : ℕ) 
 
 -- ---- a turn with such a token: cut off, or done
 pub hot-turn : (s : Scene) (n : ℕ) → n ≡ byteOf (s .rom) (s .state .place) → T (hotFamily (familyIn (codeOf n)))
-    → tokenTurn s ≡ pick (ltb (s .state .length) (behindOf (s .rom) (s .state .wide) (s .state .place + 1) (formIn (codeOf n)))) (refuse 10 s)
-    (doneOf s (tokenMade n (codeOf n) (operandOf (s .rom) (s .state .length) (s .state .wide) (s .state .place + 1) (formIn (codeOf n))) (behindOf (s .rom) (s .state .wide) (s .state .place + 1) (formIn (codeOf n)))))
+    → tokenTurn s ≡ pick (ltb (s .state .length) (behindOf (s .rom) (s .state .wide) (s .state .place + 1) (formIn (codeOf n))))
+        (refuse 10 s)
+    (doneOf s (tokenMade n (codeOf n) (operandOf (s .rom) (s .state .length) (s .state .wide) (s .state .place + 1) (formIn (codeOf n)))
+        (behindOf (s .rom) (s .state .wide) (s .state .place + 1) (formIn (codeOf n)))))
 unfolding tokenTurn
 hot-turn s n e hot =
-    ap (λ (r : Read). readTurn s r) (hot-read (s .rom) (s .state .length) (s .state .wide) (isOpen (s .state .calls)) (s .state .place) n e hot)
+    ap (λ (r : Read). readTurn s r) (hot-read (s .rom) (s .state .length) (s .state .wide) (isOpen (s .state .calls))
+        (s .state .place) n e hot)
     ∙ by (ltb (s .state .length) (behindOf (s .rom) (s .state .wide) (s .state .place + 1) (formIn (codeOf n))))
   where
-    by : (b : Bool) → readTurn s (pick b (Unread 10) (Good (tokenMade n (codeOf n) (operandOf (s .rom) (s .state .length) (s .state .wide) (s .state .place + 1) (formIn (codeOf n))) (behindOf (s .rom) (s .state .wide) (s .state .place + 1) (formIn (codeOf n))))))
-        ≡ pick b (refuse 10 s) (doneOf s (tokenMade n (codeOf n) (operandOf (s .rom) (s .state .length) (s .state .wide) (s .state .place + 1) (formIn (codeOf n))) (behindOf (s .rom) (s .state .wide) (s .state .place + 1) (formIn (codeOf n)))))
+    by : (b : Bool)
+        → readTurn s
+        (pick b (Unread 10)
+        (Good (tokenMade n (codeOf n) (operandOf (s .rom) (s .state .length) (s .state .wide) (s .state .place + 1) (formIn (codeOf n)))
+        (behindOf (s .rom) (s .state .wide) (s .state .place + 1) (formIn (codeOf n))))))
+        ≡ pick b (refuse 10 s)
+            (doneOf s
+            (tokenMade n (codeOf n) (operandOf (s .rom) (s .state .length) (s .state .wide) (s .state .place + 1) (formIn (codeOf n)))
+            (behindOf (s .rom) (s .state .wide) (s .state .place + 1) (formIn (codeOf n)))))
     by true = refl
     by false = refl
 
@@ -115,7 +130,8 @@ pub double-cold : (rom : List ℕ) (p : ℕ) → isDouble (byteOf rom p) ≡ tru
 double-cold rom p e = by (hotFamily (familyIn (codeOf (numberOf rom p)))) refl
   where
     large : 256 ≤ numberOf rom p
-    large = rw e (over (byteOf rom p) (byteOf rom (p + 1)) (leb-true 1 (byteOf rom p) (first (leb 1 (byteOf rom p)) (leb (byteOf rom p) 15) e)))
+    large = rw e (over (byteOf rom p) (byteOf rom (p + 1))
+        (leb-true 1 (byteOf rom p) (first (leb 1 (byteOf rom p)) (leb (byteOf rom p) 15) e)))
       where
         over : (a b : ℕ) → 1 ≤ a → 256 ≤ a * 256 + b
         over a b h = omega arith
@@ -172,11 +188,14 @@ unfolding tokenTurn readOf decodeOf tokenIfWhole
 cut-off s l = rw (lt-ltb (s .state .length) _ beyond)
   where
     first : s .state .place < behindNumber (s .rom) (s .state .place)
-    first = pick-is (λ x. s .state .place < s .state .place + x) (isDouble (byteOf (s .rom) (s .state .place))) 2 1 (λ t. omega arith) (λ t. omega arith)
+    first = pick-is (λ x. s .state .place < s .state .place + x) (isDouble (byteOf (s .rom) (s .state .place))) 2 1 (λ t. omega arith)
+        (λ t. omega arith)
 
     beyond : s .state .length
-        < behindOf (s .rom) (s .state .wide) (behindNumber (s .rom) (s .state .place)) (formIn (codeOf (numberOf (s .rom) (s .state .place))))
+        < behindOf (s .rom) (s .state .wide) (behindNumber (s .rom) (s .state .place))
+            (formIn (codeOf (numberOf (s .rom) (s .state .place))))
     beyond =
         let a = first in
-        let b = behind-form (s .rom) (s .state .wide) (behindNumber (s .rom) (s .state .place)) (formIn (codeOf (numberOf (s .rom) (s .state .place)))) in
+        let b = behind-form (s .rom) (s .state .wide) (behindNumber (s .rom) (s .state .place))
+            (formIn (codeOf (numberOf (s .rom) (s .state .place)))) in
         omega arith

@@ -29,7 +29,9 @@ use Rattle.reckon.specs.Joints.Fast.{packedFast, behindBranch}
 use Rattle.state.specs.Joints.Hot.{hotFamily}
 use Rattle.state.specs.declared.answer.Answer.the-variants.{Going, Refused}
 use Rattle.reckon.proofs.Hot.{hot-turn}
-use Rattle.reckon.proofs.HotDone.{outcomeTurn, plain-done, behindPlain, operandPlain, behind-plain, operand-plain, always-inside, always-outside, choice-low, choice-inside, choice-outside, choice-past, divide-done, pick-done, roll-done, maybe-done}
+use Rattle.reckon.proofs.HotDone.{outcomeTurn, plain-done, behindPlain, operandPlain, behind-plain, operand-plain, always-inside}
+use Rattle.reckon.proofs.HotDone.{always-outside, choice-low, choice-inside, choice-outside, choice-past, divide-done, pick-done}
+use Rattle.reckon.proofs.HotDone.{roll-done, maybe-done}
 use Rattle.state.specs.Joints.Reckoning.{tooLow, tooHigh, Reckoned, reckonedAs, reckonOf, divideOf, pickUpOf, rollUpOf, maybeOf}
 
 -- a refused outcome has the stacks as they were
@@ -64,7 +66,8 @@ module _ (x : Stacks) where
 -- the turn that is known by what became of the stacks and the place
 abbrev pub turnOf : Scene → ℕ → ℕ → ℕ → ℕ → List ℕ → List ℕ → Turn
 turnOf s why next g r d l =
-    turn (pick (eqb why 0) Going (Refused why)) (packedFast (s .state) d g l r (pick (eqb why 0) next (s .state .place))) (s .work) (s .store)
+    turn (pick (eqb why 0) Going (Refused why)) (packedFast (s .state) d g l r (pick (eqb why 0) next (s .state .place))) (s .work)
+        (s .store)
 
 -- a taken branch, to the height g
 abbrev takenOf : Scene → Aim → ℕ → Turn
@@ -72,7 +75,8 @@ takenOf s (Inside to) g = goes s (packedFast (s .state) (s .state .stack .cells)
 takenOf s Outside g = refuse 19 s
 
 -- what the work on the stacks left is the turn of its outcome
-outcome-turn : (s : Scene) (next why g r : ℕ) (d l : List ℕ) (o : Reckoned) → reckonedAs why (stacks d g l r) ≡ o → Unmoved (stacksOf (s .state)) o
+outcome-turn : (s : Scene) (next why g r : ℕ) (d l : List ℕ) (o : Reckoned) → reckonedAs why (stacks d g l r) ≡ o
+    → Unmoved (stacksOf (s .state)) o
     → outcomeTurn s next o ≡ turnOf s why next g r d l
 outcome-turn s next why g r d l o e k = rw (← e) (by (eqb why 0) refl)
   where
@@ -113,7 +117,8 @@ module _ (s : Scene) (n : ℕ) (e : n ≡ byteOf (s .rom) (s .state .place)) whe
     plain-cut l = hot-cut hot-plain _ (behind-plain (s .rom) (s .state .length) (s .state .wide) (s .state .place) n f) l
 
     pub plain-turn : (why g r : ℕ) (d l : List ℕ) → behindPlain (codeOf n) (s .state .place) ≤ s .state .length
-        → reckonedAs why (stacks d g l r) ≡ reckonOf n (operandPlain (s .rom) (codeOf n) (s .state .place)) (stacksOf (s .state)) (baseOf (s .state .calls))
+        → reckonedAs why (stacks d g l r) ≡ reckonOf n (operandPlain (s .rom) (codeOf n) (s .state .place)) (stacksOf (s .state))
+            (baseOf (s .state .calls))
         → tokenTurn s ≡ turnOf s why (behindPlain (codeOf n) (s .state .place)) g r d l
     plain-turn why g r d l h q′ =
         let q = behind-plain (s .rom) (s .state .length) (s .state .wide) (s .state .place) n f in
@@ -126,7 +131,8 @@ module _ (s : Scene) (n : ℕ) (e : n ≡ byteOf (s .rom) (s .state .place)) whe
 
   -- ---- u/mod, pick, roll and ?dup
   abbrev Deep : (Stacks → Reckoned) → Type 0
-  Deep f = (why g r : ℕ) (d l : List ℕ) → s .state .place < s .state .length → s .state .stack .height ≤ 64 → reckonedAs why (stacks d g l r) ≡ f (stacksOf (s .state))
+  Deep f = (why g r : ℕ) (d l : List ℕ) → s .state .place < s .state .length → s .state .stack .height ≤ 64
+      → reckonedAs why (stacks d g l r) ≡ f (stacksOf (s .state))
       → tokenTurn s ≡ turnOf s why (s .state .place + 1) g r d l
 
   -- a code that has no operand
@@ -135,7 +141,8 @@ module _ (s : Scene) (n : ℕ) (e : n ≡ byteOf (s .rom) (s .state .place)) whe
   bare k c z = let y : formIn (codeOf n) ≡ 0 = rw c z in (rw y, rw y)
 
   deep : (f : Stacks → Reckoned) (k : ℕ) → codeOf n ≡ k → formIn k ≡ 0 → T (hotFamily (familyIn k))
-      → (s .state .stack .height ≤ 64 → doneOf s (tokenMade n k Nothing (s .state .place + 1)) ≡ outcomeTurn s (s .state .place + 1) (f (stacksOf (s .state))))
+      → (s .state .stack .height ≤ 64 → doneOf s (tokenMade n k Nothing (s .state .place + 1)) ≡ outcomeTurn s (s .state .place + 1)
+          (f (stacksOf (s .state))))
       → Unmoved (stacksOf (s .state)) (f (stacksOf (s .state))) → Deep f
   deep f k c z hot done u why g r d l p h q =
       let b = bare k c z in
@@ -149,36 +156,45 @@ module _ (s : Scene) (n : ℕ) (e : n ≡ byteOf (s .rom) (s .state .place)) whe
   unfolding codeOf rowOf table ends lows highs doubles
   divide-turn i =
       deep divideOf 0x0700_0022 (rw i) refl tt
-      (λ h. ap (λ (j : ℕ). doneOf s (tokenMade j 0x0700_0022 Nothing (s .state .place + 1))) i ∙ divide-done s Nothing (s .state .place + 1) h refl)
+      (λ h. ap (λ (j : ℕ). doneOf s (tokenMade j 0x0700_0022 Nothing (s .state .place + 1))) i
+          ∙ divide-done s Nothing (s .state .place + 1) h refl)
       (divide-unmoved (stacksOf (s .state)))
 
   pub pick-turn : codeOf n ≡ 0x0800_0011 → Deep pickUpOf
-  pick-turn c = deep pickUpOf 0x0800_0011 c refl tt (λ h. pick-done s Nothing (s .state .place + 1) h n) (pick-unmoved (stacksOf (s .state)))
+  pick-turn c = deep pickUpOf 0x0800_0011 c refl tt (λ h. pick-done s Nothing (s .state .place + 1) h n)
+      (pick-unmoved (stacksOf (s .state)))
 
   pub roll-turn : codeOf n ≡ 0x0900_0010 → Deep rollUpOf
-  roll-turn c = deep rollUpOf 0x0900_0010 c refl tt (λ h. roll-done s Nothing (s .state .place + 1) h n) (roll-unmoved (stacksOf (s .state)))
+  roll-turn c = deep rollUpOf 0x0900_0010 c refl tt (λ h. roll-done s Nothing (s .state .place + 1) h n)
+      (roll-unmoved (stacksOf (s .state)))
 
   pub maybe-turn : codeOf n ≡ 0x0A00_0011 → Deep maybeOf
-  maybe-turn c = deep maybeOf 0x0A00_0011 c refl tt (λ h. maybe-done s Nothing (s .state .place + 1) h n) (maybe-unmoved (stacksOf (s .state)))
+  maybe-turn c = deep maybeOf 0x0A00_0011 c refl tt (λ h. maybe-done s Nothing (s .state .place + 1) h n)
+      (maybe-unmoved (stacksOf (s .state)))
 
   -- ---- branches
   abbrev aimHere : Aim
   aimHere = aimOf (s .rom) (s .state .length) (s .state .wide) (s .state .place + 1)
 
   offset-here : (k : ℕ) → codeOf n ≡ k → formIn k ≡ 3
-      → (nextHere ≡ behindBranch (s .state .wide) (s .state .place)) × (operandHere ≡ Branch (offsetOf (s .rom) (s .state .wide) (s .state .place + 1)) aimHere)
+      → (nextHere ≡ behindBranch (s .state .wide) (s .state .place))
+          × (operandHere ≡ Branch (offsetOf (s .rom) (s .state .wide) (s .state .place + 1)) aimHere)
   unfolding behindOf operandOf
   offset-here k c z = let y : formIn (codeOf n) ≡ 3 = rw c z in (rw y, rw y)
 
-  branch-done : (k : ℕ) → codeOf n ≡ k → formIn k ≡ 3 → T (hotFamily (familyIn k)) → behindBranch (s .state .wide) (s .state .place) ≤ s .state .length
-      → tokenTurn s ≡ doneOf s (tokenMade n k (Branch (offsetOf (s .rom) (s .state .wide) (s .state .place + 1)) aimHere) (behindBranch (s .state .wide) (s .state .place)))
+  branch-done : (k : ℕ) → codeOf n ≡ k → formIn k ≡ 3 → T (hotFamily (familyIn k))
+      → behindBranch (s .state .wide) (s .state .place) ≤ s .state .length
+      → tokenTurn s ≡ doneOf s (tokenMade n k (Branch (offsetOf (s .rom) (s .state .wide) (s .state .place + 1)) aimHere)
+          (behindBranch (s .state .wide) (s .state .place)))
   branch-done k c z hot l =
       let b = offset-here k c z in
       hot-done (rw c hot) (behindBranch (s .state .wide) (s .state .place)) (b .0) l
       ∙ ap (λ (o : Operand). doneOf s (tokenMade n (codeOf n) o (behindBranch (s .state .wide) (s .state .place)))) (b .1)
-      ∙ ap (λ (j : ℕ). doneOf s (tokenMade n j (Branch (offsetOf (s .rom) (s .state .wide) (s .state .place + 1)) aimHere) (behindBranch (s .state .wide) (s .state .place)))) c
+      ∙ ap (λ (j : ℕ). doneOf s (tokenMade n j (Branch (offsetOf (s .rom) (s .state .wide) (s .state .place + 1)) aimHere)
+          (behindBranch (s .state .wide) (s .state .place)))) c
 
-  branch-cut : (k : ℕ) → codeOf n ≡ k → formIn k ≡ 3 → T (hotFamily (familyIn k)) → s .state .length < behindBranch (s .state .wide) (s .state .place)
+  branch-cut : (k : ℕ) → codeOf n ≡ k → formIn k ≡ 3 → T (hotFamily (familyIn k))
+      → s .state .length < behindBranch (s .state .wide) (s .state .place)
       → tokenTurn s ≡ refuse 10 s
   branch-cut k c z hot l = hot-cut (rw c hot) (behindBranch (s .state .wide) (s .state .place)) (offset-here k c z .0) l
 
@@ -190,7 +206,9 @@ module _ (s : Scene) (n : ℕ) (e : n ≡ byteOf (s .rom) (s .state .place)) whe
         → tokenTurn s ≡ takenOf s aimHere (s .state .stack .height)
     always-turn l = branch-done 0x0303_0000 c refl tt l ∙ by aimHere
       where
-        by : (a : Aim) → doneOf s (tokenMade n 0x0303_0000 (Branch (offsetOf (s .rom) (s .state .wide) (s .state .place + 1)) a) (behindBranch (s .state .wide) (s .state .place)))
+        by : (a : Aim)
+            → doneOf s (tokenMade n 0x0303_0000 (Branch (offsetOf (s .rom) (s .state .wide) (s .state .place + 1)) a)
+            (behindBranch (s .state .wide) (s .state .place)))
             ≡ takenOf s a (s .state .stack .height)
         by (Inside to) = always-inside s n _ _ h to
         by Outside = always-outside s n _ _ h
@@ -208,13 +226,17 @@ module _ (s : Scene) (n : ℕ) (e : n ≡ byteOf (s .rom) (s .state .place)) whe
       unfolding leftOf
       choice-taken o z = branch-done 0x0403_0010 c refl tt l ∙ by aimHere
         where
-          by : (a : Aim) → doneOf s (tokenMade n 0x0403_0010 (Branch (offsetOf (s .rom) (s .state .wide) (s .state .place + 1)) a) (behindBranch (s .state .wide) (s .state .place)))
+          by : (a : Aim)
+              → doneOf s (tokenMade n 0x0403_0010 (Branch (offsetOf (s .rom) (s .state .wide) (s .state .place + 1)) a)
+              (behindBranch (s .state .wide) (s .state .place)))
               ≡ takenOf s a (s .state .stack .height - 1)
-          by (Inside to) = let y : s .state .stack .height - 1 + 0 ≡ s .state .stack .height - 1 = omega arith in choice-inside s n _ _ h o to z ∙ rw y
+          by (Inside to) = let y : s .state .stack .height - 1 + 0 ≡ s .state .stack .height - 1 = omega arith in
+              choice-inside s n _ _ h o to z ∙ rw y
           by Outside = choice-outside s n _ _ h o z
 
       pub choice-fallen : 1 ≤ s .state .stack .height → (cellOf s 0 ≡ 0 → ⊥)
-          → tokenTurn s ≡ goes s (packedFast (s .state) (s .state .stack .cells) (s .state .stack .height - 1) (s .state .back .cells) (s .state .back .height) (behindBranch (s .state .wide) (s .state .place)))
+          → tokenTurn s ≡ goes s (packedFast (s .state) (s .state .stack .cells) (s .state .stack .height - 1) (s .state .back .cells)
+              (s .state .back .height) (behindBranch (s .state .wide) (s .state .place)))
       unfolding leftOf
       choice-fallen o z =
           let y : s .state .stack .height - 1 + 0 ≡ s .state .stack .height - 1 = omega arith in

@@ -57,7 +57,10 @@ module _ (s : Scene) (n : ℕ) (o : Operand) (next : ℕ) where
   plain-refuses : (k : ℕ) → T (among k plainCodes) → Refuses k
   unfolding refusalOf
   plain-refuses k t =
-      each Refuses plainCodes k (refl, (refl, (refl, (refl, (refl, (refl, (refl, (refl, (refl, (refl, (refl, (refl, (refl, (refl, (refl, (refl, (refl, (refl, (refl, tt))))))))))))))))))) t
+      each Refuses plainCodes k
+          (refl, (refl,
+          (refl, (refl,
+          (refl, (refl, (refl, (refl, (refl, (refl, (refl, (refl, (refl, (refl, (refl, (refl, (refl, (refl, (refl, tt))))))))))))))))))) t
 
   abbrev Acts : ℕ → Type 0
   Acts k = actOf s (tokenMade n k o next) ≡ goes s (moved (s .state) (plainOf n (operandIn o) (stacksOf (s .state))) next)
@@ -65,9 +68,14 @@ module _ (s : Scene) (n : ℕ) (o : Operand) (next : ℕ) where
   plain-acts : (k : ℕ) → T (among k plainCodes) → Acts k
   unfolding actOf effects
   plain-acts k t =
-      each Acts plainCodes k (refl, (refl, (refl, (refl, (refl, (refl, (refl, (refl, (refl, (refl, (refl, (refl, (refl, (refl, (refl, (refl, (refl, (refl, (refl, tt))))))))))))))))))) t
+      each Acts plainCodes k
+          (refl, (refl,
+          (refl, (refl,
+          (refl, (refl, (refl, (refl, (refl, (refl, (refl, (refl, (refl, (refl, (refl, (refl, (refl, (refl, (refl, tt))))))))))))))))))) t
 
-  pub plain-done : familyIn (codeOf n) ≡ plain → doneOf s (tokenMade n (codeOf n) o next) ≡ outcomeTurn s next (reckonOf n (operandIn o) (stacksOf (s .state)) (baseOf (s .state .calls)))
+  pub plain-done : familyIn (codeOf n) ≡ plain
+      → doneOf s (tokenMade n (codeOf n) o next) ≡ outcomeTurn s next
+      (reckonOf n (operandIn o) (stacksOf (s .state)) (baseOf (s .state .calls)))
   unfolding reckonOf
   plain-done f =
       by (tooLow (codeOf n) (s .state .stack .height)) (backTrouble (codeOf n) (s .state .back .height) (baseOf (s .state .calls)))
@@ -76,14 +84,18 @@ module _ (s : Scene) (n : ℕ) (o : Operand) (next : ℕ) where
       t : T (among (codeOf n) plainCodes)
       t = plain-coded n (codeOf n) refl f
 
-      by : (x y z : Bool) → tooLow (codeOf n) (s .state .stack .height) ≡ x → backTrouble (codeOf n) (s .state .back .height) (baseOf (s .state .calls)) ≡ y
+      by : (x y z : Bool) → tooLow (codeOf n) (s .state .stack .height) ≡ x
+          → backTrouble (codeOf n) (s .state .back .height) (baseOf (s .state .calls)) ≡ y
           → tooHigh (codeOf n) (s .state .stack .height) ≡ z
           → doneOf s (tokenMade n (codeOf n) o next)
-          ≡ outcomeTurn s next (pick x (reckonedAs 14 (stacksOf (s .state))) (pick y (reckonedAs 16 (stacksOf (s .state))) (pick z (reckonedAs 15 (stacksOf (s .state))) (reckonedAs 0 (plainOf n (operandIn o) (stacksOf (s .state)))))))
+          ≡ outcomeTurn s next (pick x (reckonedAs 14 (stacksOf (s .state)))
+              (pick y (reckonedAs 16 (stacksOf (s .state)))
+              (pick z (reckonedAs 15 (stacksOf (s .state))) (reckonedAs 0 (plainOf n (operandIn o) (stacksOf (s .state)))))))
       by true y z p q r = stopped s (tokenMade n (codeOf n) o next) 14 refl (plain-refuses (codeOf n) t ∙ rw p)
       by false true z p q r = stopped s (tokenMade n (codeOf n) o next) 16 refl (plain-refuses (codeOf n) t ∙ rw (p, q))
       by false false true p q r = stopped s (tokenMade n (codeOf n) o next) 15 refl (plain-refuses (codeOf n) t ∙ rw (p, q, r))
-      by false false false p q r = carried s (tokenMade n (codeOf n) o next) (plain-refuses (codeOf n) t ∙ rw (p, q, r)) ∙ plain-acts (codeOf n) t
+      by false false false p q r = carried s (tokenMade n (codeOf n) o next) (plain-refuses (codeOf n) t ∙ rw (p, q, r))
+          ∙ plain-acts (codeOf n) t
 
 -- the operand of such a token, a literal or none, and the place behind it
 abbrev literalCode : ℕ
@@ -97,12 +109,26 @@ operandPlain rom code place = pick (eqb code literalCode) (word32Of rom (place +
 
 module _ (rom : List ℕ) (size : ℕ) (wide : Bool) (p n : ℕ) (f : familyIn (codeOf n) ≡ plain) where
   abbrev Behind : ℕ → Type 0
-  Behind k = (behindOf rom wide (p + 1) (formIn k) ≡ behindPlain k p) × (operandIn (operandOf rom size wide (p + 1) (formIn k)) ≡ operandPlain rom k p)
+  Behind k = (behindOf rom wide (p + 1) (formIn k) ≡ behindPlain k p)
+      × (operandIn (operandOf rom size wide (p + 1) (formIn k)) ≡ operandPlain rom k p)
 
   behind-each : (k : ℕ) → T (among k plainCodes) → Behind k
   unfolding behindOf operandOf
   behind-each k t =
-      each Behind plainCodes k ((refl, refl), ((refl, refl), ((refl, refl), ((refl, refl), ((refl, refl), ((refl, refl), ((refl, refl), ((refl, refl), ((refl, refl), ((refl, refl), ((refl, refl), ((refl, refl), ((refl, refl), ((refl, refl), ((refl, refl), ((refl, refl), ((refl, refl), ((refl, refl), ((refl, refl), tt))))))))))))))))))) t
+      each Behind plainCodes k
+          ((refl, refl),
+          ((refl, refl),
+          ((refl, refl),
+          ((refl, refl),
+          ((refl, refl),
+          ((refl, refl),
+          ((refl, refl),
+          ((refl, refl),
+          ((refl, refl),
+          ((refl, refl),
+          ((refl, refl),
+          ((refl, refl),
+          ((refl, refl), ((refl, refl), ((refl, refl), ((refl, refl), ((refl, refl), ((refl, refl), ((refl, refl), tt))))))))))))))))))) t
 
   pub behind-plain : behindOf rom wide (p + 1) (formIn (codeOf n)) ≡ behindPlain (codeOf n) p
   behind-plain = behind-each (codeOf n) (plain-coded n (codeOf n) refl f) .0
@@ -160,7 +186,8 @@ module _ (s : Scene) (o : Operand) (next : ℕ) (high : s .state .stack .height 
   divide-done e = by (ltb h 2) (eqb (cellOf s 0) 0) refl refl
     where
       by : (x y : Bool) → ltb h 2 ≡ x → eqb (cellOf s 0) 0 ≡ y → doneOf s (tokenMade 0x2B 0x0700_0022 o next)
-          ≡ outcomeTurn s next (pick x (reckonedAs 14 (stacksOf (s .state))) (pick y (reckonedAs 21 (stacksOf (s .state))) (reckonedAs 0 (plainOf 0x2B 0 (stacksOf (s .state))))))
+          ≡ outcomeTurn s next (pick x (reckonedAs 14 (stacksOf (s .state)))
+              (pick y (reckonedAs 21 (stacksOf (s .state))) (reckonedAs 0 (plainOf 0x2B 0 (stacksOf (s .state))))))
       by true y p q = stopped s (tokenMade 0x2B 0x0700_0022 o next) 14 refl (rw p)
       by false true p q =
           let l : 2 ≤ h = ltb-false h 2 p in
@@ -198,7 +225,9 @@ module _ (s : Scene) (o : Operand) (next : ℕ) (high : s .state .stack .height 
   maybe-done n = by (ltb h 1) (eqb (cellOf s 0) 0) (ltb 64 (h + 1)) refl refl refl
     where
       by : (x y z : Bool) → ltb h 1 ≡ x → eqb (cellOf s 0) 0 ≡ y → ltb 64 (h + 1) ≡ z → doneOf s (tokenMade n 0x0A00_0011 o next)
-          ≡ outcomeTurn s next (pick x (reckonedAs 14 (stacksOf (s .state))) (pick y (reckonedAs 0 (stacksOf (s .state))) (pick z (reckonedAs 15 (stacksOf (s .state))) (reckonedAs 0 (doubledOf (stacksOf (s .state)))))))
+          ≡ outcomeTurn s next (pick x (reckonedAs 14 (stacksOf (s .state)))
+              (pick y (reckonedAs 0 (stacksOf (s .state)))
+              (pick z (reckonedAs 15 (stacksOf (s .state))) (reckonedAs 0 (doubledOf (stacksOf (s .state)))))))
       by true y z p q r = stopped s (tokenMade n 0x0A00_0011 o next) 14 refl (rw p)
       by false true z p q r =
           let l : 1 ≤ h = ltb-false h 1 p in

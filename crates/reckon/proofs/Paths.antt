@@ -67,15 +67,18 @@ module _ (n h b place k : ℕ) (c : List ℕ) (e : codeOf n ≡ k) (f : Bare k) 
 
     pub data-high : 64 < h - takesIn k + givesIn k → OnData n c h b place (turned (Not 15) h b place) c
     data-high g =
-        data-made n h b place k e (f .0) (f .1) t r c 15 h c t (λ operand base bk. high n operand base (stacks c h bk b) k e l (back-takes base) back-fits g)
+        data-made n h b place k e (f .0) (f .1) t r c 15 h c t
+            (λ operand base bk. high n operand base (stacks c h bk b) k e l (back-takes base) back-fits g)
 
     -- d and g are the cells and the height that the code leaves
-    pub data-fine : (vs d : List ℕ) (g : ℕ) → ((operand : ℕ) (bk : List ℕ) → reckonedOf (rowOf n .results) (seenOf operand (stacks c h bk b)) ≡ vs)
+    pub data-fine : (vs d : List ℕ) (g : ℕ) →
+        ((operand : ℕ) (bk : List ℕ) → reckonedOf (rowOf n .results) (seenOf operand (stacks c h bk b)) ≡ vs)
         → d ≡ leftOf c (h - takesIn k) vs → g ≡ h - takesIn k + givesIn k → g ≤ 64 → OnData n c h b place (turned On g b (place + 1)) d
     unfolding plainOf leftOf
     data-fine vs d g q x y i =
         data-made n h b place k e (f .0) (f .1) t r c 0 g d i
-        (λ operand base bk. rw (x, y) (shown operand bk ∙ fine n operand base (stacks c h bk b) k e l (back-takes base) back-fits (rw y at i)))
+        (λ operand base bk. rw (x, y) (shown operand bk
+            ∙ fine n operand base (stacks c h bk b) k e l (back-takes base) back-fits (rw y at i)))
       where
         same : b ≡ b - returnTakesIn k + returnGivesIn k
         same = let z = f .2 in let w = f .3 in omega arith

@@ -30,7 +30,8 @@ module _ (base h b place : ℕ) (c k : List ℕ) (t : h ≤ 64) (r : b ≤ 32) w
       both-made 0x30 h b place 0x0100_0110 to-code refl refl t r base c k 16 h b c k t r (λ o. o)
       (λ operand. back-high 0x30 operand base (stacks c h k b) 0x0100_0110 to-code l (omega arith) (omega arith))
 
-  to-left : (operand : ℕ) → reckonedAs 0 (stacks c (h - 1) (set k b (getD c (h - 1) 0)) (b + 1)) ≡ reckonedAs 0 (plainOf 0x30 operand (stacks c h k b))
+  to-left : (operand : ℕ) → reckonedAs 0 (stacks c (h - 1) (set k b (getD c (h - 1) 0)) (b + 1)) ≡ reckonedAs 0
+      (plainOf 0x30 operand (stacks c h k b))
   unfolding plainOf leftOf codeOf rowOf table ends lows highs doubles
   to-left operand =
       let x : h - 1 + 0 ≡ h - 1 = omega arith in
@@ -40,7 +41,8 @@ module _ (base h b place : ℕ) (c k : List ℕ) (t : h ≤ 64) (r : b ≤ 32) w
 
   pub to-fine : 1 ≤ h → b < 32 → OnBoth 0x30 base c h k b place (turned On (h - 1) (b + 1) (place + 1)) c (set k b (getD c (h - 1) 0))
   to-fine l m =
-      both-made 0x30 h b place 0x0100_0110 to-code refl refl t r base c k 0 (h - 1) (b + 1) c (set k b (getD c (h - 1) 0)) (omega arith) (omega arith)
+      both-made 0x30 h b place 0x0100_0110 to-code refl refl t r base c k 0 (h - 1) (b + 1) c (set k b (getD c (h - 1) 0)) (omega arith)
+          (omega arith)
       (λ o. omega arith)
       (λ operand. to-left operand ∙ fine 0x30 operand base (stacks c h k b) 0x0100_0110 to-code l (omega arith) (omega arith) (omega arith))
 
@@ -54,7 +56,8 @@ module _ (base h b place : ℕ) (c k : List ℕ) (t : h ≤ 64) (r : b ≤ 32) w
       both-made 0x31 h b place 0x0100_1001 from-code refl refl t r base c k 16 h b c k t r (λ o. o)
       (λ operand. back-low 0x31 operand base (stacks c h k b) 0x0100_1001 from-code (omega arith) (omega arith))
 
-  from-left : (operand : ℕ) → reckonedAs 0 (stacks (set c h (getD k (b - 1) 0)) (h + 1) k (b - 1)) ≡ reckonedAs 0 (plainOf 0x31 operand (stacks c h k b))
+  from-left : (operand : ℕ) → reckonedAs 0 (stacks (set c h (getD k (b - 1) 0)) (h + 1) k (b - 1)) ≡ reckonedAs 0
+      (plainOf 0x31 operand (stacks c h k b))
   unfolding plainOf leftOf codeOf rowOf table ends lows highs doubles
   from-left operand =
       let x : h - 0 ≡ h = omega arith in
@@ -72,7 +75,8 @@ module _ (base h b place : ℕ) (c k : List ℕ) (t : h ≤ 64) (r : b ≤ 32) w
       both-made 0x32 h b place 0x0100_1101 copy-code refl refl t r base c k 16 h b c k t r (λ o. o)
       (λ operand. back-low 0x32 operand base (stacks c h k b) 0x0100_1101 copy-code (omega arith) (omega arith))
 
-  copy-left : 1 ≤ b → (operand : ℕ) → reckonedAs 0 (stacks (set c h (getD k (b - 1) 0)) (h + 1) k b) ≡ reckonedAs 0 (plainOf 0x32 operand (stacks c h k b))
+  copy-left : 1 ≤ b → (operand : ℕ) → reckonedAs 0 (stacks (set c h (getD k (b - 1) 0)) (h + 1) k b) ≡ reckonedAs 0
+      (plainOf 0x32 operand (stacks c h k b))
   unfolding plainOf leftOf codeOf rowOf table ends lows highs doubles
   copy-left l operand =
       let x : h - 0 ≡ h = omega arith in
@@ -88,9 +92,11 @@ module _ (base h b place : ℕ) (c k : List ℕ) (t : h ≤ 64) (r : b ≤ 32) w
 
     pub from-fine : h < 64 → OnBoth 0x31 base c h k b place (turned On (h + 1) (b - 1) (place + 1)) (set c h (getD k (b - 1) 0)) k
     from-fine m =
-        both-made 0x31 h b place 0x0100_1001 from-code refl refl t r base c k 0 (h + 1) (b - 1) (set c h (getD k (b - 1) 0)) k (omega arith) (omega arith)
+        both-made 0x31 h b place 0x0100_1001 from-code refl refl t r base c k 0 (h + 1) (b - 1) (set c h (getD k (b - 1) 0)) k (omega arith)
+            (omega arith)
         (λ o. omega arith)
-        (λ operand. from-left operand ∙ fine 0x31 operand base (stacks c h k b) 0x0100_1001 from-code (omega arith) (omega arith) (omega arith) (omega arith))
+        (λ operand. from-left operand ∙ fine 0x31 operand base (stacks c h k b) 0x0100_1001 from-code (omega arith) (omega arith)
+            (omega arith) (omega arith))
 
     pub copy-high : 64 ≤ h → OnBoth 0x32 base c h k b place (turned (Not 15) h b place) c k
     copy-high m =
@@ -101,4 +107,5 @@ module _ (base h b place : ℕ) (c k : List ℕ) (t : h ≤ 64) (r : b ≤ 32) w
     copy-fine m =
         both-made 0x32 h b place 0x0100_1101 copy-code refl refl t r base c k 0 (h + 1) b (set c h (getD k (b - 1) 0)) k (omega arith) r
         (λ o. o)
-        (λ operand. copy-left (omega arith) operand ∙ fine 0x32 operand base (stacks c h k b) 0x0100_1101 copy-code (omega arith) (omega arith) (omega arith) (omega arith))
+        (λ operand. copy-left (omega arith) operand
+            ∙ fine 0x32 operand base (stacks c h k b) 0x0100_1101 copy-code (omega arith) (omega arith) (omega arith) (omega arith))

@@ -7,7 +7,8 @@ use lib.Dec.{eqb}
 use Rattle.cells.specs.Choice.{pick, find}
 use Rattle.rom.specs.Bytes.{byteOf, word32Of}
 use Rattle.rom.specs.Branch.{placeIn}
-use Rattle.tokens.specs.Family.{plain, finish, always, choice, text, widen, divide, pickUp, rollUp, maybe, leave, fetch, store, define, assign, call}
+use Rattle.tokens.specs.Family.{plain, finish, always, choice, text, widen, divide, pickUp, rollUp, maybe, leave, fetch, store, define}
+use Rattle.tokens.specs.Family.{assign, call}
 use Rattle.tokens.specs.Family.{encodeInt, encodeString, join, property, titled, newDevice, finishDevice}
 use Rattle.tokens.specs.Code.{familyIn}
 use Rattle.tokens.specs.Body.{numberIn}
@@ -37,7 +38,8 @@ Effect = Scene → Token → Turn
 -- so many cells taken from the data stack and these given, the lowest first
 abbrev pub gave : State → ℕ → List ℕ → Stacks
 gave st takes cells =
-    stacks (leftOf (st .stack .cells) (st .stack .height - takes) cells) (st .stack .height - takes + length cells) (st .back .cells) (st .back .height)
+    stacks (leftOf (st .stack .cells) (st .stack .height - takes) cells) (st .stack .height - takes + length cells) (st .back .cells)
+        (st .back .height)
 
 -- and then the next token
 abbrev pub onward : Scene → Token → ℕ → List ℕ → State
@@ -108,8 +110,8 @@ quotes s t = goes s (onward s t 0 ((romBase + textStart (t .operand)) ∷ textCo
 abbrev pub widens : Effect
 widens s t = goes s (withCalls (s .state) (s .state .calls) (t .next) true)
 
--- ---- a call, and leaving a body: "A body keeps the offset width in force where it was defined"; leaving it gives back the caller's place and width
--- one frame more: where it goes back to, the width there, and the return stack's height
+-- ---- a call, and leaving a body: "A body keeps the offset width in force where it was defined"; leaving it gives back the caller's place
+-- and width one frame more: where it goes back to, the width there, and the return stack's height
 abbrev pub framedOf : Calls → ℕ → Bool → ℕ → Calls
 framedOf calls place wide base =
     callsOn (set (calls .places) (calls .count) place) (set (calls .wides) (calls .count) wide) (set (calls .bases) (calls .count) base)
@@ -125,7 +127,8 @@ enteredOf st to wide next = withCalls st (framedOf (st .calls) next (st .wide) (
 -- the state back in the caller
 abbrev pub leftBodyOf : State → State
 leftBodyOf st =
-    withCalls st (unframedOf (st .calls)) (getD (st .calls .places) (st .calls .count - 1) 0) (getD (st .calls .wides) (st .calls .count - 1) false)
+    withCalls st (unframedOf (st .calls)) (getD (st .calls .places) (st .calls .count - 1) 0)
+        (getD (st .calls .wides) (st .calls .count - 1) false)
 
 abbrev pub leaves : Effect
 leaves s t = goes s (leftBodyOf (s .state))
@@ -179,11 +182,12 @@ defines s t = find ((colon, colons) ∷ (value, values) ∷ (variable, variables
 
 abbrev pub assigns : Effect
 assigns s t =
-    goes s (withNumbers (onward s t 1 []) (assignedOf (s .state .numbers) (seekOf (s .state .numbers) (numberIn (t .operand))) (cellOf s 0)))
+    goes s (withNumbers (onward s t 1 []) (assignedOf (s .state .numbers) (seekOf (s .state .numbers) (numberIn (t .operand)))
+        (cellOf s 0)))
 
--- ---- "111 encode-int (four bytes, big-endian, at the work place, which moves only past what 111, 114 and B9 write), 114 encode-string (there too: the
--- bytes as before the token, and a null), 112 encode+"
--- the bytes written at the work place, so many cells taken, and their address and length given
+-- ---- "111 encode-int (four bytes, big-endian, at the work place, which moves only past what 111, 114 and B9 write), 114 encode-string
+-- (there too: the bytes as before the token, and a null), 112 encode+" the bytes written at the work place, so many cells taken, and their
+-- address and length given
 abbrev pub encodedOf : Scene → Token → ℕ → List ℕ → Turn
 encodedOf s t takes bytes =
     turn Going

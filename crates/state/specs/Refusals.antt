@@ -1,6 +1,6 @@
--- Why a token is refused that may stand where it stands: document 01's "Numbers handed back" from 12 on, one condition a number, and the one order of
--- them: "12, 13, 14, 19, 16, 15, 17, 20, and 21 to 27 by number"; a body is read after its head's own tests. 10, 18 and 11 come before, as the
--- token is read. Assumes nothing.
+-- Why a token is refused that may stand where it stands: document 01's "Numbers handed back" from 12 on, one condition a number, and the
+-- one order of them: "12, 13, 14, 19, 16, 15, 17, 20, and 21 to 27 by number"; a body is read after its head's own tests. 10, 18 and 11
+-- come before, as the token is read. Assumes nothing.
 use Prim.Native.Nat.{ℕ, _+_, _-_, _*_, _/_, _%_, _^_}
 use mathlib.Core.Bool.{Bool, true, false, not, _&&_, _||_}
 use mathlib.Core.List.{List, [], _∷_}
@@ -47,7 +47,8 @@ definedAlready s t = isHeld (s .state .numbers) (newNumber (t .operand)) || leb 
 abbrev pub taken : Scene → Token → Bool
 taken s t = asked define t definedAlready s
 
--- ---- "After its head's own tests b(:) reads on to the first C2 that starts a token, refusing at the first token that gives 10, 18, 11 or 12"
+-- ---- "After its head's own tests b(:) reads on to the first C2 that starts a token, refusing at the first token that gives 10, 18, 11 or
+-- 12"
 abbrev pub bodyHere : Scene → Token → Body
 bodyHere s t = bodyOf (s .rom) (s .state .length) (s .state .wide) (kindsOf (s .state .numbers)) (t .next)
 
@@ -180,7 +181,8 @@ noRoomFor s name value = overfull (wouldHold (s .state .tree) (s .store) (s .sta
 
 abbrev pub storeFull : Scene → Token → Bool
 storeFull s t =
-    asked property t (λ s t. noRoomFor s (namedHere s) (valueHere s)) s || asked titled t (λ s t. noRoomFor s (titleOf (t .number)) (titledHere s)) s
+    asked property t (λ s t. noRoomFor s (namedHere s) (valueHere s)) s || asked titled t
+        (λ s t. noRoomFor s (titleOf (t .number)) (titledHere s)) s
 
 -- ---- their order. 6, 1, 7 and 4 come before (Step.antt), then 10, 18 and 11, as the token is read (crate tokens, Place.antt)
 abbrev pub firstOf : List (ℕ × Bool) → ℕ

@@ -1,5 +1,5 @@
--- A run: "A run stops at finish, refusal or budget: 6, 1, 7 and 4 are tested first, then finish, then budget, then the token. The count equals the
--- tokens carried out; the final token counts, a refused one doesn't." Assumes nothing.
+-- A run: "A run stops at finish, refusal or budget: 6, 1, 7 and 4 are tested first, then finish, then budget, then the token. The count
+-- equals the tokens carried out; the final token counts, a refused one doesn't." Assumes nothing.
 use Prim.Native.Nat.{ℕ, zero, suc, _+_}
 use mathlib.Core.List.{List}
 use Rattle.state.specs.Scene.{Scene, scene, Turn}

@@ -1,5 +1,5 @@
--- The two stacks, and what a token does that works on them alone: document 01's list of arithmetic, comparison, stack words and numbers. What such
--- a token takes and gives stands in its row of the list; here is what a row means. Assumes nothing.
+-- The two stacks, and what a token does that works on them alone: document 01's list of arithmetic, comparison, stack words and numbers.
+-- What such a token takes and gives stands in its row of the list; here is what a row means. Assumes nothing.
 use Prim.Native.Nat.{ℕ, zero, suc, _+_, _-_}
 use mathlib.Core.Bool.{Bool, _||_}
 use mathlib.Core.List.{List, [], _∷_, _++_, map}
@@ -57,7 +57,8 @@ plainOf n operand s =
 
 -- refusal 16, "return stack above 32, below its frame's base"
 abbrev pub backTrouble : ℕ → ℕ → ℕ → Bool
-backTrouble code returns base = ltb (returns - base) (returnTakesIn code) || ltb returnMost (returns - returnTakesIn code + returnGivesIn code)
+backTrouble code returns base = ltb (returns - base) (returnTakesIn code) || ltb returnMost
+    (returns - returnTakesIn code + returnGivesIn code)
 
 -- pick and roll: "need the count and count + 1 cells below it, the count unsigned; else 14"
 abbrev pub tooDeep : Stacks → Bool
@@ -66,7 +67,8 @@ tooDeep s = ltb (s .height) 1 || ltb (s .height) (topOf (s .cells) (s .height) 0
 -- pick: the cell that has `count` cells between itself and the count takes the count's place
 abbrev pub pickedOf : Stacks → Stacks
 pickedOf s =
-    stacks (set (s .cells) (s .height - 1) (topOf (s .cells) (s .height) (topOf (s .cells) (s .height) 0 + 1))) (s .height) (s .back) (s .returns)
+    stacks (set (s .cells) (s .height - 1) (topOf (s .cells) (s .height) (topOf (s .cells) (s .height) 0 + 1))) (s .height) (s .back)
+        (s .returns)
 
 -- roll: that cell is moved to the top, those above it one down; `start` is where it stood
 abbrev pub turnedOf : List ℕ → ℕ → ℕ → List ℕ
@@ -74,7 +76,8 @@ turnedOf cells start count = leftOf cells start (cellsFrom cells (start + 1) cou
 
 abbrev pub rolledOf : Stacks → Stacks
 rolledOf s =
-    stacks (turnedOf (s .cells) (s .height - 2 - topOf (s .cells) (s .height) 0) (topOf (s .cells) (s .height) 0)) (s .height - 1) (s .back) (s .returns)
+    stacks (turnedOf (s .cells) (s .height - 2 - topOf (s .cells) (s .height) 0) (topOf (s .cells) (s .height) 0)) (s .height - 1) (s .back)
+        (s .returns)
 
 -- ?dup: 0 is left alone, so that it never asks for room
 abbrev pub doubledOf : Stacks → Stacks

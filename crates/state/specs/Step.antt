@@ -1,6 +1,6 @@
--- A step: "In a step: 6, 1 (the ROM again), 7, 4 (the state's length against it), then 10, 18, 11, 12, 13, 14, 19, 16, 15, 17, 20, and 21 to 27 by
--- number. A refused step leaves state, work memory and store as before it. After the first four tests a finished state says finished again and
--- takes no step." Assumes nothing.
+-- A step: "In a step: 6, 1 (the ROM again), 7, 4 (the state's length against it), then 10, 18, 11, 12, 13, 14, 19, 16, 15, 17, 20, and 21
+-- to 27 by number. A refused step leaves state, work memory and store as before it. After the first four tests a finished state says
+-- finished again and takes no step." Assumes nothing.
 use Prim.Native.Nat.{ℕ}
 use mathlib.Core.Bool.{Bool, true, false, not, _||_}
 use mathlib.Core.List.{List}

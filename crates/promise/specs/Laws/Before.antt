@@ -1,6 +1,6 @@
--- Which reachable definitions lie wholly before a place: one step outside bodies changes that by no more than the one that it carries out (`leads-moves`), for no way leads
--- around, or twice through, what is met exactly once (InForce.antt). A definition at a place is one token and ends at one place, and what is reachable in a body stands in
--- its b(:). All of it is by the rules alone. Assumes nothing.
+-- Which reachable definitions lie wholly before a place: one step outside bodies changes that by no more than the one that it carries out
+-- (`leads-moves`), for no way leads around, or twice through, what is met exactly once (InForce.antt). A definition at a place is one token
+-- and ends at one place, and what is reachable in a body stands in its b(:). All of it is by the rules alone. Assumes nothing.
 use Prim.Native.Nat.{ℕ, suc, _≤_, _<_}
 use native.Mathlib.Omega.{arith}
 use native.Mathlib.Decide.{decLt, ℕ-discrete}
@@ -16,7 +16,8 @@ use Rattle.screen.specs.Laws.Rules.Reach.{ExtendsBy, short, long, extends-by, s
 use Rattle.screen.specs.Rules.{Assignment}
 use Rattle.screen.specs.Laws.Rules.Ways.{define-fixes}
 use Rattle.promise.specs.Laws.Standing.{Defined}
-use Rattle.screen.specs.Laws.Rules.InForce.{Fixed, fixedOf, fixed-read, Fixing, fixing, Passes, next-met, step-of, step-passes, one-fixed, InBody, in-body}
+use Rattle.screen.specs.Laws.Rules.InForce.{Fixed, fixedOf, fixed-read, Fixing, fixing, Passes, next-met, step-of, step-passes, one-fixed}
+use Rattle.screen.specs.Laws.Rules.InForce.{InBody, in-body}
 
 -- those that lie wholly before q are those that lie wholly before p, and the one at p itself
 pub record MovesHome (rom : List ℕ) (p q : ℕ) : Type 0 where
@@ -31,7 +32,8 @@ one-extent {t = t} (long i r) (short m) = absurd (T-not (isColon t) m i)
 one-extent (long i r) (long j s) = ap suc (one-end r s)
 
 -- a start of a b(:)'s body lies in it, up to the place behind its C2
-start-in : {rom : List ℕ} {w : Bool} {t : Token} {e p : ℕ} → T (isColon t) → ExtendsBy rom w t e → Starts rom w (t .next) p → (t .next ≤ p) × (p < e)
+start-in : {rom : List ℕ} {w : Bool} {t : Token} {e p : ℕ} → T (isColon t) → ExtendsBy rom w t e → Starts rom w (t .next) p → (t .next ≤ p)
+    × (p < e)
 start-in {t = t} c (short n) s = absurd (T-not (isColon t) n c)
 start-in c (long i r) s = let z = start-within r s in (z .low, omega (arith, z .high))
 
@@ -52,7 +54,8 @@ module _ {rom : List ℕ} (a : Assignment rom) where
   defined-extent : {d e : ℕ} {s : Setting} {t : Token} (f : Defined rom d e) → Met rom 0 s d t → ExtendsBy rom (s .wide) t e
   defined-extent {d} {e} {s} {t} f m =
       let u : fixedOf (f .setting) ≡ fixedOf s = one-fixed a (f .met .reach) (m .reach) in
-      subst (λ (v : Fixed). ExtendsBy rom (v .wide) t e) u (subst (λ v. ExtendsBy rom (f .setting .wide) v e) (defined-token f m) (extends-by (f .ends)))
+      subst (λ (v : Fixed). ExtendsBy rom (v .wide) t e) u
+          (subst (λ v. ExtendsBy rom (f .setting .wide) v e) (defined-token f m) (extends-by (f .ends)))
 
   pub defined-end : {d e c : ℕ} → Defined rom d e → Defined rom d c → e ≡ c
   defined-end f g = one-extent (defined-extent f (g .met)) (extends-by (g .ends))

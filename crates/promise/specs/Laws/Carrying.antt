@@ -52,7 +52,8 @@ seek-name : (list : List ℕ) (n k i : ℕ) → seekFrom list n k i < i + k → 
 unfolding seekFrom
 seek-name list n zero i h = absurd (omega arith)
 seek-name list n (suc k) i h =
-    when-is (λ s. s < i + suc k → getD list s 0 ≡ n) (eqb (getD list i 0) n) i (seekFrom list n k (i + 1)) (λ t l. eqb→eq (getD list i 0) n t)
+    when-is (λ s. s < i + suc k → getD list s 0 ≡ n) (eqb (getD list i 0) n) i (seekFrom list n k (i + 1))
+        (λ t l. eqb→eq (getD list i 0) n t)
     (λ t l. seek-name list n k (i + 1) (omega arith)) h
 
 -- a number that is held has the name where it is found
@@ -75,7 +76,8 @@ kind-read ns n p h =
 -- a kind is never 0
 byte-some : (k : ℕ) → kindOfByte k ≢ 0
 byte-some k =
-    pick-is (λ b. b ≢ 0) (eqb k colon) colon _ (λ t q. omega arith) (λ t. pick-is (λ b. b ≢ 0) (eqb k value) value constant (λ u q. omega arith) (λ u q. omega arith))
+    pick-is (λ b. b ≢ 0) (eqb k colon) colon _ (λ t q. omega arith)
+        (λ t. pick-is (λ b. b ≢ 0) (eqb k value) value constant (λ u q. omega arith) (λ u q. omega arith))
 
 -- a b(:) is of the kind colon
 colon-kind : (t : Token) → T (isColon t) → kindIn (t .operand) ≡ colon
@@ -132,15 +134,18 @@ module _ {rom : List ℕ} (a : Assignment rom) where
       assign-known (kindsOf ns) t i k
 
   -- 12 is not given where each definition that lies wholly before the token was carried out
-  known-at : {home p : ℕ} {t : Token} {ns : Numbers} → Carried rom home ns → Holds rom (known p t) → ((d e : ℕ) → Defined rom d e → e ≤ p → e ≤ home)
+  known-at : {home p : ℕ} {t : Token} {ns : Numbers} → Carried rom home ns → Holds rom (known p t)
+      → ((d e : ℕ) → Defined rom d e → e ≤ p → e ≤ home)
       → unknownOf (kindsOf ns) t ≡ false
   known-at {t} {ns} c (Holds.unnamed n) b = unnamed-known (kindsOf ns) t (is-false (names t) n)
   known-at c (Holds.named {s = s} {d = d} {e = e} {u = u} reach is m ext l) b =
-      let f : Defined rom d e = record { setting = s; token = u; met = record { reach = reach; is = is }; defines = defines-of m; ends = ext } in
+      let f : Defined rom d e = record { setting = s; token = u; met = record { reach = reach; is = is }; defines = defines-of m; ends =
+          ext } in
       named-known c f (b d e f l) m
 
   -- 12 is not given: a token that names no number but one that is known
-  pub known-numbers : {home p : ℕ} {t : Token} {ns : Numbers} → Carried rom home ns → Holds rom (known p t) → p ≤ home → unknownOf (kindsOf ns) t ≡ false
+  pub known-numbers : {home p : ℕ} {t : Token} {ns : Numbers} → Carried rom home ns → Holds rom (known p t) → p ≤ home
+      → unknownOf (kindsOf ns) t ≡ false
   known-numbers c k l = known-at c k (λ d e f h. omega arith)
 
   -- the number of a definition at the run's place is not held: 13 is not given
@@ -157,7 +162,8 @@ module _ {rom : List ℕ} (a : Assignment rom) where
 
   -- a body at the run's place is read to its C2: 10, 18, 11 and 12 are not given
   pub body-read : {d e c : ℕ} {ns : Numbers} → Carried rom d ns → (f : Defined rom d e) → T (isColon (f .token))
-      → Holds rom (reads (f .setting .wide) (f .token .next) c) → bodyOf rom (lengthOf rom) (f .setting .wide) (kindsOf ns) (f .token .next) ≡ Ends c
+      → Holds rom (reads (f .setting .wide) (f .token .next) c)
+          → bodyOf rom (lengthOf rom) (f .setting .wide) (kindsOf ns) (f .token .next) ≡ Ends c
   body-read {d} {e} {c} {ns} k f h r =
       let z = one-extent (extends-by (f .ends)) (ExtendsBy.long h r) in
       reads-on (kindsOf ns) r (λ q t l m. known-at k m (λ x b g u. wholly-before a f g u (omega arith)))
@@ -172,7 +178,8 @@ module _ {rom : List ℕ} (a : Assignment rom) where
       }
 
   -- one number more
-  module _ {d e : ℕ} {ns : Numbers} (v : ℕ) (c : Carried rom d ns) (z : SizedNumbers ns) (room : ns .count < numbersMost) (f : Defined rom d e)
+  module _ {d e : ℕ} {ns : Numbers} (v : ℕ) (c : Carried rom d ns) (z : SizedNumbers ns) (room : ns .count < numbersMost)
+      (f : Defined rom d e)
       (b : T (isColon (f .token)) → v ≡ f .token .next) where
     -- what is then held
     abbrev then : Numbers
@@ -234,13 +241,15 @@ module _ {rom : List ℕ} (a : Assignment rom) where
         ]
 
   -- a definition
-  pub carried-new : {d e : ℕ} {ns : Numbers} (v : ℕ) → MovesHome rom d e → Carried rom d ns → SizedNumbers ns → ns .count < numbersMost → (f : Defined rom d e)
+  pub carried-new : {d e : ℕ} {ns : Numbers} (v : ℕ) → MovesHome rom d e → Carried rom d ns → SizedNumbers ns → ns .count < numbersMost
+      → (f : Defined rom d e)
       → (T (isColon (f .token)) → v ≡ f .token .next)
       → Carried rom e (definedOf ns (newNumber (f .token .operand)) (kindIn (f .token .operand)) v (f .setting .wide))
   carried-new v m c z room f b = record { real = real-new v c z room f b; full = full-new v c z room f b m }
 
   -- another value of a number that is no body's
-  pub carried-assigned : {home : ℕ} {ns : Numbers} (i v : ℕ) → (getD (ns .kinds) i 0 ≡ colon → ⊥) → Carried rom home ns → Carried rom home (assignedOf ns i v)
+  pub carried-assigned : {home : ℕ} {ns : Numbers} (i v : ℕ) → (getD (ns .kinds) i 0 ≡ colon → ⊥) → Carried rom home ns
+      → Carried rom home (assignedOf ns i v)
   carried-assigned {home} {ns} i v n c =
       record {
         real = λ j h. let (d, e, en, l) = c .real j h in (d, e, entry j d e en, l);

@@ -22,7 +22,8 @@ use Rattle.state.specs.declared.answer.Answer.the-variants.{Going, Finished, Re
 use Rattle.promise.specs.Trail.{Allowed, finished, spent, refused, start, RunEnds, finishes, stops, runs-out, OpenCall}
 use Rattle.promise.specs.Laws.Steps.{Fine}
 use Rattle.promise.specs.Laws.Running.{trail-arrived, trail-ends, ends-trail, stands-high, steps-so}
-use Rattle.promise.specs.Demand3.{Exactly, Opened, SeenRun, Demand3, TrailOf, Counted, HeightsByMarks, Came, Resumed, AllowedStep, Stepwise, first, again, goes, ends, refuses}
+use Rattle.promise.specs.Demand3.{Exactly, Opened, SeenRun, Demand3, TrailOf, Counted, HeightsByMarks, Came, Resumed, AllowedStep}
+use Rattle.promise.specs.Demand3.{Stepwise, first, again, goes, ends, refuses}
 
 refused-not-pass : {why : ℕ} → Rejects why ≡ Passes → ⊥
 refused-not-pass e = let z : _≡_ {A = ℕ} 0 1 = cc in omega arith
@@ -43,17 +44,20 @@ pub passed : {rom before marks : List ℕ} → Promised rom before Passes marks 
 passed (passes l h a m) = record { header = h; assignment = a; marked = m }
 
 -- what opening hands back with `Going` is the fresh state, and both memories zeroed
-open-fresh : (rom work store : List ℕ) → openOf rom work store .answer ≡ Going → openOf rom work store ≡ turn Going (freshState rom) (replicate workSize 0) (replicate storeSize 0)
+open-fresh : (rom work store : List ℕ) → openOf rom work store .answer ≡ Going
+    → openOf rom work store ≡ turn Going (freshState rom) (replicate workSize 0) (replicate storeSize 0)
 unfolding openOf
 open-fresh rom work store =
-    when-is (λ r. r .answer ≡ Going → r ≡ turn Going (freshState rom) (replicate workSize 0) (replicate storeSize 0)) (eqb (openRefusal rom work store) 0) _ _
+    when-is (λ r. r .answer ≡ Going → r ≡ turn Going (freshState rom) (replicate workSize 0) (replicate storeSize 0))
+        (eqb (openRefusal rom work store) 0) _ _
     (λ t e. refl) (λ t e. absurd (not-going (openRefusal rom work store) e))
 
 module _ (c : Opened) where
   pass : Passed (c .rom) (c .marks)
   pass = passed (c .screened)
 
-  handed : handedBack (c .fresh) (c .workFresh) (c .storeFresh) ≡ turn Going (freshState (c .rom)) (replicate workSize 0) (replicate storeSize 0)
+  handed : handedBack (c .fresh) (c .workFresh) (c .storeFresh) ≡ turn Going (freshState (c .rom)) (replicate workSize 0)
+      (replicate storeSize 0)
   handed = c .opens ∙ open-fresh (c .rom) (c .work) (c .store) (sym (ap (λ r. r .answer) (c .opens)) ∙ c .going)
 
   work-size : length (c .workLent) ≡ workSize
@@ -80,7 +84,8 @@ module _ (c : Opened) where
       let e = ends-trail (pass .assignment) (c .workLent) (c .storeLent) work-size store-size (pass .header) (from-trail t budget) f in
       (e .0, subst (λ r. TrailOf c (n + o .count) (e .0) (scene r (o .work) (o .store) (o .state))) (sym same) (e .1))
 
-ran-ends : (c : SeenRun) → RunEnds (c .opened .rom) (c .opened .workLent) (c .opened .storeLent) 0 (c .budget) (toldRan (c .ran) (c .workRan) (c .storeRan))
+ran-ends : (c : SeenRun) → RunEnds (c .opened .rom) (c .opened .workLent) (c .opened .storeLent) 0 (c .budget)
+    (toldRan (c .ran) (c .workRan) (c .storeRan))
 ran-ends c =
     let o = c .opened in
     subst (λ v. RunEnds (o .rom) (o .workLent) (o .storeLent) 0 (c .budget) v) (sym (c .runs)) (from-trail o (first-trail o) (c .budget))
@@ -102,12 +107,14 @@ pub counted : Counted
 counted c = (ran-ends c, most (ran-ends c))
 
 pub heights : HeightsByMarks
-heights c n open-calls s t = stands-high (pass c .assignment) (c .workLent) (c .storeLent) (work-size c) (store-size c) (pass c .header) (pass c .marked) t
+heights c n open-calls s t = stands-high (pass c .assignment) (c .workLent) (c .storeLent) (work-size c) (store-size c) (pass c .header)
+    (pass c .marked) t
 
 pub resumed : Resumed
 resumed c n s k budget = let e = from-trail c (came-trail c k .1) budget in (e, allowed e)
 
-fine-step : {rom : List ℕ} (a : Assignment rom) (open-calls : List OpenCall) (st : State) (r : Turn) (w : Answer) → Fine a open-calls st r w → AllowedStep w
+fine-step : {rom : List ℕ} (a : Assignment rom) (open-calls : List OpenCall) (st : State) (r : Turn) (w : Answer) → Fine a open-calls st r w
+    → AllowedStep w
 fine-step a open-calls st r Going f = goes
 fine-step a open-calls st r Finished f = ends
 fine-step a open-calls st r (Refused why) f = refuses f
@@ -116,4 +123,5 @@ fine-step a open-calls st r (Spent n) f = absurd f
 pub stepwise : Stepwise
 stepwise c n open-calls s t =
     let k = steps-so (pass c .assignment) (c .workLent) (c .storeLent) (work-size c) (store-size c) (pass c .header) t in
-    (k .0, subst (λ r. AllowedStep (r .answer)) (sym (k .0)) (fine-step (pass c .assignment) open-calls (s .state) (tokenTurn s) (tokenTurn s .answer) (k .1)))
+    (k .0, subst (λ r. AllowedStep (r .answer)) (sym (k .0))
+        (fine-step (pass c .assignment) open-calls (s .state) (tokenTurn s) (tokenTurn s .answer) (k .1)))

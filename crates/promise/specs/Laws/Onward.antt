@@ -1,5 +1,5 @@
--- A token that is carried out and does not finish leaves a state that stands as the assignment says: what all tokens have in common, and the two that change the call
--- chain. Assumes nothing.
+-- A token that is carried out and does not finish leaves a state that stands as the assignment says: what all tokens have in common, and
+-- the two that change the call chain. Assumes nothing.
 use Prim.Native.Nat.{ℕ, suc, _+_, _-_, _≤_, _<_}
 use native.Mathlib.Omega.{arith}
 use mathlib.Core.Path.{_≡_, refl, sym, ap, subst, _∙_}
@@ -66,7 +66,8 @@ calls-kept outside e = outside
 calls-kept {calls = calls} {then = then} (within {k = k} c g h p w b) e =
     let l : k < suc k = omega arith in
     let f : SameFrames k calls then =
-    record { places = λ i l. e .places i (omega arith); wides = λ i l. e .wides i (omega arith); bases = λ i l. e .bases i (omega arith) } in
+    record { places = λ i l. e .places i (omega arith); wides = λ i l. e .wides i (omega arith); bases = λ i l. e .bases i (omega arith) }
+        in
     within (calls-kept c f) g h (e .places k l ∙ p) (e .wides k l ∙ w) (e .bases k l ∙ b)
 
 -- one frame more leaves those below it, and one less too
@@ -89,7 +90,8 @@ module _ {rom : List ℕ} (a : Assignment rom) where
     pub at : AtHome x q s home outer
     pub numbers : Carried rom home ns
 
-  pub home-on : {calls : Calls} {es : List OpenCall} {home k x floor base p q : ℕ} {outer s : Setting} {t : Token} {ns : Numbers} → CallChain a calls home outer es k x floor base
+  pub home-on : {calls : Calls} {es : List OpenCall} {home k x floor base p q : ℕ} {outer s : Setting} {t : Token} {ns : Numbers}
+      → CallChain a calls home outer es k x floor base
       → Met rom x s p t → T (not (fixes t)) → Holds rom (leads (s .wide) p t q) → AtHome x p s home outer → Carried rom home ns
       → Homed calls outer es k x floor base q s ns
   home-on {p = p} {q = q} {t = t} {ns = ns} outside m f l h n =
@@ -126,7 +128,8 @@ module _ {rom : List ℕ} (a : Assignment rom) where
       pub children : Below (then .tree) (then .active) (g .outer .children)
       pub first : then .first ≡ st .first
 
-    pub go-on : {q : ℕ} {then : State} → T (not (fixes t)) → Holds rom (leads (g .setting .wide) (st .place) t q) → Next q then → Standing a open-calls then
+    pub go-on : {q : ℕ} {then : State} → T (not (fixes t)) → Holds rom (leads (g .setting .wide) (st .place) t q) → Next q then
+        → Standing a open-calls then
     go-on {q} {then} f l n =
         let h = home-on (g .chain) met f l (g .at) (n .numbers) in
         let b = behind a work store open-calls st g t is l in
@@ -141,13 +144,15 @@ module _ {rom : List ℕ} (a : Assignment rom) where
         record {
           text = g .text;
           setting = g .setting;
-          reach = subst (λ v. Reach rom (g .text) (g .setting) v) (sym e) (subst (λ v. Reach rom (g .text) v q) (after-same t (g .setting) f) (Holds.next (g .reach) is l));
+          reach = subst (λ v. Reach rom (g .text) (g .setting) v) (sym e)
+              (subst (λ v. Reach rom (g .text) v q) (after-same t (g .setting) f) (Holds.next (g .reach) is l));
           size = n .size ∙ g .size;
           home = h .home;
           outer = g .outer;
           floor = g .floor;
           base = g .base;
-          chain = subst (λ v. CallChain a v (h .home) (g .outer) open-calls (v .count) (g .text) (g .floor) (g .base)) (sym (n .calls)) (h .chain);
+          chain = subst (λ v. CallChain a v (h .home) (g .outer) open-calls (v .count) (g .text) (g .floor) (g .base)) (sym (n .calls))
+              (h .chain);
           at = subst (λ v. AtHome (g .text) v (g .setting) (h .home) (g .outer)) (sym e) (h .at);
           height = subst (λ v. then .stack .height ≡ g .floor + a .height (g .text) v) (sym e) (omega (arith, y .0));
           back = subst (λ v. then .back .height ≡ g .base + a .back (g .text) v) (sym e) (omega (arith, y .1));
@@ -174,10 +179,12 @@ module _ {rom : List ℕ} (a : Assignment rom) where
       pub children : Below (then .tree) (then .active) (childrenAfter t (g .outer .children))
       pub first : then .first ≡ st .first
 
-    pub fixed : T (fixes t) → Outer a open-calls (st .calls .count) (g .text) (g .floor) (g .base) (st .place) (g .home) (g .setting) (g .outer) t
+    pub fixed : T (fixes t) → Outer a open-calls (st .calls .count) (g .text) (g .floor) (g .base) (st .place) (g .home) (g .setting)
+        (g .outer) t
     fixed f = fixed-outer a (g .chain) met (g .at) (rw (is-true (fixes t) f) tt)
 
-    pub go-fixed : {q : ℕ} {then : State} (f : T (fixes t)) → Holds rom (leads (g .outer .wide) (g .home) t q) → Fixed q then → Standing a open-calls then
+    pub go-fixed : {q : ℕ} {then : State} (f : T (fixes t)) → Holds rom (leads (g .outer .wide) (g .home) t q) → Fixed q then
+        → Standing a open-calls then
     go-fixed {q} {then} f l n =
         let o = fixed f in
         let w = a .flow (o .met) l in
@@ -201,10 +208,13 @@ module _ {rom : List ℕ} (a : Assignment rom) where
           base = 0;
           chain =
               subst (λ v. CallChain a (then .calls) q (after t (g .outer)) v (then .calls .count) 0 0 0) (sym (o .none))
-              (subst (λ v. CallChain a (then .calls) q (after t (g .outer)) [] v 0 0 0) (sym (ap (λ v. v .count) (n .calls) ∙ o .count)) outside);
+              (subst (λ v. CallChain a (then .calls) q (after t (g .outer)) [] v 0 0 0) (sym (ap (λ v. v .count) (n .calls) ∙ o .count))
+                  outside);
           at = (e, refl);
-          height = subst (λ v. then .stack .height ≡ 0 + a .height 0 v) (sym e) (omega (arith, z .0, g .height, n .height, o .height, o .low));
-          back = subst (λ v. then .back .height ≡ 0 + a .back 0 v) (sym e) (omega (arith, z .1, z .2, g .back, n .back, o .back, o .bottom));
+          height = subst (λ v. then .stack .height ≡ 0 + a .height 0 v) (sym e)
+              (omega (arith, z .0, g .height, n .height, o .height, o .low));
+          back = subst (λ v. then .back .height ≡ 0 + a .back 0 v) (sym e)
+              (omega (arith, z .1, z .2, g .back, n .back, o .back, o .bottom));
           wide = n .wide;
           numbers = n .numbers;
           count = n .count ∙ ap (λ v. numbersAfter t v) (g .count);
@@ -248,7 +258,8 @@ module _ {rom : List ℕ} (a : Assignment rom) where
         record { met = met; calls = c; defined = f; colon = colon; number = k .number; before = k .before } in
         let one : calls .count + 1 ≡ suc (calls .count) = omega arith in
         let entry = openCall (g .floor + a .height (g .text) (st .place)) (f .token .next) in
-        let same : openCall (st .stack .height) bodyFirst ≡ openCall (g .floor + a .height (g .text) (st .place)) (f .token .next) = same-call (g .height) (p .0) in
+        let same : openCall (st .stack .height) bodyFirst ≡ openCall (g .floor + a .height (g .text) (st .place)) (f .token .next) =
+            same-call (g .height) (p .0) in
         let tall = g .height in
         let deep = g .back in
         let high = n .0 in
@@ -256,14 +267,16 @@ module _ {rom : List ℕ} (a : Assignment rom) where
         record {
           text = suc (k .place);
           setting = f .setting;
-          reach = subst (λ v. Reach rom (suc (k .place)) (f .setting) v) (sym (p .0)) (Holds.body (f .met .reach) (f .met .is) colon (b .1 .reads));
+          reach = subst (λ v. Reach rom (suc (k .place)) (f .setting) v) (sym (p .0))
+              (Holds.body (f .met .reach) (f .met .is) colon (b .1 .reads));
           size = g .size;
           home = g .home;
           outer = g .outer;
           floor = floorIn;
           base = baseIn;
           chain =
-              subst (λ v. CallChain a then (g .home) (g .outer) (v ∷ open-calls) (calls .count + 1) (suc (k .place)) floorIn baseIn) (sym same)
+              subst (λ v. CallChain a then (g .home) (g .outer) (v ∷ open-calls) (calls .count + 1) (suc (k .place)) floorIn baseIn)
+                  (sym same)
               (subst (λ v. CallChain a then (g .home) (g .outer) (entry ∷ open-calls) v (suc (k .place)) floorIn baseIn) (sym one)
               (within chain calling (g .at) (getD-set-same (calls .places) (calls .count) (t .next) 0 (omega (arith, z .places)))
               (getD-set-same (calls .wides) (calls .count) (st .wide) false (omega (arith, z .wides)) ∙ g .wide)
@@ -284,17 +297,22 @@ module _ {rom : List ℕ} (a : Assignment rom) where
     pub open-count : T (isA leave t) → 0 < st .calls .count
     open-count l = by (g .chain) met
       where
-        by : {es : List OpenCall} {n x floor base : ℕ} {s : Setting} → CallChain a (st .calls) (g .home) (g .outer) es n x floor base → Met rom x s (st .place) t → 0 < n
-        by {s = s} outside m = absurd (T-not (isA leave t) (fails (isA leave t) (leave-inside rom (lengthOf rom) (s .wide) (st .place) t (m .is))) l)
+        by : {es : List OpenCall} {n x floor base : ℕ} {s : Setting} → CallChain a (st .calls) (g .home) (g .outer) es n x floor base
+            → Met rom x s (st .place) t → 0 < n
+        by {s = s} outside m =
+            absurd (T-not (isA leave t) (fails (isA leave t) (leave-inside rom (lengthOf rom) (s .wide) (st .place) t (m .is))) l)
         by (within c y i v w b) m = omega arith
 
     pub go-out : T (isA leave t) → Standing a (without open-calls) (leftBodyOf st)
     go-out l = by (st .calls .count) refl (g .chain) met (g .height) (g .back)
       where
-        by : (n : ℕ) {es : List OpenCall} {x floor base : ℕ} {s : Setting} → st .calls .count ≡ n → CallChain a (st .calls) (g .home) (g .outer) es n x floor base
-            → Met rom x s (st .place) t → st .stack .height ≡ floor + a .height x (st .place) → st .back .height ≡ base + a .back x (st .place)
+        by : (n : ℕ) {es : List OpenCall} {x floor base : ℕ} {s : Setting} → st .calls .count ≡ n
+            → CallChain a (st .calls) (g .home) (g .outer) es n x floor base
+            → Met rom x s (st .place) t → st .stack .height ≡ floor + a .height x (st .place)
+                → st .back .height ≡ base + a .back x (st .place)
             → Standing a (without es) (leftBodyOf st)
-        by n {s = s} e outside m h r = absurd (T-not (isA leave t) (fails (isA leave t) (leave-inside rom (lengthOf rom) (s .wide) (st .place) t (m .is))) l)
+        by n {s = s} e outside m h r =
+            absurd (T-not (isA leave t) (fails (isA leave t) (leave-inside rom (lengthOf rom) (s .wide) (st .place) t (m .is))) l)
         by n e (within {open-calls = es} {k = k} {x = x} {floor = floor} {base = base} {p = p} {d = d} {s = s} {t = u} c y i v w b) m h r =
             let j : st .calls .count - 1 ≡ k = omega arith in
             let free : T (not (fixes u)) = rw (eqb→eq (familyIn (u .code)) call (y .calls)) tt in
@@ -307,7 +325,8 @@ module _ {rom : List ℕ} (a : Assignment rom) where
             let eff = effect-call (a .sum) u (y .calls) in
             let up : a .height x (u .next) ≡ a .height x p - a .sum (u .number) .need + a .sum (u .number) .out =
             subst (λ v. a .height x (u .next) ≡ a .height x p - v .takes + v .gives) eff (w0 .0) in
-            let down : a .back x (u .next) ≡ a .back x p - 0 + 0 = subst (λ v. a .back x (u .next) ≡ a .back x p - v .«return_takes» + v .«return_gives») eff (w0 .1) in
+            let down : a .back x (u .next) ≡ a .back x p - 0 + 0 =
+                subst (λ v. a .back x (u .next) ≡ a .back x p - v .«return_takes» + v .«return_gives») eff (w0 .1) in
             let place : getD (st .calls .places) (st .calls .count - 1) 0 ≡ u .next = ap (λ q. getD (st .calls .places) q 0) j ∙ v in
             let wide : getD (st .calls .wides) (st .calls .count - 1) false ≡ s .wide = ap (λ q. getD (st .calls .wides) q false) j ∙ w in
             let tall = z .0 in
@@ -315,13 +334,15 @@ module _ {rom : List ℕ} (a : Assignment rom) where
             record {
               text = x;
               setting = s;
-              reach = subst (λ q. Reach rom x s q) (sym place) (subst (λ q. Reach rom x q (u .next)) (after-same u s free) (Holds.next (y .met .reach) (y .met .is) on));
+              reach = subst (λ q. Reach rom x s q) (sym place)
+                  (subst (λ q. Reach rom x q (u .next)) (after-same u s free) (Holds.next (y .met .reach) (y .met .is) on));
               size = g .size;
               home = o .home;
               outer = g .outer;
               floor = floor;
               base = base;
-              chain = subst (λ q. CallChain a (unframedOf (st .calls)) (o .home) (g .outer) es q x floor base) (sym j) (calls-kept (o .chain) (unframed-same k (st .calls)));
+              chain = subst (λ q. CallChain a (unframedOf (st .calls)) (o .home) (g .outer) es q x floor base) (sym j)
+                  (calls-kept (o .chain) (unframed-same k (st .calls)));
               at = subst (λ q. AtHome x q s (o .home) (g .outer)) (sym place) (o .at);
               height = subst (λ q. st .stack .height ≡ floor + a .height x q) (sym place) (omega arith);
               back = subst (λ q. st .back .height ≡ base + a .back x q) (sym place) (omega arith);

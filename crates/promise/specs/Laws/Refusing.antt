@@ -1,5 +1,5 @@
--- A token that may stand where it stands meets, in a state that stands as the assignment says, no refusal but 21 to 27: 12 to 17, 19 and 20 one by one, and those of a
--- body that is read. Assumes nothing.
+-- A token that may stand where it stands meets, in a state that stands as the assignment says, no refusal but 21 to 27: 12 to 17, 19 and 20
+-- one by one, and those of a body that is read. Assumes nothing.
 use Prim.Native.Nat.{ℕ, suc, _+_, _-_, _≤_, _<_}
 use native.Mathlib.Omega.{arith}
 use mathlib.Core.Path.{_≡_, refl, sym, ap, subst, _∙_}
@@ -108,7 +108,8 @@ defined-here {rom} a {p} {s} {t} m d = by (isColon t) refl
     by false e = (t .next, Holds.to-next (fails (isColon t) e))
 
 -- ---- a token that is met where a state stands
-module _ {rom : List ℕ} (a : Assignment rom) (work store : List ℕ) (open-calls : List OpenCall) (st : State) (g : Standing a open-calls st) (t : Token)
+module _ {rom : List ℕ} (a : Assignment rom) (work store : List ℕ) (open-calls : List OpenCall) (st : State) (g : Standing a open-calls st)
+    (t : Token)
     (is : tokenAt rom (g .text) (g .setting .wide) (st .place) ≡ Good t) where
   abbrev s : Scene
   s = scene rom work store st
@@ -122,7 +123,8 @@ module _ {rom : List ℕ} (a : Assignment rom) (work store : List ℕ) (open-cal
   space : Room a (st .calls .count) (g .text) (g .floor) (g .base) (st .place) t
   space = room a (g .chain) met
 
-  low-there : (effectOf (a .sum) t .takes ≤ a .height (g .text) (st .place)) × (effectOf (a .sum) t .«return_takes» ≤ a .back (g .text) (st .place))
+  low-there : (effectOf (a .sum) t .takes ≤ a .height (g .text) (st .place))
+      × (effectOf (a .sum) t .«return_takes» ≤ a .back (g .text) (st .place))
   low-there = a .there met
 
   not-of : (f k : ℕ) → familyIn (t .code) ≡ f → T (not (eqb f k)) → T (not (isA k t))
@@ -140,7 +142,8 @@ module _ {rom : List ℕ} (a : Assignment rom) (work store : List ℕ) (open-cal
   not-undefined =
       let l = not-past a (g .chain) (g .reach) (g .at) in
       let h = fails unknown (known-numbers a (g .numbers) (a .known met) l) in
-      nor (only family call unknown) (only family assign unknown) (unasked family call unknown (λ e. h)) (unasked family assign unknown (λ e. h))
+      nor (only family call unknown) (only family assign unknown) (unasked family call unknown (λ e. h))
+          (unasked family assign unknown (λ e. h))
 
   -- ---- a definition
   module _ (d : T (isA define t)) where
@@ -165,11 +168,13 @@ module _ {rom : List ℕ} (a : Assignment rom) (work store : List ℕ) (open-cal
     -- its body is read to its C2
     pub body-ends : {c : ℕ} → T (isColon t) → Holds rom (reads (g .outer .wide) (t .next) c) → bodyHere s t ≡ Ends c
     body-ends {c} k r =
-        let f : Defined rom (g .home) (suc c) = record { setting = g .outer; token = t; met = outer .met; defines = d; ends = Holds.through-body k r } in
+        let f : Defined rom (g .home) (suc c) = record { setting = g .outer; token = t; met = outer .met; defines = d; ends =
+            Holds.through-body k r } in
         let b = body-read a (g .numbers) f k r in
         let w = g .wide ∙ ap (λ v. v .wide) (outer .setting) in
         let kinds = kindsOf (st .numbers) in
-        subst (λ n. bodyOf rom n (st .wide) kinds (t .next) ≡ Ends c) (sym (g .size)) (subst (λ v. bodyOf rom (lengthOf rom) v kinds (t .next) ≡ Ends c) (sym w) b)
+        subst (λ n. bodyOf rom n (st .wide) kinds (t .next) ≡ Ends c) (sym (g .size))
+            (subst (λ v. bodyOf rom (lengthOf rom) v kinds (t .next) ≡ Ends c) (sym w) b)
 
   -- ---- 13
   takenHere : Bool
@@ -181,7 +186,8 @@ module _ {rom : List ℕ} (a : Assignment rom) (work store : List ℕ) (open-cal
       unasked family define takenHere
       (λ e.
       let d : T (isA define t) = holds (isA define t) (eq-eqb family define e) in
-      nor (isHeld (st .numbers) (newNumber (t .operand))) (leb numbersMost (st .numbers .count)) (fails _ (new-number d)) (fails _ (lt-leb numbersMost (st .numbers .count) (number-room d))))
+      nor (isHeld (st .numbers) (newNumber (t .operand))) (leb numbersMost (st .numbers .count)) (fails _ (new-number d))
+          (fails _ (lt-leb numbersMost (st .numbers .count) (number-room d))))
 
   -- ---- a body is read without refusal
   body-well : Refusals.bodyRefusal s t ≡ 0
@@ -224,7 +230,8 @@ module _ {rom : List ℕ} (a : Assignment rom) (work store : List ℕ) (open-cal
 
       by : Holds rom (known (st .place) t) → Called
       by (Holds.unnamed n) = absurd (T-not (isA call t) (neither (isA call t) (isA assign t) n .0) c)
-      by (Holds.named r e (named-call k d) x h) = of (record { setting = _; token = _; met = record { reach = r; is = e }; defines = d .is; ends = x }) h (d .number)
+      by (Holds.named r e (named-call k d) x h) =
+          of (record { setting = _; token = _; met = record { reach = r; is = e }; defines = d .is; ends = x }) h (d .number)
       by (Holds.named r e (named-assign k d v) x h) = absurd (T-not (isA call t) (not-of assign call (eqb→eq family assign k) tt) c)
 
   -- it is a body exactly where its number was found to be one's
@@ -240,7 +247,8 @@ module _ {rom : List ℕ} (a : Assignment rom) (work store : List ℕ) (open-cal
       l : st .place ≤ g .home
       l = not-past a (g .chain) (g .reach) (g .at)
 
-      of : {d e : ℕ} → (f : Defined rom d e) → e ≤ st .place → newNumber (f .token .operand) ≡ numberIn (t .operand) → kindIn (f .token .operand) ≡ value
+      of : {d e : ℕ} → (f : Defined rom d e) → e ≤ st .place → newNumber (f .token .operand) ≡ numberIn (t .operand)
+          → kindIn (f .token .operand) ≡ value
           → getD (st .numbers .kinds) (seekOf (st .numbers) (numberIn (t .operand))) 0 ≡ colon → ⊥
       of {d} {e} f b i v k =
           let m = l in
@@ -252,9 +260,11 @@ module _ {rom : List ℕ} (a : Assignment rom) (work store : List ℕ) (open-cal
           omega arith
 
       by : Holds rom (known (st .place) t) → getD (st .numbers .kinds) (seekOf (st .numbers) (numberIn (t .operand))) 0 ≡ colon → ⊥
-      by (Holds.unnamed n) = absurd (T-not (isA assign t) (neither (isA call t) (isA assign t) n .1) (holds (isA assign t) (eq-eqb family assign e)))
+      by (Holds.unnamed n) =
+          absurd (T-not (isA assign t) (neither (isA call t) (isA assign t) n .1) (holds (isA assign t) (eq-eqb family assign e)))
       by (Holds.named r i (named-call k d) x h) = absurd (T-not (isA call t) (not-of assign call e tt) k)
-      by (Holds.named r i (named-assign k d v) x h) = of (record { setting = _; token = _; met = record { reach = r; is = i }; defines = d .is; ends = x }) h (d .number) v
+      by (Holds.named r i (named-assign k d v) x h) =
+          of (record { setting = _; token = _; met = record { reach = r; is = i }; defines = d .is; ends = x }) h (d .number) v
 
   -- ---- what the list says of a call
   call-shape : family ≡ call → (takesHere t ≡ 0) × (givesIn (t .code) ≡ 0)
@@ -268,7 +278,8 @@ module _ {rom : List ℕ} (a : Assignment rom) (work store : List ℕ) (open-cal
   -- where it leads behind itself
   pub record Behind (q : ℕ) : Type 0 where
     pub height : a .height (g .text) q ≡ a .height (g .text) (st .place) - effectOf (a .sum) t .takes + effectOf (a .sum) t .gives
-    pub back : a .back (g .text) q ≡ a .back (g .text) (st .place) - effectOf (a .sum) t .«return_takes» + effectOf (a .sum) t .«return_gives»
+    pub back : a .back (g .text) q ≡ a .back (g .text) (st .place) - effectOf (a .sum) t .«return_takes» + effectOf
+        (a .sum) t .«return_gives»
     pub high : g .floor + a .height (g .text) q ≤ dataMost
     pub returns : g .base + a .back (g .text) q ≤ returnMost
 
@@ -312,7 +323,8 @@ module _ {rom : List ℕ} (a : Assignment rom) (work store : List ℕ) (open-cal
       let e = g .height in
       let n = no-pick in
       nor (ltb (st .stack .height) (takesHere t) || only family pickUp tooDeepHere) (only family rollUp tooDeepHere)
-      (nor (ltb (st .stack .height) (takesHere t)) (only family pickUp tooDeepHere) (fails _ (le-ltb (st .stack .height) (takesHere t) (omega arith)))
+      (nor (ltb (st .stack .height) (takesHere t)) (only family pickUp tooDeepHere)
+          (fails _ (le-ltb (st .stack .height) (takesHere t) (omega arith)))
       (unasked family pickUp tooDeepHere (λ k. absurd (T-not (isA pickUp t) (n .0) (holds (isA pickUp t) (eq-eqb family pickUp k))))))
       (unasked family rollUp tooDeepHere (λ k. absurd (T-not (isA rollUp t) (n .1) (holds (isA rollUp t) (eq-eqb family rollUp k)))))
 
@@ -324,7 +336,8 @@ module _ {rom : List ℕ} (a : Assignment rom) (work store : List ℕ) (open-cal
   not-astray =
       nor (only family always (leadsOut (t .operand))) (only family choice (eqb (cellOf s 0) 0 && leadsOut (t .operand)))
       (unasked family always (leadsOut (t .operand)) (λ e. leads-in (t .operand) (aimed-in (rw e tt))))
-      (unasked family choice (eqb (cellOf s 0) 0 && leadsOut (t .operand)) (λ e. not-second (eqb (cellOf s 0) 0) (leadsOut (t .operand)) (leads-in (t .operand) (aimed-in (rw e tt)))))
+      (unasked family choice (eqb (cellOf s 0) 0 && leadsOut (t .operand))
+          (λ e. not-second (eqb (cellOf s 0) 0) (leadsOut (t .operand)) (leads-in (t .operand) (aimed-in (rw e tt)))))
 
   -- ---- 16: the return stack is within its limits
   not-call : (f : ℕ) → family ≡ f → T (not (eqb f call)) → effectOf (a .sum) t ≡ ownEffect t
@@ -336,13 +349,16 @@ module _ {rom : List ℕ} (a : Assignment rom) (work store : List ℕ) (open-cal
   returns-fit : family ≡ plain → T (not (backTrouble (t .code) (st .back .height) (baseOf (st .calls))))
   returns-fit e =
       let o = not-call plain e tt in
-      let h : returnTakesIn (t .code) ≤ a .back (g .text) (st .place) = subst (λ v. v .«return_takes» ≤ a .back (g .text) (st .place)) o (low-there .1) in
+      let h : returnTakesIn (t .code) ≤ a .back (g .text) (st .place) =
+          subst (λ v. v .«return_takes» ≤ a .back (g .text) (st .place)) o (low-there .1) in
       let b = g .back in
       let z = base-here in
       let returns = st .back .height in
-      nor (ltb (returns - baseOf (st .calls)) (returnTakesIn (t .code))) (ltb returnMost (returns - returnTakesIn (t .code) + returnGivesIn (t .code)))
+      nor (ltb (returns - baseOf (st .calls)) (returnTakesIn (t .code)))
+          (ltb returnMost (returns - returnTakesIn (t .code) + returnGivesIn (t .code)))
       (fails _ (le-ltb (returns - baseOf (st .calls)) (returnTakesIn (t .code)) (omega arith)))
-      (fails _ (le-ltb returnMost (returns - returnTakesIn (t .code) + returnGivesIn (t .code)) (by o h (gives-leads rom (lengthOf rom) (g .setting .wide) _ (st .place) t is (a .sum)))))
+      (fails _ (le-ltb returnMost (returns - returnTakesIn (t .code) + returnGivesIn (t .code))
+          (by o h (gives-leads rom (lengthOf rom) (g .setting .wide) _ (st .place) t is (a .sum)))))
     where
       by : effectOf (a .sum) t ≡ ownEffect t → returnTakesIn (t .code) ≤ a .back (g .text) (st .place) → GivesOn (a .sum) t
           → st .back .height - returnTakesIn (t .code) + returnGivesIn (t .code) ≤ returnMost
@@ -368,7 +384,8 @@ module _ {rom : List ℕ} (a : Assignment rom) (work store : List ℕ) (open-cal
 
   not-back-wrong : T (not (Refusals.backWrong s t))
   not-back-wrong =
-      nor (only family plain (backTrouble (t .code) (st .back .height) (baseOf (st .calls)))) (only family leave (not (eqb (st .back .height) (baseOf (st .calls)))))
+      nor (only family plain (backTrouble (t .code) (st .back .height) (baseOf (st .calls))))
+          (only family leave (not (eqb (st .back .height) (baseOf (st .calls)))))
       (unasked family plain (backTrouble (t .code) (st .back .height) (baseOf (st .calls))) returns-fit)
       (unasked family leave (not (eqb (st .back .height) (baseOf (st .calls)))) at-base)
 
@@ -385,7 +402,9 @@ module _ {rom : List ℕ} (a : Assignment rom) (work store : List ℕ) (open-cal
   -- a token gives more than its row says only where it is a number that is no body's
   no-more : T (not (only family call (not isBodyHere))) → givesMore s t ≡ 0
   unfolding nonZero
-  no-more h = rw (is-false (only family call (not isBodyHere) || only family maybe nonZero) (nor (only family call (not isBodyHere)) (only family maybe nonZero) h not-maybe))
+  no-more h =
+      rw (is-false (only family call (not isBodyHere) || only family maybe nonZero)
+      (nor (only family call (not isBodyHere)) (only family maybe nonZero) h not-maybe))
 
   one-more : givesMore s t ≤ 1
   unfolding nonZero
@@ -432,7 +451,8 @@ module _ {rom : List ℕ} (a : Assignment rom) (work store : List ℕ) (open-cal
       shaped : (takesHere t ≡ 0) × (givesIn (t .code) ≡ 0)
       shaped = call-shape (eqb→eq family call c)
 
-      value : effectOf (a .sum) t ≡ Effect.called valueSum → GivesOn (a .sum) t → st .stack .height - takesHere t + (givesIn (t .code) + givesMore s t) ≤ dataMost
+      value : effectOf (a .sum) t ≡ Effect.called valueSum → GivesOn (a .sum) t
+          → st .stack .height - takesHere t + (givesIn (t .code) + givesMore s t) ≤ dataMost
       value o (GivesOn.quiet x y) = let z : _≡_ {A = ℕ} 1 0 = subst (λ v. v .gives ≡ 0) o x in absurd (omega arith)
       value o (GivesOn.goes-on i) =
           let q = behind (on i) in
@@ -466,14 +486,17 @@ module _ {rom : List ℕ} (a : Assignment rom) (work store : List ℕ) (open-cal
       let k = called c in
       let f = k .entered .defined in
       let o = own-frame a f (holds (isColon (f .token)) (sym (called-colon k) ∙ e)) (k .number) in
-      let r : st .calls .count + a .sum (t .number) .frames ≤ framesMost = subst (λ v. st .calls .count + v .frames ≤ framesMost) (effect-call (a .sum) t c) (space .frames) in
+      let r : st .calls .count + a .sum (t .number) .frames ≤ framesMost =
+          subst (λ v. st .calls .count + v .frames ≤ framesMost) (effect-call (a .sum) t c) (space .frames) in
       omega arith
 
   not-too-many : T (not (Refusals.tooManyFrames s t))
-  not-too-many = unasked family call (isBodyHere && leb framesMost (st .calls .count)) (λ k. by (holds (isA call t) (eq-eqb family call k)) isBodyHere refl)
+  not-too-many = unasked family call (isBodyHere && leb framesMost (st .calls .count))
+      (λ k. by (holds (isA call t) (eq-eqb family call k)) isBodyHere refl)
     where
       by : T (isA call t) → (b : Bool) → isBodyHere ≡ b → T (not (isBodyHere && leb framesMost (st .calls .count)))
-      by c true e = not-second isBodyHere (leb framesMost (st .calls .count)) (fails _ (lt-leb framesMost (st .calls .count) (frame-room c e)))
+      by c true e = not-second isBodyHere (leb framesMost (st .calls .count))
+          (fails _ (lt-leb framesMost (st .calls .count) (frame-room c e)))
       by c false e = not-first isBodyHere (leb framesMost (st .calls .count)) (fails isBodyHere e)
 
   -- ---- 20: there is a node

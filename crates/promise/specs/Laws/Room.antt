@@ -1,4 +1,5 @@
--- What the call chain says of the state, and the room that it leaves: by rules 2 and 3 a body has the room that it wants wherever it is called from. Assumes nothing.
+-- What the call chain says of the state, and the room that it leaves: by rules 2 and 3 a body has the room that it wants wherever it is
+-- called from. Assumes nothing.
 use Prim.Native.Nat.{ℕ, suc, _+_, _-_, _≤_}
 use native.Mathlib.Omega.{arith}
 use mathlib.Core.Path.{_≡_, refl, ap, subst}
@@ -48,20 +49,23 @@ module _ {rom : List ℕ} (a : Assignment rom) {calls : Calls} {home : ℕ} {out
   open-is (within {k = k} c g h p w b) = lt-ltb 0 (suc k) (omega arith)
 
   -- the youngest frame's base is that of the heights
-  pub base-is : {es : List OpenCall} {k x floor base : ℕ} → CallChain a calls home outer es k x floor base → calls .count ≡ k → baseOf calls ≡ base
+  pub base-is : {es : List OpenCall} {k x floor base : ℕ} → CallChain a calls home outer es k x floor base → calls .count ≡ k
+      → baseOf calls ≡ base
   base-is outside e = rw e
   base-is (within {k = k} c g h p w b) e =
       let z : suc k - 1 ≡ k = omega arith in
       rw (e, lt-ltb 0 (suc k) (omega arith), z) b
 
   -- ---- the room that it leaves
-  pub room : {es : List OpenCall} {k x floor base p : ℕ} {s : Setting} {t : Token} → CallChain a calls home outer es k x floor base → Met rom x s p t → Room a k x floor base p t
+  pub room : {es : List OpenCall} {k x floor base p : ℕ} {s : Setting} {t : Token} → CallChain a calls home outer es k x floor base
+      → Met rom x s p t → Room a k x floor base p t
   room outside m =
       let l = a .dataLimit m in
       let r = a .returnLimit m in
       let f = a .frameLimit m in
       record { height = omega (arith, l .0); rise = omega (arith, l .1); back = omega arith; frames = omega arith }
-  room {p = q} {t = u} (within {open-calls = es} {k = k} {x = x} {floor = floor} {base = base} {p = p} {d = d} {e = e} {s = s} {t = t} c g h y w v) m =
+  room {p = q} {t = u} (within {open-calls = es} {k = k} {x = x} {floor = floor} {base = base} {p = p} {d = d} {e = e} {s = s} {t = t} c g h
+      y w v) m =
       let r = room c (g .met) in
       let b = body-of (g .defined) (g .colon) (g .number) in
       let i = effect-call (a .sum) t (g .calls) in
@@ -77,7 +81,8 @@ module _ {rom : List ℕ} (a : Assignment rom) {calls : Calls} {home : ℕ} {out
       record { height = omega arith; rise = omega arith; back = omega arith; frames = omega arith }
 
 -- a body that is called has at least its own frame
-pub own-frame : {rom : List ℕ} (a : Assignment rom) {d e n : ℕ} (f : Defined rom d e) → T (isColon (f .token)) → newNumber (f .token .operand) ≡ n → 1 ≤ a .sum n .frames
+pub own-frame : {rom : List ℕ} (a : Assignment rom) {d e n : ℕ} (f : Defined rom d e) → T (isColon (f .token))
+    → newNumber (f .token .operand) ≡ n → 1 ≤ a .sum n .frames
 own-frame {rom} a {d} {e} {n} f k i =
     let b = body-of f k i in
     let r : Reach rom (suc d) (f .setting) (f .token .next) = Holds.body (f .met .reach) (f .met .is) k (b .1 .reads) in
@@ -97,7 +102,8 @@ not-past a (within c g y q w v) r h =
 
 -- ---- a token that is met exactly once stands outside bodies
 -- what is known of a state there
-pub record Outer {rom : List ℕ} (a : Assignment rom) (es : List OpenCall) (k x floor base p home : ℕ) (s outer : Setting) (t : Token) : Type 0 where
+pub record Outer {rom : List ℕ} (a : Assignment rom) (es : List OpenCall) (k x floor base p home : ℕ) (s outer : Setting)
+    (t : Token) : Type 0 where
   pub met : Met rom 0 outer home t
   pub place : p ≡ home
   pub setting : s ≡ outer
@@ -109,8 +115,10 @@ pub record Outer {rom : List ℕ} (a : Assignment rom) (es : List OpenCall) (k x
   pub height : a .height x p ≡ a .height 0 home
   pub back : a .back x p ≡ a .back 0 home
 
-pub fixed-outer : {rom : List ℕ} (a : Assignment rom) {calls : Calls} {es : List OpenCall} {home k x floor base p : ℕ} {outer s : Setting} {t : Token}
-    → CallChain a calls home outer es k x floor base → Met rom x s p t → AtHome x p s home outer → T (fixes t || isA finish t) → Outer a es k x floor base p home s outer t
+pub fixed-outer : {rom : List ℕ} (a : Assignment rom) {calls : Calls} {es : List OpenCall} {home k x floor base p : ℕ} {outer s : Setting}
+    {t : Token}
+    → CallChain a calls home outer es k x floor base → Met rom x s p t → AtHome x p s home outer → T (fixes t || isA finish t)
+        → Outer a es k x floor base p home s outer t
 fixed-outer {rom} a {home = home} {s = s} {t = t} outside m h f =
     record {
       met = subst (λ v. Met rom 0 v home t) (h .1) (subst (λ v. Met rom 0 s v t) (h .0) m);
@@ -130,7 +138,8 @@ fixed-outer {rom} a {p = p} {s = s} {t = t} (within c g y q w v) m h f =
     absurd (T-not (fixes t || isA finish t) n f)
 
 -- leaving a body is done at its base
-pub leave-base : {rom : List ℕ} (a : Assignment rom) {calls : Calls} {es : List OpenCall} {home k x floor base p : ℕ} {outer s : Setting} {t : Token}
+pub leave-base : {rom : List ℕ} (a : Assignment rom) {calls : Calls} {es : List OpenCall} {home k x floor base p : ℕ} {outer s : Setting}
+    {t : Token}
     → CallChain a calls home outer es k x floor base → Met rom x s p t → T (isA leave t) → a .back x p ≡ 0
 leave-base {rom} a {p = p} {s = s} {t = t} outside m l =
     absurd (T-not (isA leave t) (fails (isA leave t) (leave-inside rom (lengthOf rom) (s .wide) p t (m .is))) l)

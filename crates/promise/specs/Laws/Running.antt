@@ -1,4 +1,5 @@
--- The run of a passed ROM, token by token: each finds a state that stands as the assignment says, and so none meets a refusal but 21 to 27. Assumes nothing.
+-- The run of a passed ROM, token by token: each finds a state that stands as the assignment says, and so none meets a refusal but 21 to 27.
+-- Assumes nothing.
 use Prim.Native.Nat.{ℕ, zero, suc, _+_, _≤_}
 use native.Mathlib.Omega.{arith}
 use mathlib.Core.Path.{_≡_, refl, sym, ap, subst, _∙_}
@@ -32,7 +33,8 @@ use Rattle.screen.specs.Promise.{Marks}
 use Rattle.screen.specs.Laws.Rules.Ways.{effect-call}
 use Rattle.screen.specs.Rules.{Assignment}
 use Rattle.promise.specs.Laws.Standing.{CallChain, outside, within, own, Standing}
-use Rattle.promise.specs.Trail.{DependsOnData, Trail, start, token, RunEnds, finishes, stops, runs-out, HeightIs, OpenCall, openCall, openAfter}
+use Rattle.promise.specs.Trail.{DependsOnData, Trail, start, token, RunEnds, finishes, stops, runs-out, HeightIs, OpenCall, openCall}
+use Rattle.promise.specs.Trail.{openAfter}
 use Rattle.promise.specs.Laws.Carrying.{carried-none}
 use Rattle.promise.specs.Laws.Room.{body-of, open-is}
 use Rattle.promise.specs.Laws.Refusing.{ByData, accepted, refused, by-data}
@@ -46,7 +48,8 @@ pub record Steady {rom : List ℕ} (a : Assignment rom) (open-calls : List OpenC
   pub ready : readyOf (scene rom work store st) ≡ Going
 
 -- the same place read with the same length and width
-same-read : (rom : List ℕ) {m n : ℕ} {v w x y : Bool} (p : ℕ) (r : Read) → m ≡ n → v ≡ w → x ≡ y → readOf rom n w y p ≡ r → readOf rom m v x p ≡ r
+same-read : (rom : List ℕ) {m n : ℕ} {v w x y : Bool} (p : ℕ) (r : Read) → m ≡ n → v ≡ w → x ≡ y → readOf rom n w y p ≡ r
+    → readOf rom m v x p ≡ r
 same-read rom p r e f g h = rw (e, f, g) h
 
 module _ {rom : List ℕ} (a : Assignment rom) where
@@ -83,13 +86,15 @@ module _ {rom : List ℕ} (a : Assignment rom) where
         rw (same-read rom (st .place) (Good (t .0)) (g .size) (g .wide) (open-is a (g .chain)) (t .1)) (done-fine (t .0) (t .1))
 
     -- and the next token finds the state so
-    pub next-steady : tokenTurn s .answer ≡ Going → Steady a (openAfter open-calls st (tokenTurn s .state)) (tokenTurn s .work) (tokenTurn s .store) (tokenTurn s .state)
+    pub next-steady : tokenTurn s .answer ≡ Going
+        → Steady a (openAfter open-calls st (tokenTurn s .state)) (tokenTurn s .work) (tokenTurn s .store) (tokenTurn s .state)
     next-steady e =
         let n = keeps s (k .sized) (k .rooted) (k .ready) e in
         record { standing = subst (Fine a open-calls st (tokenTurn s)) e token-fine; sized = n .1; rooted = n .2; ready = n .0 }
 
   -- ---- the state that opening hands back, with any work memory and store of their sizes
-  pub fresh-steady : (work store : List ℕ) → length work ≡ workSize → length store ≡ storeSize → headerOf rom ≡ 0 → Steady a [] work store (freshState rom)
+  pub fresh-steady : (work store : List ℕ) → length work ≡ workSize → length store ≡ storeSize → headerOf rom ≡ 0
+      → Steady a [] work store (freshState rom)
   fresh-steady work store x y e =
       record {
         standing =
@@ -128,14 +133,16 @@ module _ {rom : List ℕ} (a : Assignment rom) where
 
   pub arrived-fine : (open-calls : List OpenCall) (s : Scene) → Arrived open-calls s → FineTurn a open-calls (s .state) (tokenTurn s)
   arrived-fine open-calls s m =
-      subst (λ v. FineTurn a open-calls (s .state) (tokenTurn v)) (sym (arrived-at open-calls s m)) (token-fine open-calls (s .work) (s .store) (s .state) (m .steady))
+      subst (λ v. FineTurn a open-calls (s .state) (tokenTurn v)) (sym (arrived-at open-calls s m))
+          (token-fine open-calls (s .work) (s .store) (s .state) (m .steady))
 
   pub arrived-next : (open-calls : List OpenCall) (s : Scene) → Arrived open-calls s → tokenTurn s .answer ≡ Going
       → Arrived (openAfter open-calls (s .state) (tokenTurn s .state)) (then s (tokenTurn s))
   arrived-next open-calls s m e =
       record {
         same = m .same;
-        steady = subst (λ v. tokenTurn v .answer ≡ Going → Steady a (openAfter open-calls (s .state) (tokenTurn v .state)) (tokenTurn v .work) (tokenTurn v .store) (tokenTurn v .state))
+        steady = subst (λ v. tokenTurn v .answer ≡ Going
+            → Steady a (openAfter open-calls (s .state) (tokenTurn v .state)) (tokenTurn v .work) (tokenTurn v .store) (tokenTurn v .state))
             (sym (arrived-at open-calls s m)) (next-steady open-calls (s .work) (s .store) (s .state) (m .steady)) e;
       }
 
@@ -146,12 +153,14 @@ module _ {rom : List ℕ} (a : Assignment rom) where
     trail-arrived (token {n} {open-calls} {s} t g) = arrived-next open-calls s (trail-arrived t) g
 
     -- n tokens of a run are carried out, and at most k are left of its budget
-    tokens-end : {open-calls : List OpenCall} {s : Scene} (before budget k n : ℕ) → n + k ≡ budget → Trail rom work store (before + n) open-calls s
+    tokens-end : {open-calls : List OpenCall} {s : Scene} (before budget k n : ℕ) → n + k ≡ budget
+        → Trail rom work store (before + n) open-calls s
         → RunEnds rom work store before budget (tokensFrom k n s)
     unfolding tokensFrom
     tokens-end {open-calls} {s} before budget zero n b t =
         let e : n ≡ budget = omega arith in
-        subst (λ v. RunEnds rom work store before budget (ended (Spent v) v s)) (sym e) (runs-out (subst (λ v. Trail rom work store (before + v) open-calls s) e t))
+        subst (λ v. RunEnds rom work store before budget (ended (Spent v) v s)) (sym e)
+            (runs-out (subst (λ v. Trail rom work store (before + v) open-calls s) e t))
     tokens-end {open-calls} {s} before budget (suc k) n b t = by (tokenTurn s .answer) refl (λ i u. tokens-end before budget k (n + 1) i u)
       where
         next : Scene
@@ -164,7 +173,8 @@ module _ {rom : List ℕ} (a : Assignment rom) where
         fine e = subst (Fine a open-calls (s .state) (tokenTurn s)) e (arrived-fine open-calls s (trail-arrived t))
 
         by : (w : Answer) → tokenTurn s .answer ≡ w
-            → (n + 1 + k ≡ budget → Trail rom work store (before + (n + 1)) callsThen next → RunEnds rom work store before budget (tokensFrom k (n + 1) next))
+            → (n + 1 + k ≡ budget → Trail rom work store (before + (n + 1)) callsThen next
+                → RunEnds rom work store before budget (tokensFrom k (n + 1) next))
             → RunEnds rom work store before budget (tokensFrom (suc k) n s)
         by Going e f =
             let one : suc (before + n) ≡ before + (n + 1) = omega arith in
@@ -178,7 +188,8 @@ module _ {rom : List ℕ} (a : Assignment rom) where
         by (Spent m) e f = absurd (fine e)
 
     -- a run from any scene that tokens come to ends as it may
-    pub trail-ends : {n : ℕ} {open-calls : List OpenCall} {s : Scene} → Trail rom work store n open-calls s → (budget : ℕ) → RunEnds rom work store n budget (runOf budget s)
+    pub trail-ends : {n : ℕ} {open-calls : List OpenCall} {s : Scene} → Trail rom work store n open-calls s → (budget : ℕ)
+        → RunEnds rom work store n budget (runOf budget s)
     trail-ends {n} {open-calls} {s} t budget =
         let m = trail-arrived t in
         let k = m .steady in
@@ -197,32 +208,39 @@ module _ {rom : List ℕ} (a : Assignment rom) where
         (oc, subst (λ v. Trail rom work store (before + budget) oc v) (arrived-at oc s (trail-arrived t)) t)
 
   -- ---- heights
-  high-chain : {marks : List ℕ} {st : State} → Marks rom a marks → {open-calls : List OpenCall} {home k x floor base : ℕ} {outer s : Setting}
-      → CallChain a (st .calls) home outer open-calls k x floor base → Reach rom x s (st .place) → st .stack .height ≡ floor + a .height x (st .place)
+  high-chain : {marks : List ℕ} {st : State} → Marks rom a marks
+      → {open-calls : List OpenCall} {home k x floor base : ℕ} {outer s : Setting}
+      → CallChain a (st .calls) home outer open-calls k x floor base → Reach rom x s (st .place)
+          → st .stack .height ≡ floor + a .height x (st .place)
       → HeightIs marks st open-calls
   high-chain m outside r h = let e = m .height r in HeightIs.outside (omega arith)
   high-chain {st = st} m (within {x = x} {floor = floor} {p = p} {d = d} {t = t} c y i q w v) r h =
       let b = body-of (y .defined) (y .colon) (y .number) in
       let f = m .height (Holds.body (y .defined .met .reach) (y .defined .met .is) (y .colon) (b .1 .reads)) in
       let n = a .enter (b .1) .0 in
-      let l : a .sum (t .number) .need ≤ a .height x p = subst (λ u. u .takes ≤ a .height x p) (effect-call (a .sum) t (y .calls)) (a .there (y .met) .0) in
-      HeightIs.within {c = openCall (floor + a .height x p) (y .defined .token .next)} {need = a .sum (t .number) .need} {more = a .height (suc d) (st .place)}
+      let l : a .sum (t .number) .need ≤ a .height x p =
+          subst (λ u. u .takes ≤ a .height x p) (effect-call (a .sum) t (y .calls)) (a .there (y .met) .0) in
+      HeightIs.within {c = openCall (floor + a .height x p) (y .defined .token .next)} {need = a .sum (t .number) .need} {more =
+          a .height (suc d) (st .place)}
       (f ∙ ap suc n) (omega arith) (m .height r) (omega arith)
 
-  calls-length : {calls : Calls} {open-calls : List OpenCall} {home k x floor base : ℕ} {outer : Setting} → CallChain a calls home outer open-calls k x floor base
+  calls-length : {calls : Calls} {open-calls : List OpenCall} {home k x floor base : ℕ} {outer : Setting}
+      → CallChain a calls home outer open-calls k x floor base
       → length open-calls ≡ k
   calls-length outside = refl
   calls-length (within c y i q w v) = ap suc (calls-length c)
 
   module _ (work store : List ℕ) (x : length work ≡ workSize) (y : length store ≡ storeSize) (h : headerOf rom ≡ 0) where
-    pub stands-high : {marks : List ℕ} {n : ℕ} {open-calls : List OpenCall} {s : Scene} → Marks rom a marks → Trail rom work store n open-calls s
+    pub stands-high : {marks : List ℕ} {n : ℕ} {open-calls : List OpenCall} {s : Scene} → Marks rom a marks
+        → Trail rom work store n open-calls s
         → HeightIs marks (s .state) open-calls × (length open-calls ≡ s .state .calls .count)
     stands-high m t =
         let g = trail-arrived work store x y h t .steady .standing in
         (high-chain m (g .chain) (g .reach) (g .height), calls-length (g .chain))
 
     -- ---- a step is its token
-    pub steps-so : {n : ℕ} {open-calls : List OpenCall} {s : Scene} → Trail rom work store n open-calls s → (stepOf s ≡ tokenTurn s) × FineTurn a open-calls (s .state) (tokenTurn s)
+    pub steps-so : {n : ℕ} {open-calls : List OpenCall} {s : Scene} → Trail rom work store n open-calls s → (stepOf s ≡ tokenTurn s)
+        × FineTurn a open-calls (s .state) (tokenTurn s)
     steps-so {n} {open-calls} {s} t =
         let m = trail-arrived work store x y h t in
         (step-going s (subst (λ v. readyOf v ≡ Going) (sym (arrived-at open-calls s m)) (m .steady .ready)), arrived-fine open-calls s m)

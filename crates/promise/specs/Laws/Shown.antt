@@ -26,7 +26,8 @@ use Rattle.host.specs.Host.{hostRunOf}
 use Rattle.promise.specs.Trail.{Allowed, finished, spent, refused}
 use Rattle.promise.specs.Demand3.{Opened, SeenRun}
 use Rattle.promise.specs.Laws.Demand3.{demand-3, counted, passed}
-use Rattle.promise.specs.Shown.{Closing, runHere, ShownIn, PersonSees, HostSees, done, budget-spent, by-data, wrong-buffer, refused-rom, screen-pass}
+use Rattle.promise.specs.Shown.{Closing, runHere, ShownIn, PersonSees, HostSees, done, budget-spent, by-data, wrong-buffer}
+use Rattle.promise.specs.Shown.{refused-rom, screen-pass}
 
 closing : {w : Answer} → Allowed w → Closing (answerNumber w)
 closing finished = done

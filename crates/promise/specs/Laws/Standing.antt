@@ -1,9 +1,10 @@
--- How the state of a passed ROM's run stands before each of its tokens: as the assignment of heights has it. This is the invariant of demand 3. It holds of
--- the state that opening hands back, and a token that is carried out and does not finish keeps it, together with what refusals 6, 1, 7 and 4 ask (`Steady`,
--- Running.antt).
+-- How the state of a passed ROM's run stands before each of its tokens: as the assignment of heights has it. This is the invariant of
+-- demand 3. It holds of the state that opening hands back, and a token that is carried out and does not finish keeps it, together with what
+-- refusals 6, 1, 7 and 4 ask (`Steady`, Running.antt).
 --
--- Letters, here and in the files that use it: x is a text, as in the screen's definitions (0 is what is outside bodies, suc d the body of the b(:) at d), p and q
--- are places, s is a setting, t a token; d is the place of a definition and e the place behind it; k counts frames. Assumes nothing.
+-- Letters, here and in the files that use it: x is a text, as in the screen's definitions (0 is what is outside bodies, suc d the body of
+-- the b(:) at d), p and q are places, s is a setting, t a token; d is the place of a definition and e the place behind it; k counts frames.
+-- Assumes nothing.
 use Prim.Native.Nat.{ℕ, zero, suc, _+_, _-_, _≤_, _<_}
 use mathlib.Core.Path.{_≡_}
 use mathlib.Core.Bool.{false}
@@ -33,13 +34,14 @@ pub record Defined (rom : List ℕ) (d e : ℕ) : Type 0 where
   pub defines : T (isA define token)
   pub ends : Holds rom (extends (setting .wide) token e)
 
--- The i-th number that a state holds is the one that the token at d defines, and of its kind. The value of a body's number is the place of its first byte; "a
--- body keeps the offset width in force where it was defined".
+-- The i-th number that a state holds is the one that the token at d defines, and of its kind. The value of a body's number is the place of
+-- its first byte; "a body keeps the offset width in force where it was defined".
 pub record Held (rom : List ℕ) (ns : Numbers) (i d e : ℕ) : Type 0 where
   pub defined : Defined rom d e
   pub name : getD (ns .programs) i 0 ≡ newNumber (defined .token .operand)
   pub kind : getD (ns .kinds) i 0 ≡ kindIn (defined .token .operand)
-  pub body : T (isColon (defined .token)) → (getD (ns .values) i 0 ≡ defined .token .next) × (getD (ns .wides) i false ≡ defined .setting .wide)
+  pub body : T (isColon (defined .token)) → (getD (ns .values) i 0 ≡ defined .token .next)
+      × (getD (ns .wides) i false ≡ defined .setting .wide)
 
 -- A state's numbers are those of the reachable definitions that lie wholly before a place, and no others.
 pub record Carried (rom : List ℕ) (home : ℕ) (ns : Numbers) : Type 0 where
@@ -47,9 +49,9 @@ pub record Carried (rom : List ℕ) (home : ℕ) (ns : Numbers) : Type 0 where
   pub full : (d e : ℕ) (f : Defined rom d e) → e ≤ home → (i : ℕ) × (i < ns .count)
       × (getD (ns .programs) i 0 ≡ newNumber (f .token .operand))
 
--- ---- frames in step with the call chain
--- Home is where the run stands outside bodies, and `outer` the setting there. Where a call is open, home is the place of the outermost call: the call chain says
--- so of each text in which a call stands, and nothing is asked of a place in a body.
+-- ---- frames in step with the call chain Home is where the run stands outside bodies, and `outer` the setting there. Where a call is open,
+-- home is the place of the outermost call: the call chain says so of each text in which a call stands, and nothing is asked of a place in a
+-- body.
 abbrev pub AtHome : (text place : ℕ) → Setting → (home : ℕ) → Setting → Type 0
 AtHome zero p s home outer = (p ≡ home) × (s ≡ outer)
 AtHome (suc d) p s home outer = Unit {0}
@@ -63,12 +65,14 @@ pub record Calling (rom : List ℕ) (x p : ℕ) (s : Setting) (t : Token) (d e h
   pub number : newNumber (defined .token .operand) ≡ t .number
   pub before : e ≤ home
 
--- These calls are open, the youngest first, k in number, and the run is in text x. Data heights in x are the assigned ones moved by `floor`, which is the height at
--- entry less the body's need; return heights are counted from `base`. Each frame holds the place behind its call, the width there and the base.
+-- These calls are open, the youngest first, k in number, and the run is in text x. Data heights in x are the assigned ones moved by
+-- `floor`, which is the height at entry less the body's need; return heights are counted from `base`. Each frame holds the place behind its
+-- call, the width there and the base.
 pub data CallChain {rom : List ℕ} (a : Assignment rom) (calls : Calls) (home : ℕ) (outer : Setting)
     : List OpenCall → (k x floor base : ℕ) → Type 0 where
   outside : CallChain a calls home outer [] 0 0 0 0
-  within : {open-calls : List OpenCall} {k x floor base p d e : ℕ} {s : Setting} {t : Token} → CallChain a calls home outer open-calls k x floor base
+  within : {open-calls : List OpenCall} {k x floor base p d e : ℕ} {s : Setting} {t : Token}
+      → CallChain a calls home outer open-calls k x floor base
       → (c : Calling rom x p s t d e home) → AtHome x p s home outer
       → getD (calls .places) k 0 ≡ t .next → getD (calls .wides) k false ≡ s .wide → getD (calls .bases) k 0 ≡ base + a .back x p
       → CallChain a calls home outer (openCall (floor + a .height x p) (c .defined .token .next) ∷ open-calls) (suc k) (suc d)

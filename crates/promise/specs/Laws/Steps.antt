@@ -1,5 +1,5 @@
--- A token of a passed ROM, family by family: it is refused by 21 to 27, finishes the run, or leaves a state that stands as the assignment says. Assumes
--- nothing.
+-- A token of a passed ROM, family by family: it is refused by 21 to 27, finishes the run, or leaves a state that stands as the assignment
+-- says. Assumes nothing.
 use Prim.Native.Nat.{ℕ, suc, _+_, _-_, _≤_, _<_}
 use native.Mathlib.Omega.{arith}
 use mathlib.Core.Path.{_≡_, refl, sym, ap, subst, _∙_}
@@ -14,7 +14,8 @@ use Rattle.cells.specs.Laws.Tests.{tests, pick-is, neqb→ne}
 use Rattle.cells.specs.Laws.Facts.{holds, fails, is-false, both-hold, neither}
 use Rattle.rom.specs.Header.{lengthOf}
 use Rattle.rom.specs.declared.branch.Aim.the-variants.{Inside, Outside}
-use Rattle.tokens.specs.Family.{plain, finish, always, choice, text, widen, divide, pickUp, rollUp, maybe, leave, fetch, store, define, kind, assign, call}
+use Rattle.tokens.specs.Family.{plain, finish, always, choice, text, widen, divide, pickUp, rollUp, maybe, leave, fetch, store, define}
+use Rattle.tokens.specs.Family.{kind, assign, call}
 use Rattle.tokens.specs.Family.{encodeInt, encodeString, join, property, titled, newDevice, finishDevice}
 use Rattle.tokens.specs.Table.{ends, lows, highs, doubles, table, rowOf}
 use Rattle.tokens.specs.Code.{codeOf, familyIn, takesIn, givesIn, returnTakesIn, returnGivesIn}
@@ -55,7 +56,8 @@ use Rattle.promise.specs.Trail.{DependsOnData, OpenCall, openAfter}
 use Rattle.promise.specs.Laws.Before.{defined-token, leads-moves}
 use Rattle.promise.specs.Laws.Carrying.{carried-on, carried-new, carried-assigned}
 use Rattle.promise.specs.Laws.Room.{Outer}
-use Rattle.promise.specs.Laws.Refusing.{not-first, aimed-in, on, isBodyHere, value-sum, number-room, body-ends, assigned-value, no-pick, node-room}
+use Rattle.promise.specs.Laws.Refusing.{not-first, aimed-in, on, isBodyHere, value-sum, number-room, body-ends, assigned-value}
+use Rattle.promise.specs.Laws.Refusing.{no-pick, node-room}
 use Rattle.promise.specs.Laws.Families.{find-in, family-known}
 use Rattle.promise.specs.Laws.Onward.{open-count, falls-on, go-on, fixed, go-fixed, go-in, go-out}
 
@@ -103,7 +105,8 @@ to-aim (Number n) h = absurd h
 to-aim (Definition n k) h = absurd h
 
 -- both ways of one that may be taken
-either-way : (next : ℕ) (o : Operand) → T (not (noEffect (aims o))) → In next (bothWays next (aims o)) × In (aimed o) (bothWays next (aims o))
+either-way : (next : ℕ) (o : Operand) → T (not (noEffect (aims o))) → In next (bothWays next (aims o))
+    × In (aimed o) (bothWays next (aims o))
 either-way next Nothing h = absurd h
 either-way next (Literal n) h = absurd h
 either-way next (Text start count) h = absurd h
@@ -126,7 +129,8 @@ abbrev ordinary : ℕ → Bool
 ordinary f =
     not (eqb f call || eqb f define)
     && (not (eqb f plain || eqb f kind)
-    && (not (eqb f finish || eqb f leave) && (not (eqb f always || eqb f choice) && not (eqb f define || eqb f widen || eqb f newDevice || eqb f finishDevice))))
+    && (not (eqb f finish || eqb f leave) &&
+        (not (eqb f always || eqb f choice) && not (eqb f define || eqb f widen || eqb f newDevice || eqb f finishDevice))))
 
 record Ordinary (f : ℕ) : Type 0 where
   calls : T (not (eqb f call))
@@ -169,7 +173,8 @@ abbrev pub FineTurn : {rom : List ℕ} → Assignment rom → List OpenCall → 
 FineTurn a open-calls st r = Fine a open-calls st r (r .answer)
 
 -- no call opened and none left
-same-calls : {rom : List ℕ} {a : Assignment rom} {open-calls : List OpenCall} {then : State} (st : State) → then .calls .count ≡ st .calls .count → Standing a open-calls then
+same-calls : {rom : List ℕ} {a : Assignment rom} {open-calls : List OpenCall} {then : State} (st : State)
+    → then .calls .count ≡ st .calls .count → Standing a open-calls then
     → Standing a (openAfter open-calls st then) then
 same-calls {rom} {a} {open-calls} {then} st e g =
     let up = le-ltb (st .calls .count) (then .calls .count) (omega arith) in
@@ -190,7 +195,8 @@ module _ {rom : List ℕ} (a : Assignment rom) (work stored : List ℕ) (open-ca
 
   -- ---- tokens that only go on: what they leave beside the stacks no height hangs on
   -- a token that goes on behind itself
-  falls : T (not (isA finish t || isA leave t)) → T (not (isBranch t)) → T (not (isColon t)) → Holds rom (leads (g .setting .wide) (st .place) t (t .next))
+  falls : T (not (isA finish t || isA leave t)) → T (not (isBranch t)) → T (not (isColon t))
+      → Holds rom (leads (g .setting .wide) (st .place) t (t .next))
   falls e b c = on a work stored open-calls st g t is (subst (λ q. In (t .next) q) (sym (falls-on t e b c)) here)
 
   -- the heights that its effect gives
@@ -212,7 +218,8 @@ module _ {rom : List ℕ} (a : Assignment rom) (work stored : List ℕ) (open-ca
         (sym (effect-own (a .sum) t c)) (rw k h, b)
 
     -- and that is what its family says, if it is one that tells
-    given : (f height back : ℕ) → family ≡ f → T (not (eqb f plain || eqb f kind)) → height ≡ st .stack .height - takesBy f + givesBy f → back ≡ st .back .height
+    given : (f height back : ℕ) → family ≡ f → T (not (eqb f plain || eqb f kind)) → height ≡ st .stack .height - takesBy f + givesBy f
+        → back ≡ st .back .height
         → Effected height back
     given f height back e v h b =
         let q = shape (t .code) (t .number) f code e v in
@@ -220,7 +227,8 @@ module _ {rom : List ℕ} (a : Assignment rom) (work stored : List ℕ) (open-ca
         heights height back (rw (q .0, q .1) h) (rw (r .0, r .1) (omega arith))
 
   -- other stacks, and the rest as it was
-  stacked : {q : ℕ} {then : State} → T (not (fixes t)) → Holds rom (leads (g .setting .wide) (st .place) t q) → Effected (then .stack .height) (then .back .height)
+  stacked : {q : ℕ} {then : State} → T (not (fixes t)) → Holds rom (leads (g .setting .wide) (st .place) t q)
+      → Effected (then .stack .height) (then .back .height)
       → then .place ≡ q → then .length ≡ st .length → then .wide ≡ st .wide → then .calls ≡ st .calls → then .numbers ≡ st .numbers
       → nodesOf then ≡ nodesOf st → Standing a open-calls then
   stacked {q} {then} f l h p len w c n tr =
@@ -240,7 +248,8 @@ module _ {rom : List ℕ} (a : Assignment rom) (work stored : List ℕ) (open-ca
       })
 
   -- tokens that only reckon, u/mod among them
-  reckoned-good : T (not (isA call t)) → T (not (fixes t)) → Holds rom (leads (g .setting .wide) (st .place) t (t .next)) → Standing a open-calls (Effects.reckoned s t .state)
+  reckoned-good : T (not (isA call t)) → T (not (fixes t)) → Holds rom (leads (g .setting .wide) (st .place) t (t .next))
+      → Standing a open-calls (Effects.reckoned s t .state)
   unfolding plainOf
   reckoned-good c f l =
       let d = not-define t f in
@@ -265,13 +274,15 @@ module _ {rom : List ℕ} (a : Assignment rom) (work stored : List ℕ) (open-ca
       let both = bothWays (t .next) (aims (t .operand)) in
       let j = pick-is (λ q. In q both) (eqb (cellOf s 0) 0) (aimed (t .operand)) (t .next) (λ h. i .1) (λ h. i .0) in
       stacked (rw e tt)
-      (on a work stored open-calls st g t is (subst (λ q. In (pick (eqb (cellOf s 0) 0) (aimed (t .operand)) (t .next)) q) (sym (choice-leads t e)) j))
+      (on a work stored open-calls st g t is (subst (λ q. In (pick (eqb (cellOf s 0) 0) (aimed (t .operand)) (t .next)) q)
+          (sym (choice-leads t e)) j))
       (given (rw e tt) (rw e tt) choice _ _ e tt (omega arith) refl) refl refl refl refl refl refl
 
   -- ---- families of which each token takes and gives the same, and goes on behind itself
   module _ (f : ℕ) (e : family ≡ f) (o : T (ordinary f)) where
     goes-behind : Holds rom (leads (g .setting .wide) (st .place) t (t .next))
-    goes-behind = let k = ordinary-facts f o in falls (rw e (k .ends)) (rw e (k .branches)) (not-first (isA define t) (eqb (kindIn (t .operand)) colon) (rw e (k .defines)))
+    goes-behind = let k = ordinary-facts f o in
+        falls (rw e (k .ends)) (rw e (k .branches)) (not-first (isA define t) (eqb (kindIn (t .operand)) colon) (rw e (k .defines)))
 
     no-fixing : T (not (fixes t))
     no-fixing = rw e (ordinary-facts f o .once)
@@ -280,15 +291,18 @@ module _ {rom : List ℕ} (a : Assignment rom) (work stored : List ℕ) (open-ca
     taken height back h b = let k = ordinary-facts f o in given (rw e (k .calls)) (rw e (k .defines)) f height back e (k .varies) h b
 
     -- cells alone
-    gives-good : (takes : ℕ) (cells : List ℕ) → takes ≡ takesBy f → length cells ≡ givesBy f → Standing a open-calls (onward s t takes cells)
+    gives-good : (takes : ℕ) (cells : List ℕ) → takes ≡ takesBy f → length cells ≡ givesBy f
+        → Standing a open-calls (onward s t takes cells)
     gives-good takes cells p q = stacked no-fixing goes-behind (taken _ _ (rw (p, q) refl) refl) refl refl refl refl refl refl
 
     -- another work place
-    encodes-good : (takes : ℕ) (bytes : List ℕ) → takes ≡ takesBy f → 2 ≡ givesBy f → Standing a open-calls (Effects.encodedOf s t takes bytes .state)
+    encodes-good : (takes : ℕ) (bytes : List ℕ) → takes ≡ takesBy f → 2 ≡ givesBy f
+        → Standing a open-calls (Effects.encodedOf s t takes bytes .state)
     encodes-good takes bytes p q = stacked no-fixing goes-behind (taken _ _ (rw (← p, ← q) refl) refl) refl refl refl refl refl refl
 
     -- a property
-    keeps-good : (takes : ℕ) (name v : List ℕ) → takes ≡ takesBy f → 0 ≡ givesBy f → Standing a open-calls (Effects.keepsOf s t takes name v .state)
+    keeps-good : (takes : ℕ) (name v : List ℕ) → takes ≡ takesBy f → 0 ≡ givesBy f
+        → Standing a open-calls (Effects.keepsOf s t takes name v .state)
     keeps-good takes name v p q =
         let h = taken (st .stack .height - takes + 0) (st .back .height) (rw (← p, ← q) refl) refl in
         go-on a work stored open-calls st g t is no-fixing goes-behind
@@ -318,7 +332,8 @@ module _ {rom : List ℕ} (a : Assignment rom) (work stored : List ℕ) (open-ca
         calls = refl;
         height = h .0;
         back = h .1;
-        numbers = carried-assigned a (seekOf (st .numbers) (numberIn (t .operand))) (cellOf s 0) (assigned-value a work stored open-calls st g t is e) (g .numbers);
+        numbers = carried-assigned a (seekOf (st .numbers) (numberIn (t .operand))) (cellOf s 0)
+            (assigned-value a work stored open-calls st g t is e) (g .numbers);
         count = refl;
         nodes = refl;
         children = g .children;
@@ -333,11 +348,13 @@ module _ {rom : List ℕ} (a : Assignment rom) (work stored : List ℕ) (open-ca
       c = holds (isA call t) (eq-eqb family call e)
 
       by : (b : Bool) → isBodyHere a work stored open-calls st g t is ≡ b → FineTurn a open-calls st (Effects.calls s t)
-      by true k = rw (k, lt-ltb (st .calls .count) (st .calls .count + 1) (omega arith)) (go-in a work stored open-calls st g t is c k (z .calls))
+      by true k = rw (k, lt-ltb (st .calls .count) (st .calls .count + 1) (omega arith))
+          (go-in a work stored open-calls st g t is c k (z .calls))
       by false k =
           let o = value-sum a work stored open-calls st g t is c k in
           let h : Effected (st .stack .height - 0 + 1) (st .back .height) =
-          subst (λ v. (st .stack .height - 0 + 1 ≡ st .stack .height - v .takes + v .gives) × (st .back .height ≡ st .back .height - v .«return_takes» + v .«return_gives»))
+          subst (λ v. (st .stack .height - 0 + 1 ≡ st .stack .height - v .takes + v .gives)
+              × (st .back .height ≡ st .back .height - v .«return_takes» + v .«return_gives»))
           (sym o) (refl, omega arith) in
           rw k (same-calls st refl (stacked (rw e tt) (falls (rw e tt) (rw e tt) (rw e tt)) h refl refl refl refl refl refl))
 
@@ -355,21 +372,24 @@ module _ {rom : List ℕ} (a : Assignment rom) (work stored : List ℕ) (open-ca
     abbrev outer : Outer a open-calls (st .calls .count) (g .text) (g .floor) (g .base) (st .place) (g .home) (g .setting) (g .outer) t
     outer = fixed a work stored open-calls st g t is f
 
-    past : T (not (isColon t)) → T (not (isA finish t || isA leave t)) → T (not (isBranch t)) → Holds rom (leads (g .outer .wide) (g .home) t (t .next))
+    past : T (not (isColon t)) → T (not (isA finish t || isA leave t)) → T (not (isBranch t))
+        → Holds rom (leads (g .outer .wide) (g .home) t (t .next))
     past c e b = Holds.by-itself (a .known (outer .met)) (subst (λ q. In (t .next) q) (sym (falls-on t e b c)) here)
 
     width : st .wide ≡ g .outer .wide
     width = g .wide ∙ ap (λ v. v .wide) (outer .setting)
 
   -- numbers stay those of the definitions carried out
-  moves-on : (f : T (fixes t)) → T (not (isA define t)) → {q : ℕ} → Holds rom (leads (g .outer .wide) (g .home) t q) → Carried rom q (st .numbers)
+  moves-on : (f : T (fixes t)) → T (not (isA define t)) → {q : ℕ} → Holds rom (leads (g .outer .wide) (g .home) t q)
+      → Carried rom q (st .numbers)
   moves-on f n {q} l = carried-on a (leads-moves a (outer f .met) l) (λ e d. noEffect d) (g .numbers)
     where
       none : {e : ℕ} → Defined rom (g .home) e → ⊥
       noEffect d = T-not (isA define t) n (subst (λ v. T (isA define v)) (defined-token d (outer f .met)) (d .defines))
 
   -- CC, 11F and 127 take nothing
-  none-taken : (f : ℕ) → family ≡ f → T (not (isA define t)) → T (not (eqb f plain || eqb f kind)) → takesBy f ≡ 0 → st .stack .height ≡ st .stack .height - takesHere t
+  none-taken : (f : ℕ) → family ≡ f → T (not (isA define t)) → T (not (eqb f plain || eqb f kind)) → takesBy f ≡ 0
+      → st .stack .height ≡ st .stack .height - takesHere t
   none-taken f e d v k =
       let h : takesHere t ≡ takesIn (t .code) = rw (is-false (isA define t) d) (omega arith) in
       let q = shape (t .code) (t .number) f code e v .0 in
@@ -449,12 +469,14 @@ module _ {rom : List ℕ} (a : Assignment rom) (work stored : List ℕ) (open-ca
         rw e (omega (arith, q))
 
     -- one number more
-    new-numbers : {q : ℕ} (v : ℕ) → Holds rom (extends (g .outer .wide) t q) → Holds rom (leads (g .outer .wide) (g .home) t q) → (T (isColon t) → v ≡ t .next)
+    new-numbers : {q : ℕ} (v : ℕ) → Holds rom (extends (g .outer .wide) t q) → Holds rom (leads (g .outer .wide) (g .home) t q)
+        → (T (isColon t) → v ≡ t .next)
         → Carried rom q (definedOf (st .numbers) (newNumber (t .operand)) (kindIn (t .operand)) v (st .wide))
     new-numbers {q} v x l c =
         let o = outer once in
         let f : Defined rom (g .home) q = record { setting = g .outer; token = t; met = o .met; defines = defines; ends = x } in
-        let n = carried-new a v (leads-moves a (o .met) l) (g .numbers) (z .numbers) (number-room a work stored open-calls st g t is defines) f c in
+        let n = carried-new a v (leads-moves a (o .met) l) (g .numbers) (z .numbers)
+            (number-room a work stored open-calls st g t is defines) f c in
         subst (λ w. Carried rom q (definedOf (st .numbers) (newNumber (t .operand)) (kindIn (t .operand)) v w)) (sym (width once)) n
 
     colon-good : kindIn (t .operand) ≡ colon → Standing a open-calls (Effects.colons s t .state)
@@ -513,14 +535,16 @@ module _ {rom : List ℕ} (a : Assignment rom) (work stored : List ℕ) (open-ca
     define-good =
         let kind = kindIn (t .operand) in
         let y = kind-takes in
-        pick-is (λ (f : Effects.Effect). FineTurn a open-calls st (f s t)) (eqb kind colon) Effects.colons _ (λ c. same-calls st refl (colon-good (eqb→eq kind colon c)))
+        pick-is (λ (f : Effects.Effect). FineTurn a open-calls st (f s t)) (eqb kind colon) Effects.colons _
+            (λ c. same-calls st refl (colon-good (eqb→eq kind colon c)))
         (λ n. pick-is (λ (f : Effects.Effect). FineTurn a open-calls st (f s t)) (eqb kind value) Effects.values _
         (λ c. same-calls st refl (other-good (neqb→ne kind colon n) 1 (cellOf s 0) (st .«work_place») (rw (eqb→eq kind value c) (y .1))))
         (λ m. pick-is (λ (f : Effects.Effect). FineTurn a open-calls st (f s t)) (eqb kind variable) Effects.variables Effects.values
         (λ c. same-calls st refl (other-good (neqb→ne kind colon n) 0 _ _ (rw (eqb→eq kind variable c) (y .2))))
         (λ o. same-calls st refl (other-good (neqb→ne kind colon n) 1 (cellOf s 0) (st .«work_place») (rw (last-kind n m o) (y .3))))))
       where
-        last-kind : T (not (eqb (kindIn (t .operand)) colon)) → T (not (eqb (kindIn (t .operand)) value)) → T (not (eqb (kindIn (t .operand)) variable))
+        last-kind : T (not (eqb (kindIn (t .operand)) colon)) → T (not (eqb (kindIn (t .operand)) value))
+            → T (not (eqb (kindIn (t .operand)) variable))
             → kindIn (t .operand) ≡ 0xBA
         last-kind n m o =
             let h = heads rom (lengthOf rom) (g .setting .wide) (inBody (g .text)) (st .place) t is defines .1 in

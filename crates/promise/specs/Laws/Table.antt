@@ -27,8 +27,10 @@ use Rattle.state.specs.Laws.Keeps.Open.{opened, open-good}
 use Rattle.state.specs.Laws.Steps.{run-opened, tokensFrom}
 use Rattle.tokens.specs.Body.{unknownOf}
 use Rattle.screen.specs.Effect.{effectOf}
-use Rattle.screen.specs.Laws.Found.Model.{screenOf, lastOf, roundsOf, roundOf, apartOf, advanceOf, defineOf, colonOf, startsOf, bodyWalked, bodyShifted}
-use Rattle.screen.specs.Laws.Found.Model.{tallied, passesOf, shiftOf, walkAll, walkSteps, walkStep, visitedOn, putsOf, putVisit, visitOf, tokenVisit, soundOf, fitsOf, sumAt}
+use Rattle.screen.specs.Laws.Found.Model.{screenOf, lastOf, roundsOf, roundOf, apartOf, advanceOf, defineOf, colonOf, startsOf, bodyWalked}
+use Rattle.screen.specs.Laws.Found.Model.{bodyShifted}
+use Rattle.screen.specs.Laws.Found.Model.{tallied, passesOf, shiftOf, walkAll, walkSteps, walkStep, visitedOn, putsOf, putVisit, visitOf}
+use Rattle.screen.specs.Laws.Found.Model.{tokenVisit, soundOf, fitsOf, sumAt}
 use Rattle.screen.specs.Laws.Found.Screen.{verdictOn, judgedOf, screenedOf}
 use Rattle.screen.specs.Laws.Code.Screen.{screen-judged}
 use Rattle.screen.specs.declared.screening.Verdict.{Verdict}
@@ -38,8 +40,8 @@ use Rattle.screen.specs.Laws.Found.Sums.{packedSum, unpackedSum}
 use Rattle.state.specs.declared.answer.Answer.{Answer}
 use Rattle.state.specs.declared.answer.Answer.the-variants.{Going, Finished, Refused, Spent}
 
--- a ROM, what the screen says of it, a budget, and what the run says: its answer, how many tokens it carried out, and the cells that it leaves, the
--- lowest first
+-- a ROM, what the screen says of it, a budget, and what the run says: its answer, how many tokens it carried out, and the cells that it
+-- leaves, the lowest first
 pub record Case : Type 0 where
   pub rom : List ℕ
   pub verdict : Verdict
@@ -61,9 +63,11 @@ cases =
     case (0xFD ∷ 0x08 ∷ 0x00 ∷ 0x13 ∷ 0x00 ∷ 0x00 ∷ 0x00 ∷ 0x0A ∷ 0x13 ∷ 0x00 ∷ []) (Rejects 31) 1000 Finished 2 [] ∷
     case (0xFD ∷ 0x08 ∷ 0x00 ∷ 0xF6 ∷ 0x00 ∷ 0x00 ∷ 0x00 ∷ 0x0B ∷ 0xA6 ∷ 0x50 ∷ 0x00 ∷ []) (Rejects 31) 1000 Finished 3 (1 ∷ 1 ∷ []) ∷
     -- no token stands behind the last: 10
-    case (0xFD ∷ 0x08 ∷ 0x01 ∷ 0x73 ∷ 0x00 ∷ 0x00 ∷ 0x00 ∷ 0x0B ∷ 0xA4 ∷ 0xA6 ∷ 0x29 ∷ []) (Rejects 31) 1000 (Refused 10) 3 (0xFFFF_FFFF ∷ []) ∷
+    case (0xFD ∷ 0x08 ∷ 0x01 ∷ 0x73 ∷ 0x00 ∷ 0x00 ∷ 0x00 ∷ 0x0B ∷ 0xA4 ∷ 0xA6 ∷ 0x29 ∷ []) (Rejects 31) 1000 (Refused 10) 3
+        (0xFFFF_FFFF ∷ []) ∷
     case (
-    0xFD ∷ 0x08 ∷ 0x00 ∷ 0x84 ∷ 0x00 ∷ 0x00 ∷ 0x00 ∷ 0x18 ∷ 0x10 ∷ 0x00 ∷ 0x00 ∷ 0x00 ∷ 0x05 ∷ 0x10 ∷ 0x00 ∷ 0x00 ∷ 0x00 ∷ 0x05 ∷ 0x10 ∷ 0x00 ∷
+    0xFD ∷ 0x08 ∷ 0x00 ∷ 0x84 ∷ 0x00 ∷ 0x00 ∷ 0x00 ∷ 0x18 ∷ 0x10 ∷ 0x00 ∷ 0x00 ∷ 0x00 ∷ 0x05 ∷ 0x10 ∷ 0x00 ∷ 0x00 ∷ 0x00 ∷ 0x05 ∷ 0x10 ∷
+        0x00 ∷
     0x00 ∷ 0x00 ∷ 0x05 ∷ 0x45 ∷ []
     ) (Rejects 31) 1000 (Refused 10) 4 (0 ∷ []) ∷
     -- document 02, (iv): n=5, min=3, max=-3 is within
@@ -112,7 +116,8 @@ every f (c ∷ cs) = f c && every f cs
 
 -- tokens alone are far quicker to compute than a run, which asks everything of its state again before each token
 abbrev tokensAgree : Case → Bool
-tokensAgree c = sameVerdict (verdictOn lent (screenOf (c .rom)) .verdict) (c .verdict) && endsSo c (tokensFrom (c .budget) 0 (opened (c .rom)))
+tokensAgree c = sameVerdict (verdictOn lent (screenOf (c .rom)) .verdict) (c .verdict) && endsSo c
+    (tokensFrom (c .budget) 0 (opened (c .rom)))
 
 abbrev OpensAs : List Case → Type 0
 OpensAs [] = Unit {0}
@@ -136,7 +141,10 @@ unfolding headerOf sumOf
 all-open = (refl, (refl, (refl, (refl, (refl, (refl, (refl, (refl, (refl, tt)))))))))
 
 all-tokens : every tokensAgree cases ≡ true
-unfolding ashiftOf sumOf aimOf ends lows highs doubles table rowOf codeOf behindOf operandOf tokenIfWhole decodeOf misplacedOf readOf sameBytes leftOf plainOf refusalOf effects actOf doneOf tokenTurn tokensFrom sameAnswer sameVerdict unknownOf effectOf screenOf lastOf roundsOf roundOf apartOf advanceOf defineOf colonOf startsOf bodyWalked bodyShifted tallied passesOf shiftOf walkAll walkSteps walkStep visitedOn putsOf putVisit visitOf tokenVisit soundOf fitsOf sumAt packedSum unpackedSum cellWith heightsIn markIn movedCell
+unfolding ashiftOf sumOf aimOf ends lows highs doubles table rowOf codeOf behindOf operandOf tokenIfWhole decodeOf misplacedOf readOf
+    sameBytes leftOf plainOf refusalOf effects actOf doneOf tokenTurn tokensFrom sameAnswer sameVerdict unknownOf effectOf screenOf lastOf
+    roundsOf roundOf apartOf advanceOf defineOf colonOf startsOf bodyWalked bodyShifted tallied passesOf shiftOf walkAll walkSteps walkStep
+    visitedOn putsOf putVisit visitOf tokenVisit soundOf fitsOf sumAt packedSum unpackedSum cellWith heightsIn markIn movedCell
 all-tokens = refl
 
 pub claim : every agrees cases ≡ true

@@ -1,4 +1,5 @@
--- Demand 3 is not empty: every bench ROM of the table that passes is one of which it speaks, and the one that divides by zero is refused with 21. Assumes nothing.
+-- Demand 3 is not empty: every bench ROM of the table that passes is one of which it speaks, and the one that divides by zero is refused
+-- with 21. Assumes nothing.
 use Prim.Native.Nat.{ℕ}
 use mathlib.Core.Path.{_≡_, refl, sym, ap, subst}
 use mathlib.Core.Bool.{Bool, true}
@@ -46,7 +47,8 @@ module _ {c : Case} (a : AmongRows c cases) (p : c .verdict ≡ Passes) where
       subst (λ v. Promised (c .rom) lent v (screenedOf (c .rom) lent .marks)) v (promise-kept (c .rom) lent)
 
   pub seen-case : SeenRun
-  seen-case = seen (c .rom) lent lent lent (c .budget) (length-replicate {A = ℕ} workSize 0xAA) (length-replicate {A = ℕ} storeSize 0xAA) passes-so
+  seen-case = seen (c .rom) lent lent lent (c .budget) (length-replicate {A = ℕ} workSize 0xAA) (length-replicate {A = ℕ} storeSize 0xAA)
+      passes-so
 
   -- and its run answered what the case says
   pub ran-so : sameAnswer (seen-case .ran .answer) (c .answer) ≡ true
@@ -57,7 +59,8 @@ module _ {c : Case} (a : AmongRows c cases) (p : c .verdict ≡ Passes) where
       let r = and-second (sameAnswer (openOf (c .rom) lent lent .answer) Going) (endsSo c o) e in
       let q = and-first (sameAnswer (o .answer) (c .answer)) _ r in
       subst (λ v. sameAnswer (v .answer) (c .answer) ≡ true)
-      (sym (seen-ran (c .rom) lent lent lent (c .budget) (length-replicate {A = ℕ} workSize 0xAA) (length-replicate {A = ℕ} storeSize 0xAA) passes-so)) q
+      (sym (seen-ran (c .rom) lent lent lent (c .budget) (length-replicate {A = ℕ} workSize 0xAA) (length-replicate {A = ℕ} storeSize 0xAA)
+          passes-so)) q
 
 -- A6 A5 2B 00 divides by zero: it passes, and its run is refused
 pub divides : SeenRun

@@ -1,5 +1,5 @@
--- A token in place, on the cells, the heights and the place alone, and how it agrees with the step of the whole state, whatever the rest of it is. Assumes
--- nothing.
+-- A token in place, on the cells, the heights and the place alone, and how it agrees with the step of the whole state, whatever the rest of
+-- it is. Assumes nothing.
 use Prim.Native.Nat.{ℕ, _+_, _≤_, _<_}
 use mathlib.Core.Path.{_≡_}
 use mathlib.Core.Bool.{Bool}
@@ -33,7 +33,8 @@ pub record Goes (st : State) (size : ℕ) (wide : Bool) (base : ℕ) : Type 0 wh
 abbrev pub Agrees : Answer → List ℕ → ℕ → Bool → ℕ → List ℕ → ℕ → List ℕ → ℕ → ℕ → Turned → List ℕ → List ℕ → Type 0
 Agrees answer rom size wide base c h k b place r d l =
     (st : State) (work store : List ℕ) → Goes st size wide base
-    → tokenTurn (scene rom work store (packedFast st c h k b place)) ≡ turn answer (packedFast st d (r .height) l (r .returns) (r .place)) work store
+    → tokenTurn (scene rom work store (packedFast st c h k b place)) ≡ turn answer (packedFast st d (r .height) l (r .returns) (r .place))
+        work store
 
 -- heights and place stay in their limits
 abbrev pub FitsFast : ℕ → ℕ → Turned → Type 0

@@ -37,7 +37,8 @@ pub record Arrays : Type 0 where
   pub nameSizes : List ℕ
   pub valueSizes : List ℕ
 
-abbrev pub arrays : List ℕ → List ℕ → List ℕ → List Bool → List ℕ → List ℕ → List ℕ → List ℕ → List Bool → List ℕ → List ℕ → List ℕ → List ℕ → Arrays
+abbrev pub arrays : List ℕ → List ℕ → List ℕ → List Bool → List ℕ → List ℕ → List ℕ → List ℕ → List Bool → List ℕ → List ℕ → List ℕ → List ℕ
+    → Arrays
 arrays cells back places wides bases programs kinds values ways parents owners nameSizes valueSizes =
     record {
       cells = cells;
@@ -133,7 +134,8 @@ backOn a r = stepped (answerOf (r .told)) (joined a (r .core))
 abbrev pub takenOn : Arrays → Taken → Popped
 takenOn a r = popped (answerOf (r .told)) (r .cell) (joined a (r .core))
 
--- ---- what a function in place promises: what it hands back is what is said of the whole state, before and then, whatever the arrays are that it is not lent
+-- ---- what a function in place promises: what it hands back is what is said of the whole state, before and then, whatever the arrays are
+-- that it is not lent
 abbrev pub Moves : (Arrays → Arrays) → Core → Handed → (Arrays → Arrays) → (State → Stepped → Type 0) → Type 0
 Moves on k r then P = (a : Arrays) → P (joined (on a) k) (backOn (then a) r)
 

@@ -32,7 +32,8 @@ reckonOf n operand s base =
 
 -- u/mod: refusal 21, "divisor zero"
 abbrev pub divideOf : Stacks → Reckoned
-divideOf s = pick (ltb (s .height) 2) (reckonedAs 14 s) (pick (eqb (topOf (s .cells) (s .height) 0) 0) (reckonedAs 21 s) (reckonedAs 0 (plainOf 0x2B 0 s)))
+divideOf s = pick (ltb (s .height) 2) (reckonedAs 14 s)
+    (pick (eqb (topOf (s .cells) (s .height) 0) 0) (reckonedAs 21 s) (reckonedAs 0 (plainOf 0x2B 0 s)))
 
 abbrev pub pickUpOf : Stacks → Reckoned
 pickUpOf s = pick (tooDeep s) (reckonedAs 14 s) (reckonedAs 0 (pickedOf s))

@@ -13,7 +13,8 @@ tableFrom (suc k) n f = f n ∷ tableFrom k (n + 1) f
 
 -- ---- tables by program number: of each, what f says of the oldest entry from i on that has it, 0 where none has
 abbrev pub holdsFrom : (ℕ → ℕ) → Numbers → ℕ → ℕ → ℕ
-holdsFrom f ns i n = pick (ltb (seekFrom (ns .programs) n (ns .count - i) i) (ns .count)) (f (seekFrom (ns .programs) n (ns .count - i) i)) 0
+holdsFrom f ns i n = pick (ltb (seekFrom (ns .programs) n (ns .count - i) i) (ns .count)) (f (seekFrom (ns .programs) n (ns .count - i) i))
+    0
 
 abbrev pub tablePast : (ℕ → ℕ) → Numbers → ℕ → List ℕ
 tablePast f ns i = tableFrom 2048 0x800 (holdsFrom f ns i)

@@ -1,5 +1,5 @@
--- Laws of the program numbers' code: seeking goes on from entry to entry, a table by number is filled entry by entry, and one number more changes one place of
--- it. Assumes nothing.
+-- Laws of the program numbers' code: seeking goes on from entry to entry, a table by number is filled entry by entry, and one number more
+-- changes one place of it. Assumes nothing.
 use Prim.Native.Nat.{ℕ, zero, suc, _+_, _-_, _<_, _≤_}
 use mathlib.Core.Path.{_≡_, refl, sym, _∙_, ap}
 use mathlib.Core.Bool.{Bool, true, false}
@@ -43,7 +43,8 @@ sought programs n k i h l =
 
 -- ---- a test of a program's number
 pub program-bounds : (n : ℕ) → isProgram n ≡ true → (0x800 ≤ n) × (n ≤ 0xFFF)
-program-bounds n e = (leb-true 0x800 n (and-first (leb 0x800 n) (leb n 0xFFF) e), leb-true n 0xFFF (and-second (leb 0x800 n) (leb n 0xFFF) e))
+program-bounds n e =
+    (leb-true 0x800 n (and-first (leb 0x800 n) (leb n 0xFFF) e), leb-true n 0xFFF (and-second (leb 0x800 n) (leb n 0xFFF) e))
 
 same-listed : (k n : ℕ) (f g : ℕ → ℕ) → ((m : ℕ) → n ≤ m → m < n + k → f m ≡ g m) → tableFrom k n f ≡ tableFrom k n g
 unfolding tableFrom
@@ -57,7 +58,8 @@ unfolding tableFrom
 set-listed zero n j v f = refl
 set-listed (suc k) n zero v f =
     let e : n + 0 ≡ n = omega arith in
-    rw (e, eq-eqb n n refl) (ap (λ (l : List ℕ). v ∷ l) (same-listed k (n + 1) f (λ m. pick (eqb n m) v (f m)) (λ m l h. sym (rw (ne-eqb n m (λ q. omega arith))))))
+    rw (e, eq-eqb n n refl) (ap (λ (l : List ℕ). v ∷ l)
+        (same-listed k (n + 1) f (λ m. pick (eqb n m) v (f m)) (λ m l h. sym (rw (ne-eqb n m (λ q. omega arith))))))
 set-listed (suc k) n (suc j) v f =
     let e : n + suc j ≡ n + 1 + j = omega arith in
     rw (e, ne-eqb (n + 1 + j) n (λ q. omega arith)) (ap (λ (l : List ℕ). f n ∷ l) (set-listed k (n + 1) j v f))
@@ -93,10 +95,12 @@ step-held f ns i n h = cases (eqb (getD (ns .programs) i 0) n) refl
     cases true e = rw (found (ns .programs) n (ns .count) i h (eqb-true _ _ e), lt-ltb i (ns .count) h)
     cases false e = rw (passed (ns .programs) n (ns .count) i h (eqb-false _ _ e))
 
-put-listed : (n v : ℕ) (f g : ℕ → ℕ) → ((m : ℕ) → g m ≡ pick (eqb n m) v (f m)) → putKind (tableFrom 2048 0x800 f) n v ≡ tableFrom 2048 0x800 g
+put-listed : (n v : ℕ) (f g : ℕ → ℕ) → ((m : ℕ) → g m ≡ pick (eqb n m) v (f m))
+    → putKind (tableFrom 2048 0x800 f) n v ≡ tableFrom 2048 0x800 g
 put-listed n v f g a = cases (isProgram n) refl
   where
-    cases : (b : Bool) → isProgram n ≡ b → pick b (set (tableFrom 2048 0x800 f) (n - 0x800) v) (tableFrom 2048 0x800 f) ≡ tableFrom 2048 0x800 g
+    cases : (b : Bool) → isProgram n ≡ b → pick b (set (tableFrom 2048 0x800 f) (n - 0x800) v) (tableFrom 2048 0x800 f) ≡ tableFrom 2048
+        0x800 g
     cases true e =
         let r = program-bounds n e in
         let q : 0x800 + (n - 0x800) ≡ n = omega arith in
@@ -168,7 +172,8 @@ module _ (f g : ℕ → ℕ) (ns : Numbers) (n kind v : ℕ) (wide : Bool) (h : 
       was : ns .count - 0 ≡ ns .count
       was = omega arith
 
-      by : (b d : Bool) → ltb (seekOf ns m) (ns .count) ≡ b → eqb n m ≡ d → holdsFrom g defined 0 m ≡ pick (eqb n m) (g (ns .count)) (holdsFrom f ns 0 m)
+      by : (b d : Bool) → ltb (seekOf ns m) (ns .count) ≡ b → eqb n m ≡ d
+          → holdsFrom g defined 0 m ≡ pick (eqb n m) (g (ns .count)) (holdsFrom f ns 0 m)
       by true true p q =
           let z : true ≡ false = sym p ∙ ap (λ (x : ℕ). ltb (seekOf ns x) (ns .count)) (sym (eqb-true n m q)) ∙ e in
           let y : _≡_ {A = ℕ} 0 1 = cc in

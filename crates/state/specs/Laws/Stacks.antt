@@ -74,12 +74,15 @@ module _ (base : ℕ) (s : Stacks) (w : Sound base s) where
   divide-keeps =
       let p = w .2 in
       pick-is (Keeps base s) (ltb (s .height) 2) (reckonedAs 14 s) _ (λ t. same 14)
-      (λ t. pick-is (Keeps base s) (eqb (topOf (s .cells) (s .height) 0) 0) (reckonedAs 21 s) (reckonedAs 0 (plainOf 0x2B 0 s)) (λ u. same 21)
-      (λ u. ((rw divided-code (omega (arith, tests)), rw divided-code (omega arith), rw divided-code (omega arith)), length-left _ (s .cells) _, length-left _ (s .back) _)))
+      (λ t. pick-is (Keeps base s) (eqb (topOf (s .cells) (s .height) 0) 0) (reckonedAs 21 s) (reckonedAs 0 (plainOf 0x2B 0 s))
+          (λ u. same 21)
+      (λ u. ((rw divided-code (omega (arith, tests)), rw divided-code (omega arith), rw divided-code (omega arith)),
+          length-left _ (s .cells) _, length-left _ (s .back) _)))
 
   pub pick-up-keeps : Keeps base s (pickUpOf s)
   pick-up-keeps =
-      pick-is (Keeps base s) (tooDeep s) (reckonedAs 14 s) (reckonedAs 0 (pickedOf s)) (λ t. same 14) (λ t. (w, length-set (s .cells) _ _, refl))
+      pick-is (Keeps base s) (tooDeep s) (reckonedAs 14 s) (reckonedAs 0 (pickedOf s)) (λ t. same 14)
+          (λ t. (w, length-set (s .cells) _ _, refl))
 
   pub roll-up-keeps : Keeps base s (rollUpOf s)
   roll-up-keeps =

@@ -1,5 +1,5 @@
--- The laws of steps and runs: a refused step changes nothing, a finished state stays, a step of a ready state is its token, and a run asks what it asks
--- of a state once. Assumes nothing.
+-- The laws of steps and runs: a refused step changes nothing, a finished state stays, a step of a ready state is its token, and a run asks
+-- what it asks of a state once. Assumes nothing.
 use Prim.Native.Nat.{ℕ, zero, suc, _+_, _≤_}
 use native.Mathlib.Omega.{arith}
 use mathlib.Core.Path.{_≡_, refl, ap, subst, _∙_, sym}
@@ -60,7 +60,8 @@ act-fair : (s : Scene) (t : Token) → FairTurn s (actOf s t)
 unfolding actOf effects
 act-fair s t =
     find-at (λ e. FairTurn s (e s t)) effects nothing (familyIn (t .code))
-    (go ▸ (λ k. (refl, refl)) ▸ go ▸ go ▸ go ▸ go ▸ go ▸ go ▸ go ▸ go ▸ go ▸ go ▸ go ▸ (λ k. kinds) ▸ go ▸ (λ k. body bodyHere refl) ▸ go ▸ go ▸ go ▸ go ▸ go ▸ go ▸ go ▸ tt)
+    (go ▸ (λ k. (refl, refl)) ▸ go ▸ go ▸ go ▸ go ▸ go ▸ go ▸ go ▸ go ▸ go ▸ go ▸ go ▸ (λ k. kinds) ▸ go ▸
+        (λ k. body bodyHere refl) ▸ go ▸ go ▸ go ▸ go ▸ go ▸ go ▸ go ▸ tt)
     refl
   where
     go : {m n : ℕ} → m ≡ n → Unit {0}
@@ -68,7 +69,8 @@ act-fair s t =
 
     kinds : FairTurn s (defines s t)
     kinds =
-        find-at (λ e. FairTurn s (e s t)) ((colon, colons) ∷ (value, values) ∷ (variable, variables) ∷ []) values (kindIn (t .operand)) (go ▸ go ▸ go ▸ tt) tt
+        find-at (λ e. FairTurn s (e s t)) ((colon, colons) ∷ (value, values) ∷ (variable, variables) ∷ []) values (kindIn (t .operand))
+            (go ▸ go ▸ go ▸ tt) tt
 
     bodyHere : Bool
     bodyHere = isBody (s .state .numbers) (seekOf (s .state .numbers) (t .number))
@@ -246,7 +248,8 @@ tokens-left (suc k) n s z r e = by (tokenTurn s .answer) refl (λ to y q f. toke
     by Finished g f = rw (g, tokensFrom) (same-left Finished (n + 1) s (tokenTurn s) e (subst (FairRun s (tokenTurn s)) g (token-fair s)))
     by (Refused why) g f =
         let q = refused-keeps s why g in
-        rw (g, tokensFrom) (same-left (Refused why) n s (tokenTurn s) e (ap (λ (x : Turn). x .state .tree) q, ap (λ (x : Turn). x .store) q))
+        rw (g, tokensFrom) (same-left (Refused why) n s (tokenTurn s) e
+            (ap (λ (x : Turn). x .state .tree) q, ap (λ (x : Turn). x .store) q))
     by (Spent m) g f = rw (g, tokensFrom) (same-left (Spent m) n s (tokenTurn s) e (subst (FairRun s (tokenTurn s)) g (token-fair s)))
 
 pub run-left : (budget : ℕ) (rom : List ℕ) → headerOf rom ≡ 0 → Left (runOf budget (opened rom))

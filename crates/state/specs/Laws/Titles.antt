@@ -30,7 +30,8 @@ module _ (s : Scene) (t : Token) where
   abbrev misnamedBy : ℕ → Bool
   misnamedBy family = elim (eqb family property) [ true ↦ badName (namedHere s) | false ↦ false ]
 
-  -- what `untold 26 (refusals s t)` comes to by a token's family: the other numbers of the list are not 26, so that these two tests are left
+  -- what `untold 26 (refusals s t)` comes to by a token's family: the other numbers of the list are not 26, so that these two tests are
+  -- left
   abbrev untoldBy : ℕ → Bool
   untoldBy family = not (eqb (stopsBy family) 26 && not (eqb (stopsBy family) 0)) && (not (misnamedBy family) && true)
 

@@ -48,7 +48,8 @@ module _ (s : Scene) (t : Token) where
 
   records-defined : SameRecords (find ((colon, colons) ∷ (value, values) ∷ (variable, variables) ∷ []) values (kindIn (t .operand)) s t)
   records-defined =
-      find-is (λ (f : Effect). SameRecords (f s t)) ((colon, colons) ∷ (value, values) ∷ (variable, variables) ∷ []) values (kindIn (t .operand))
+      find-is (λ (f : Effect). SameRecords (f s t)) ((colon, colons) ∷ (value, values) ∷ (variable, variables) ∷ []) values
+          (kindIn (t .operand))
       (refl, (refl, (refl, tt))) refl
 
   pub count-kept : (familyIn (t .code) ≡ define → ⊥) → doneOf s t .state .numbers .count ≡ s .state .numbers .count
@@ -82,7 +83,8 @@ module _ (s : Scene) (t : Token) where
       tt
       ) refl) refl
 
-  pub records-kept : (familyIn (t .code) ≡ property → ⊥) → (familyIn (t .code) ≡ titled → ⊥) → doneOf s t .state .tree .held ≡ s .state .tree .held
+  pub records-kept : (familyIn (t .code) ≡ property → ⊥) → (familyIn (t .code) ≡ titled → ⊥)
+      → doneOf s t .state .tree .held ≡ s .state .tree .held
   unfolding actOf effects
   records-kept p n =
       done-is SameRecords

@@ -15,8 +15,11 @@ run-spec =
     (λ c κs. search needs)
     (λ c. search needs)
     (λ c κs.
-    let good = c .before .before .before .before .before .before .before .before .before .before .good .1 .1 .1 .0 in (
-      sym (c .before .before .before .before .ready .ensures) ∙ c .before .before .enum-told .given .1,
+    let enum-told = c .before .before .enum-told in
+    let ready = c .before .before .before .before .ready in
+    let good′ = c .before .before .before .before .before .before .before .before .before .before .good in
+    let good = good′ .1 .1 .1 .0 in (
+      sym (ready .ensures) ∙ enum-told .given .1,
       record {
         stack = search needs;
         back = search needs;
@@ -40,10 +43,27 @@ run-spec =
     (λ c. search needs)
     (λ c. search needs)
     (λ c. search needs)
-    (λ c. let a = c .before .before .before .before .before .before .before .before .before .args in rw (c .ended .ensures) (sym (run-known (a .budget) 0 (scene (now (a .rom)) (now (a .work)) (now (a .store)) (a .st)) Finished (sym (c .before .before .before .ready .ensures) ∙ c .before .enum-told2 .given .1) not-finished)))
+    (λ c.
+    let ready = c .before .before .before .ready in
+    let a = c .before .before .before .before .before .before .before .before .before .args in
+    rw (c .ended .ensures)
+        (sym (run-known (a .budget) 0 (scene (now (a .rom)) (now (a .work)) (now (a .store)) (a .st)) Finished
+        (sym (ready .ensures) ∙ c .before .enum-told2 .given .1) not-finished)))
     (λ c. search needs)
     (λ c. search needs)
-    (λ c. let a = c .before .before .before .before .before .before .before .before .before .before .args in rw (c .ended2 .ensures) (sym (run-known (a .budget) 0 (scene (now (a .rom)) (now (a .work)) (now (a .store)) (a .st)) (Refused _) (sym (c .before .before .before .before .ready .ensures) ∙ c .before .before .why .given .1) (not-going _))))
+    (λ c.
+    let why = c .before .before .why in
+    let ready = c .before .before .before .before .ready in
+    let a = c .before .before .before .before .before .before .before .before .before .before .args in
+    rw (c .ended2 .ensures)
+        (sym (run-known (a .budget) 0 (scene (now (a .rom)) (now (a .work)) (now (a .store)) (a .st)) (Refused _)
+        (sym (ready .ensures) ∙ why .given .1) (not-going _))))
     (λ c. search needs)
     (λ c. search needs)
-    (λ c. let a = c .before .before .before .before .before .before .before .before .before .before .args in rw (c .ended3 .ensures) (sym (run-known (a .budget) 0 (scene (now (a .rom)) (now (a .work)) (now (a .store)) (a .st)) (Spent _) (sym (c .before .before .before .before .ready .ensures) ∙ c .before .before .n .given .1) (not-spent _)))))
+    (λ c.
+    let n = c .before .before .n in
+    let ready = c .before .before .before .before .ready in
+    let a = c .before .before .before .before .before .before .before .before .before .before .args in
+    rw (c .ended3 .ensures)
+        (sym (run-known (a .budget) 0 (scene (now (a .rom)) (now (a .work)) (now (a .store)) (a .st)) (Spent _)
+        (sym (ready .ensures) ∙ n .given .1) (not-spent _)))))

@@ -37,4 +37,5 @@ one-spec =
     (λ c. one-by 0x57 halfOf (λ s. refl) (c .before .match .keys10) (c .half .ensures))
     (λ c. one-by 0x58 uHalfOf (λ s. refl) (c .before .match .keys11) (c .u-half .ensures))
     (λ c. one-by 0x59 doubleOf (λ s. refl) (c .before .match .keys12) (c .double .ensures))
-    (λ c. let s = c .before in absurd (none-left (Unit {0}) ones (s .args .number) (c .match .rest) (one-coded (s .args .number) (s .pre)))))
+    (λ c. let s = c .before in
+        absurd (none-left (Unit {0}) ones (s .args .number) (c .match .rest) (one-coded (s .args .number) (s .pre)))))

@@ -72,7 +72,8 @@ fresh-ready rom work store w s e =
     (parts-whole (freshState rom) (fresh-parts rom e) (omega arith))
 
 pub opened-ready : (rom : List ℕ) → headerOf rom ≡ 0 → readyOf (opened rom) ≡ Going
-opened-ready rom e = fresh-ready rom (replicate workSize 0) (replicate storeSize 0) (length-replicate {A = ℕ} workSize 0) (length-replicate {A = ℕ} storeSize 0) e
+opened-ready rom e = fresh-ready rom (replicate workSize 0) (replicate storeSize 0) (length-replicate {A = ℕ} workSize 0)
+    (length-replicate {A = ℕ} storeSize 0) e
 
 pub open-good : (rom work store : List ℕ) → length work ≡ workSize → length store ≡ storeSize → headerOf rom ≡ 0
     → openOf rom work store ≡ turn Going (freshState rom) (replicate workSize 0) (replicate storeSize 0)

@@ -1,5 +1,5 @@
--- What is left of whole call frames and program numbers when one is added, changed or taken away; and what is known of a number that is defined.
--- Assumes nothing.
+-- What is left of whole call frames and program numbers when one is added, changed or taken away; and what is known of a number that is
+-- defined. Assumes nothing.
 use Prim.Native.Nat.{ℕ, zero, suc, _+_, _-_, _<_, _≤_}
 use native.Mathlib.Omega.{arith}
 use mathlib.Core.Path.{_≡_, refl, sym, ap, _∙_}
@@ -48,7 +48,8 @@ base-open calls l = rw (lt-ltb 0 (calls .count) l)
 base-none : (calls : Calls) → calls .count ≤ 0 → baseOf calls ≡ 0
 base-none calls l = rw (le-ltb 0 (calls .count) l)
 
-last-base : (size : ℕ) (calls : Calls) (returns : ℕ) → Frames size calls returns → 0 < calls .count → getD (calls .bases) (calls .count - 1) 0 ≤ returns
+last-base : (size : ℕ) (calls : Calls) (returns : ℕ) → Frames size calls returns → 0 < calls .count
+    → getD (calls .bases) (calls .count - 1) 0 ≤ returns
 last-base size calls returns f l =
     let r = f .each (calls .count - 1) (omega arith) in
     let e = next-last calls returns (calls .count - 1) (omega arith) in
@@ -88,7 +89,8 @@ frames-moved size calls returns then f h = record { count = f .count; each = eac
     each i l = record { place = f .each i l .place; base = by i l (ltb (i + 1) (calls .count)) refl }
 
 -- one frame more
-module _ (size : ℕ) (calls : Calls) (returns place : ℕ) (wide : Bool) (f : Frames size calls returns) (room : calls .count < framesMost) (z : SizedCalls calls)
+module _ (size : ℕ) (calls : Calls) (returns place : ℕ) (wide : Bool) (f : Frames size calls returns) (room : calls .count < framesMost)
+    (z : SizedCalls calls)
     (p : Place size place) where
   abbrev more : Calls
   more = framedOf calls place wide returns
@@ -143,7 +145,8 @@ module _ (size : ℕ) (calls : Calls) (returns place : ℕ) (wide : Bool) (f : F
 pub frames-popped : (size : ℕ) (calls : Calls) (returns : ℕ) → Frames size calls returns → Frames size (unframedOf calls) returns
 frames-popped size calls returns f = record { count = omega (arith, f .count); each = each }
   where
-    by : (i : ℕ) → i < calls .count - 1 → (b : Bool) → ltb (i + 1) (calls .count - 1) ≡ b → getD (calls .bases) i 0 ≤ nextBase (unframedOf calls) returns i
+    by : (i : ℕ) → i < calls .count - 1 → (b : Bool) → ltb (i + 1) (calls .count - 1) ≡ b
+        → getD (calls .bases) i 0 ≤ nextBase (unframedOf calls) returns i
     by i l true e =
         let m = ltb-true (i + 1) (calls .count - 1) e in
         let p = next-inner calls returns i (omega arith) in
@@ -187,7 +190,8 @@ module _ (size : ℕ) (ns : Numbers) (n kind v : ℕ) (wide : Bool) (f : Entries
           let r = f .each i (omega arith) in
           record {
             name = rw (getD-set-other (ns .programs) (ns .count) i n 0 q) (r .name);
-            body = λ t. rw (getD-set-other (ns .values) (ns .count) i v 0 q) (r .body (rw (getD-set-other (ns .kinds) (ns .count) i kind 0 q) at t));
+            body = λ t. rw (getD-set-other (ns .values) (ns .count) i v 0 q)
+                (r .body (rw (getD-set-other (ns .kinds) (ns .count) i kind 0 q) at t));
           }
 
   pub numbers-defined : SizedNumbers defined
@@ -257,7 +261,8 @@ known-call : (kinds : List ℕ) (t : Token) → familyIn (t .code) ≡ call → 
 unfolding unknownOf
 known-call kinds t k h e = neqb→ne (kindOf kinds (t .number)) 0 (rw k at h) e
 
-known-assign : (kinds : List ℕ) (t : Token) → familyIn (t .code) ≡ assign → T (not (unknownOf kinds t)) → kindOf kinds (numberIn (t .operand)) ≡ value
+known-assign : (kinds : List ℕ) (t : Token) → familyIn (t .code) ≡ assign → T (not (unknownOf kinds t))
+    → kindOf kinds (numberIn (t .operand)) ≡ value
 unfolding unknownOf
 known-assign kinds t k h = not-unequal (kindOf kinds (numberIn (t .operand))) value (rw k at h)
 

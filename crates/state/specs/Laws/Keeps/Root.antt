@@ -43,9 +43,11 @@ unfolding readyOf wholeOf callsWhole numbersWhole wholeTree everyBelow liveAmong
 ready-before = refl
 
 goes-on : tokenTurn before .answer ≡ Going
-unfolding aimOf ends lows highs doubles table rowOf codeOf behindOf operandOf wholeToken decodeOf misplacedOf readOf refusalOf effects actOf doneOf tokenTurn
+unfolding aimOf ends lows highs doubles table rowOf codeOf behindOf operandOf wholeToken decodeOf misplacedOf readOf refusalOf effects actOf
+    doneOf tokenTurn
 goes-on = refl
 
 damaged-then : readyOf (then before (tokenTurn before)) ≡ Refused 7
-unfolding readyOf wholeOf callsWhole numbersWhole wholeTree everyBelow liveAmong aimOf ends lows highs doubles table rowOf codeOf behindOf operandOf wholeToken decodeOf misplacedOf readOf refusalOf effects actOf doneOf tokenTurn
+unfolding readyOf wholeOf callsWhole numbersWhole wholeTree everyBelow liveAmong aimOf ends lows highs doubles table rowOf codeOf behindOf
+    operandOf wholeToken decodeOf misplacedOf readOf refusalOf effects actOf doneOf tokenTurn
 damaged-then = refl

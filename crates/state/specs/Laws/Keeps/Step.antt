@@ -11,7 +11,8 @@ use Rattle.cells.specs.Choice.{pick}
 use Rattle.cells.specs.Laws.Tests.{tests, when-is, pick-is, neqb→ne}
 use Rattle.cells.specs.Laws.Facts.{holds, is-false, neither, not-both}
 use Rattle.rom.specs.Sizes.{dataMost, returnMost, framesMost, numbersMost, workSize, storeSize}
-use Rattle.tokens.specs.Family.{plain, always, choice, text, widen, divide, pickUp, rollUp, maybe, leave, fetch, store, define, kind, assign, call}
+use Rattle.tokens.specs.Family.{plain, always, choice, text, widen, divide, pickUp, rollUp, maybe, leave, fetch, store, define, kind}
+use Rattle.tokens.specs.Family.{assign, call}
 use Rattle.tokens.specs.Family.{encodeInt, encodeString, join, property, titled, newDevice, finishDevice}
 use Rattle.tokens.specs.Code.{codeOf, familyIn, takesIn, givesIn, returnTakesIn, returnGivesIn}
 use Rattle.tokens.specs.Body.{numberIn, unknownOf}
@@ -48,12 +49,14 @@ use Rattle.state.specs.Run.{then}
 use Rattle.state.specs.Laws.Sized.{Sized, SizedCalls, SizedNumbers}
 use Rattle.state.specs.Laws.Keeps.Tests.{none-held, find-at, _▸_}
 use Rattle.state.specs.Laws.Titles.{title-good}
-use Rattle.state.specs.Laws.Keeps.Whole.{Place, Frames, Entries, Parts, whole-facts, Lent, not-going, not-finished, ready-facts, Rooted}
+use Rattle.state.specs.Laws.Keeps.Whole.{Place, Frames, Entries, Parts, whole-facts, Lent, not-going, not-finished, ready-facts}
+use Rattle.state.specs.Laws.Keeps.Whole.{Rooted}
 use Rattle.state.specs.Laws.Keeps.Whole.{RootedAt}
 use Rattle.state.specs.Laws.Keeps.Whole.{Kept}
 use Rattle.state.specs.Laws.Keeps.Token.{takesBy, givesBy, shape, no-returns, branch-place, new-number, leave-open, behind-body}
 use Rattle.state.specs.Laws.Keeps.Tree.{child-rooted, child-sized, finish-rooted, put-nodes, put-rooted, put-sized}
-use Rattle.state.specs.Laws.Keeps.Parts.{left-length, base-below, frames-moved, frames-pushed, calls-pushed, frames-popped, entries-defined}
+use Rattle.state.specs.Laws.Keeps.Parts.{left-length, base-below, frames-moved, frames-pushed, calls-pushed, frames-popped}
+use Rattle.state.specs.Laws.Keeps.Parts.{entries-defined}
 use Rattle.state.specs.Laws.Keeps.Parts.{numbers-defined, entries-assigned, numbers-assigned, call-held, assign-value}
 use Rattle.state.specs.declared.state.State.{State}
 use Rattle.state.specs.declared.state.Calls.{Calls}
@@ -77,7 +80,8 @@ record AllowedAct (s : Scene) (t : Token) : Type 0 where
 allowed : (s : Scene) (t : Token) → refusalOf s t ≡ 0 → AllowedAct s t
 unfolding refusalOf
 allowed s t e =
-    let each = no 11 ▸ no 12 ▸ other ▸ no 13 ▸ no 18 ▸ no 15 ▸ no 14 ▸ no 16 ▸ no 19 ▸ no 20 ▸ no 21 ▸ no 22 ▸ no 23 ▸ no 24 ▸ no 25 ▸ no 26 ▸ tt in
+    let each = no 11 ▸ no 12 ▸ other ▸ no 13 ▸ no 18 ▸ no 15 ▸ no 14 ▸ no 16 ▸ no 19 ▸ no 20 ▸ no 21 ▸ no 22 ▸ no 23 ▸ no 24 ▸ no 25 ▸ no 26
+        ▸ tt in
     let n = none-held (refusals s t) each e in
     record {
       undefined = n .0;
@@ -140,7 +144,8 @@ module _ (s : Scene) (t : Token) (z : Sized (s .state)) (l : Lent s) (w : Parts 
   base-now = base-below (st .length) (st .calls) (st .back .height) (w .calls)
 
   -- what is lent is lent as before
-  lent-then : (r : Turn) → r .state .length ≡ st .length → r .state .finished ≡ st .finished → length (r .work) ≡ workSize → length (r .store) ≡ storeSize
+  lent-then : (r : Turn) → r .state .length ≡ st .length → r .state .finished ≡ st .finished → length (r .work) ≡ workSize
+      → length (r .store) ≡ storeSize
       → Lent (then s r)
   lent-then r e f g h =
       record {
@@ -181,7 +186,8 @@ module _ (s : Scene) (t : Token) (z : Sized (s .state)) (l : Lent s) (w : Parts 
   stacked x place f p = full x place (st .numbers) (st .«work_place») (s .work) f p (z .numbers) (w .numbers) (w .work) (l .work)
 
   -- other frames
-  called : (calls : Calls) (place : ℕ) (wide : Bool) → Place (st .length) place → SizedCalls calls → Frames (st .length) calls (st .back .height)
+  called : (calls : Calls) (place : ℕ) (wide : Bool) → Place (st .length) place → SizedCalls calls
+      → Frames (st .length) calls (st .back .height)
       → Kept s (goes s (withCalls st calls place wide))
   called calls place wide p zc fc =
       record {
@@ -234,7 +240,8 @@ module _ (s : Scene) (t : Token) (z : Sized (s .state)) (l : Lent s) (w : Parts 
   same-fit : Fit (stacksOf st)
   same-fit = record { cells = z .stack; height = w .height; back = z .back; returns = w .returns; base = base-now }
 
-  data-fit : (cells : List ℕ) (height : ℕ) → length cells ≡ dataMost → height ≤ dataMost → Fit (stacks cells height (st .back .cells) (st .back .height))
+  data-fit : (cells : List ℕ) (height : ℕ) → length cells ≡ dataMost → height ≤ dataMost
+      → Fit (stacks cells height (st .back .cells) (st .back .height))
   data-fit cells height e h = record { cells = e; height = h; back = z .back; returns = w .returns; base = base-now }
 
   gave-fit : (takes : ℕ) (cells : List ℕ) → st .stack .height - takes + length cells ≤ dataMost → Fit (gave st takes cells)
@@ -246,7 +253,8 @@ module _ (s : Scene) (t : Token) (z : Sized (s .state)) (l : Lent s) (w : Parts 
   takes-other : (f : ℕ) → familyIn (t .code) ≡ f → T (not (eqb f define)) → takesHere t ≡ takesIn (t .code)
   takes-other f k v = by (eqb (familyIn (t .code)) define) (rw k v)
     where
-      by : (b : Bool) → T (not b) → takesIn (t .code) + elim b [ true ↦ takesIn (codeOf (kindIn (t .operand))) | false ↦ 0 ] ≡ takesIn (t .code)
+      by : (b : Bool) → T (not b) → takesIn (t .code) + elim b [ true ↦ takesIn (codeOf (kindIn (t .operand))) | false ↦ 0 ] ≡ takesIn
+          (t .code)
       by true h = absurd h
       by false h = omega arith
 
@@ -361,7 +369,8 @@ module _ (s : Scene) (t : Token) (z : Sized (s .state)) (l : Lent s) (w : Parts 
   -- ---- family by family
   plain-fit : (op : ℕ) → st .stack .height - takesIn (t .code) + givesIn (t .code) ≤ dataMost
       → st .back .height - returnTakesIn (t .code) + returnGivesIn (t .code) ≤ returnMost
-      → baseOf (st .calls) ≤ st .back .height - returnTakesIn (t .code) + returnGivesIn (t .code) → Fit (plainOf (t .number) op (stacksOf st))
+      → baseOf (st .calls) ≤ st .back .height - returnTakesIn (t .code) + returnGivesIn (t .code)
+          → Fit (plainOf (t .number) op (stacksOf st))
   unfolding plainOf
   plain-fit op h r b =
       record {
@@ -382,7 +391,8 @@ module _ (s : Scene) (t : Token) (z : Sized (s .state)) (l : Lent s) (w : Parts 
       let b = base-now in
       let m = nltb→le (st .back .height - baseOf (st .calls)) (returnTakesIn (t .code)) x in
       let n = nltb→le returnMost over y in
-      stacked (plainOf (t .number) (operandIn (t .operand)) (stacksOf st)) (t .next) (plain-fit (operandIn (t .operand)) (omega arith) n (omega arith)) next-place
+      stacked (plainOf (t .number) (operandIn (t .operand)) (stacksOf st)) (t .next)
+          (plain-fit (operandIn (t .operand)) (omega arith) n (omega arith)) next-place
 
   keeps-divide : familyIn (t .code) ≡ divide → Kept s (Effects.reckoned s t)
   keeps-divide k =
@@ -391,7 +401,8 @@ module _ (s : Scene) (t : Token) (z : Sized (s .state)) (l : Lent s) (w : Parts 
       let r = no-returns (t .code) (t .number) divide (d .code) k tt in
       let b = base-now in
       stacked (plainOf (t .number) (operandIn (t .operand)) (stacksOf st)) (t .next)
-      (plain-fit (operandIn (t .operand)) (omega arith) (rw (r .0, r .1) (omega (arith, w .returns))) (rw (r .0, r .1) (omega arith))) next-place
+      (plain-fit (operandIn (t .operand)) (omega arith) (rw (r .0, r .1) (omega (arith, w .returns))) (rw (r .0, r .1) (omega arith)))
+          next-place
 
   keeps-always : familyIn (t .code) ≡ always → Kept s (Effects.branches s t)
   keeps-always k =
@@ -406,13 +417,15 @@ module _ (s : Scene) (t : Token) (z : Sized (s .state)) (l : Lent s) (w : Parts 
       let r = room choice k tt tt in
       stacked (gave st 1 []) (pick (eqb (cellOf s 0) 0) (aimed (t .operand)) (t .next)) (gave-fit 1 [] (omega arith))
       (pick-is (Place (st .length)) (eqb (cellOf s 0) 0) (aimed (t .operand)) (t .next)
-      (λ c. branch-place (s .rom) (st .length) (st .wide) (isOpen (st .calls)) (st .place) t d choice k tt (not-both (eqb (cellOf s 0) 0) (leadsOut (t .operand)) c q))
+      (λ c. branch-place (s .rom) (st .length) (st .wide) (isOpen (st .calls)) (st .place) t d choice k tt
+          (not-both (eqb (cellOf s 0) 0) (leadsOut (t .operand)) c q))
       (λ c. next-place))
 
   keeps-text : familyIn (t .code) ≡ text → Kept s (Effects.quotes s t)
   keeps-text k =
       let r = room text k tt tt in
-      stacked (gave st 0 ((romBase + Effects.textStart (t .operand)) ∷ Effects.textCount (t .operand) ∷ [])) (t .next) (gave-fit 0 _ (omega arith)) next-place
+      stacked (gave st 0 ((romBase + Effects.textStart (t .operand)) ∷ Effects.textCount (t .operand) ∷ [])) (t .next)
+          (gave-fit 0 _ (omega arith)) next-place
 
   keeps-widen : familyIn (t .code) ≡ widen → Kept s (Effects.widens s t)
   keeps-widen k = called (st .calls) (t .next) true next-place (z .calls) (w .calls)
@@ -420,12 +433,14 @@ module _ (s : Scene) (t : Token) (z : Sized (s .state)) (l : Lent s) (w : Parts 
   keeps-pick : familyIn (t .code) ≡ pickUp → Kept s (Effects.picked s t)
   keeps-pick k =
       stacked (pickedOf (stacksOf st)) (t .next)
-      (data-fit (pickedOf (stacksOf st) .cells) (st .stack .height) (length-set (st .stack .cells) (st .stack .height - 1) _ ∙ z .stack) (w .height)) next-place
+      (data-fit (pickedOf (stacksOf st) .cells) (st .stack .height) (length-set (st .stack .cells) (st .stack .height - 1) _ ∙ z .stack)
+          (w .height)) next-place
 
   keeps-roll : familyIn (t .code) ≡ rollUp → Kept s (Effects.rolled s t)
   keeps-roll k =
       stacked (rolledOf (stacksOf st)) (t .next)
-      (data-fit (rolledOf (stacksOf st) .cells) (st .stack .height - 1) (left-length (st .stack .cells) _ _ ∙ z .stack) (omega (arith, w .height))) next-place
+      (data-fit (rolledOf (stacksOf st) .cells) (st .stack .height - 1) (left-length (st .stack .cells) _ _ ∙ z .stack)
+          (omega (arith, w .height))) next-place
 
   keeps-maybe : familyIn (t .code) ≡ maybe → Kept s (Effects.doubled s t)
   keeps-maybe k =
@@ -436,14 +451,16 @@ module _ (s : Scene) (t : Token) (z : Sized (s .state)) (l : Lent s) (w : Parts 
       (pick-is Fit (eqb (cellOf s 0) 0) (stacksOf st) (doubledOf (stacksOf st)) (λ c. same-fit)
       (λ c.
       let e : givesMore s t ≡ 1 = m ∙ rw (is-false (eqb (cellOf s 0) 0) c) in
-      data-fit (doubledOf (stacksOf st) .cells) (st .stack .height + 1) (length-set (st .stack .cells) (st .stack .height) _ ∙ z .stack) (omega arith)))
+      data-fit (doubledOf (stacksOf st) .cells) (st .stack .height + 1) (length-set (st .stack .cells) (st .stack .height) _ ∙ z .stack)
+          (omega arith)))
       next-place
 
   keeps-leave : familyIn (t .code) ≡ leave → Kept s (Effects.leaves s t)
   keeps-leave k =
       let o = leave-open (s .rom) (st .length) (st .wide) (isOpen (st .calls)) (st .place) t d k in
       let c = ltb-true 0 (st .calls .count) o in
-      called (unframedOf (st .calls)) (getD (st .calls .places) (st .calls .count - 1) 0) (getD (st .calls .wides) (st .calls .count - 1) false)
+      called (unframedOf (st .calls)) (getD (st .calls .places) (st .calls .count - 1) 0)
+          (getD (st .calls .wides) (st .calls .count - 1) false)
       (w .calls .each (st .calls .count - 1) (omega arith) .place)
       (record { places = z .calls .places; wides = z .calls .wides; bases = z .calls .bases })
       (frames-popped (st .length) (st .calls) (st .back .height) (w .calls))
@@ -463,9 +480,11 @@ module _ (s : Scene) (t : Token) (z : Sized (s .state)) (l : Lent s) (w : Parts 
   keeps-assign : familyIn (t .code) ≡ assign → Kept s (Effects.assigns s t)
   keeps-assign k =
       let i = seekOf (st .numbers) (numberIn (t .operand)) in
-      full (gave st 1 []) (t .next) (assignedOf (st .numbers) i (cellOf s 0)) (st .«work_place») (s .work) (gave-fit 1 [] (omega (arith, w .height))) next-place
+      full (gave st 1 []) (t .next) (assignedOf (st .numbers) i (cellOf s 0)) (st .«work_place») (s .work)
+          (gave-fit 1 [] (omega (arith, w .height))) next-place
       (numbers-assigned (st .numbers) i (cellOf s 0) (z .numbers))
-      (entries-assigned (st .length) (st .numbers) i (cellOf s 0) (w .numbers) (assign-value (st .numbers) t k (unfold unknown in undefined-asked assign k)))
+      (entries-assigned (st .length) (st .numbers) i (cellOf s 0) (w .numbers)
+          (assign-value (st .numbers) t k (unfold unknown in undefined-asked assign k)))
       (w .work) (l .work)
 
   keeps-int : familyIn (t .code) ≡ encodeInt → Kept s (Effects.encodesInt s t)
@@ -474,7 +493,8 @@ module _ (s : Scene) (t : Token) (z : Sized (s .state)) (l : Lent s) (w : Parts 
       let r = room encodeInt k tt tt in
       let q = neither (ltb workSize (st .«work_place» + 4)) false (work-asked encodeInt k) .0 in
       full (gave st 1 ((workBase + st .«work_place») ∷ 4 ∷ [])) (t .next) (st .numbers) (st .«work_place» + 4)
-      (writtenOf (s .work) (st .«work_place») (bytesOf (cellOf s 0))) (gave-fit 1 _ (omega arith)) next-place (z .numbers) (w .numbers) (omega (arith, tests))
+      (writtenOf (s .work) (st .«work_place») (bytesOf (cellOf s 0))) (gave-fit 1 _ (omega arith)) next-place (z .numbers) (w .numbers)
+          (omega (arith, tests))
       (written-length (s .work) (st .«work_place») (bytesOf (cellOf s 0)) ∙ l .work)
 
   keeps-string : familyIn (t .code) ≡ encodeString → Kept s (Effects.encodesString s t)
@@ -484,9 +504,11 @@ module _ (s : Scene) (t : Token) (z : Sized (s .state)) (l : Lent s) (w : Parts 
       let q = work-asked encodeString k in
       let bytes = stringAt s (cellOf s 1) (cellOf s 0) ++ (0 ∷ []) in
       let m = string-most s (cellOf s 1) (cellOf s 0) in
-      let n : length bytes ≡ length (stringAt s (cellOf s 1) (cellOf s 0)) + 1 = length-append (stringAt s (cellOf s 1) (cellOf s 0)) (0 ∷ []) in
+      let n : length bytes ≡ length (stringAt s (cellOf s 1) (cellOf s 0)) + 1 =
+          length-append (stringAt s (cellOf s 1) (cellOf s 0)) (0 ∷ []) in
       full (gave st 2 ((workBase + st .«work_place») ∷ length bytes ∷ [])) (t .next) (st .numbers) (st .«work_place» + length bytes)
-      (writtenOf (s .work) (st .«work_place») bytes) (gave-fit 2 _ (omega arith)) next-place (z .numbers) (w .numbers) (omega (arith, tests))
+      (writtenOf (s .work) (st .«work_place») bytes) (gave-fit 2 _ (omega arith)) next-place (z .numbers) (w .numbers)
+          (omega (arith, tests))
       (written-length (s .work) (st .«work_place») bytes ∙ l .work)
 
   keeps-join : familyIn (t .code) ≡ join → Kept s (Effects.joins s t)
@@ -495,7 +517,8 @@ module _ (s : Scene) (t : Token) (z : Sized (s .state)) (l : Lent s) (w : Parts 
       let r = room join k tt tt in
       stacked (gave st 4 (cellOf s 3 ∷ ((cellOf s 2 + cellOf s 0) % 2 ^ 32) ∷ [])) (t .next) (gave-fit 4 _ (omega arith)) next-place
 
-  put : (takes : ℕ) (name v : List ℕ) → T (not (noRoomFor s name v)) → 1 ≤ length name → length name ≤ nameMost → Kept s (Effects.keepsOf s t takes name v)
+  put : (takes : ℕ) (name v : List ℕ) → T (not (noRoomFor s name v)) → 1 ≤ length name → length name ≤ nameMost
+      → Kept s (Effects.keepsOf s t takes name v)
   put takes name v f g h =
       let node = st .active in
       let c : Accepted (st .tree) (s .store) node name v =
@@ -543,12 +566,14 @@ module _ (s : Scene) (t : Token) (z : Sized (s .state)) (l : Lent s) (w : Parts 
       held = ltb→lt at (st .numbers .count) (call-held (st .numbers) t k (neither unknown false (undefined-asked call k) .0))
 
       fits : isBodyHere ≡ true → st .calls .count < framesMost
-      fits e = nleb→lt framesMost (st .calls .count) (not-both isBodyHere (leb framesMost (st .calls .count)) (holds isBodyHere e) (frames-asked call k))
+      fits e = nleb→lt framesMost (st .calls .count)
+          (not-both isBodyHere (leb framesMost (st .calls .count)) (holds isBodyHere e) (frames-asked call k))
 
       by : (b : Bool) → isBodyHere ≡ b → Kept s (Effects.calls s t)
       by true e =
           rw e
-          (called (framedOf (st .calls) (t .next) (st .wide) (st .back .height)) (getD (st .numbers .values) at 0) (getD (st .numbers .wides) at false)
+          (called (framedOf (st .calls) (t .next) (st .wide) (st .back .height)) (getD (st .numbers .values) at 0)
+              (getD (st .numbers .wides) at false)
           (w .numbers .each at held .body (holds isBodyHere e))
           (calls-pushed (st .length) (st .calls) (st .back .height) (t .next) (st .wide) (w .calls) (fits e) (z .calls) next-place)
           (frames-pushed (st .length) (st .calls) (st .back .height) (t .next) (st .wide) (w .calls) (fits e) (z .calls) next-place))
@@ -570,24 +595,28 @@ module _ (s : Scene) (t : Token) (z : Sized (s .state)) (l : Lent s) (w : Parts 
     module _ (v : ℕ) (b : kindIn (t .operand) ≡ colon → Place (st .length) v) where
       all-numbers : Entries (st .length) (numbered v)
       all-numbers =
-          entries-defined (st .length) (st .numbers) (newNumber (t .operand)) (kindIn (t .operand)) v (st .wide) (w .numbers) one-more (z .numbers)
+          entries-defined (st .length) (st .numbers) (newNumber (t .operand)) (kindIn (t .operand)) v (st .wide) (w .numbers) one-more
+              (z .numbers)
           (new-number (s .rom) (st .length) (st .wide) (isOpen (st .calls)) (st .place) t d k) b
 
       all-sized : SizedNumbers (numbered v)
       all-sized =
-          numbers-defined (st .length) (st .numbers) (newNumber (t .operand)) (kindIn (t .operand)) v (st .wide) (w .numbers) one-more (z .numbers)
+          numbers-defined (st .length) (st .numbers) (newNumber (t .operand)) (kindIn (t .operand)) v (st .wide) (w .numbers) one-more
+              (z .numbers)
           (new-number (s .rom) (st .length) (st .wide) (isOpen (st .calls)) (st .place) t d k) b
 
     keeps-colon : Kept s (Effects.colons s t)
     keeps-colon =
         let e = behind-body (s .rom) (st .length) (st .wide) (kindsOf (st .numbers)) (t .next) (next-place .to) in
         full (stacksOf st) (behindBody (bodyHere s t)) (numbered (t .next)) (st .«work_place») (s .work) same-fit
-        (record { from = omega (arith, next-place .from, e .0); to = e .1 }) (all-sized (t .next) (λ c. next-place)) (all-numbers (t .next) (λ c. next-place))
+        (record { from = omega (arith, next-place .from, e .0); to = e .1 }) (all-sized (t .next) (λ c. next-place))
+            (all-numbers (t .next) (λ c. next-place))
         (w .work) (l .work)
 
     keeps-value : (kindIn (t .operand) ≡ colon → ⊥) → Kept s (Effects.values s t)
     keeps-value n =
-        full (gave st 1 []) (t .next) (numbered (cellOf s 0)) (st .«work_place») (s .work) (gave-fit 1 [] (omega (arith, w .height))) next-place
+        full (gave st 1 []) (t .next) (numbered (cellOf s 0)) (st .«work_place») (s .work) (gave-fit 1 [] (omega (arith, w .height)))
+            next-place
         (all-sized (cellOf s 0) (λ c. absurd (n c))) (all-numbers (cellOf s 0) (λ c. absurd (n c))) (w .work) (l .work)
 
     keeps-variable : kindIn (t .operand) ≡ variable → (kindIn (t .operand) ≡ colon → ⊥) → Kept s (Effects.variables s t)
@@ -595,9 +624,12 @@ module _ (s : Scene) (t : Token) (z : Sized (s .state)) (l : Lent s) (w : Parts 
         let at = rounded (st .«work_place») in
         let v = workBase + at in
         let p = neither noVariable false (neither (noVariable || false) false (work-asked define k) .0) .0 in
-        let q = not-both (eqb (kindIn (t .operand)) variable) (ltb workSize (at + 4)) (holds _ (eq-eqb (kindIn (t .operand)) variable c)) p in
-        full (gave st 0 []) (t .next) (numbered v) (at + 4) (writtenOf (s .work) at (bytesOf 0)) (gave-fit 0 [] (omega (arith, w .height))) next-place
-        (all-sized v (λ c. absurd (n c))) (all-numbers v (λ c. absurd (n c))) (nltb→le workSize (at + 4) q) (written-length (s .work) at (bytesOf 0) ∙ l .work)
+        let q = not-both (eqb (kindIn (t .operand)) variable) (ltb workSize (at + 4)) (holds _ (eq-eqb (kindIn (t .operand)) variable c)) p
+            in
+        full (gave st 0 []) (t .next) (numbered v) (at + 4) (writtenOf (s .work) at (bytesOf 0)) (gave-fit 0 [] (omega (arith, w .height)))
+            next-place
+        (all-sized v (λ c. absurd (n c))) (all-numbers v (λ c. absurd (n c))) (nltb→le workSize (at + 4) q)
+            (written-length (s .work) at (bytesOf 0) ∙ l .work)
 
     keeps-define : Kept s (Effects.defines s t)
     keeps-define =
