@@ -32,6 +32,7 @@ use Rattle.reckon.specs.declared.turned.Fared.{Fared}
 use Rattle.reckon.specs.declared.turned.Fared.the-variants.{On, Cold, Not}
 use Rattle.reckon.specs.declared.turned.Turned.{Turned}
 use Rattle.machine.specs.Joints.Cruised.{oneAnswer, oneOf}
+use Rattle.rom.specs.Sizes.{dataMost, returnMost, romMost}
 
 -- ---- tokens, one after the other
 -- the first token of a run from a ready state
@@ -126,15 +127,15 @@ module _ (b n : ℕ) (w : RunResult) (s : Scene) (i : Going-on b w n s) (l : n <
 -- ---- a hot token, on the arrays of the scene's state
 -- what it asks of a ready state
 pub hot-fit : (s : Scene) → readyOf s ≡ Going
-    → (s .state .stack .height ≤ 64) × (baseOf (s .state .calls) ≤ s .state .back .height) × (s .state .back .height ≤ 32)
-    × (8 ≤ s .state .place) × (s .state .place ≤ s .state .length) × (s .state .length ≤ 16384) × HoldsFast (s .rom) (s .state .length)
+    → (s .state .stack .height ≤ dataMost) × (baseOf (s .state .calls) ≤ s .state .back .height) × (s .state .back .height ≤ returnMost)
+    × (8 ≤ s .state .place) × (s .state .place ≤ s .state .length) × (s .state .length ≤ romMost) × HoldsFast (s .rom) (s .state .length)
 hot-fit s e =
     let f = ready-facts s e in
     let p = whole-facts (s .state) (f .1) .0 in
     let h = base-below (s .state .length) (s .state .calls) (s .state .back .height) (p .calls) in
     (p .height, h, p .returns, p .place .from, p .place .to, under (f .0), f .0 .most)
   where
-    under : Lent s → s .state .length ≤ 16384
+    under : Lent s → s .state .length ≤ romMost
     under l = let a = l .most in let b = l .romTo in omega arith
 
 -- the numbers, and the state, with the cells, the heights and the place that it leaves
@@ -221,7 +222,7 @@ pub came : (t : Scene) (k : Core) (c p : List ℕ) (w : List Bool) (b n ki v : L
     → turn x (then (arraysOf (t .state))) work store ≡ tokenTurn t
 came t k c p w b n ki v wy pa ow ti si then x work store e h q q1 q2 q3 q4 q5 q6 q7 q8 q9 q10 q11 q12 =
     let q0 : joined (everyOn c p w b n ki v wy pa ow ti si (arraysOf (t .state))) k ≡ t .state =
-        rw (q, q1, q2, q3, q4, q5, q6, q7, q8, q9, q10, q11, q12) in
+    rw (q, q1, q2, q3, q4, q5, q6, q7, q8, q9, q10, q11, q12) in
     h (arraysOf (t .state)) (ap (λ (x : State). wholeTree (x .tree)) q0 ∙ tree-whole t e)
     ∙ ap (λ (x : State). tokenTurn (scene (t .rom) (t .work) (t .store) x)) q0
 

@@ -12,6 +12,12 @@ use acts::cold_token;
 use acts::fill_tables;
 use reckon::Fared;
 use reckon::fast;
+use rom::sizes::DATA_MOST;
+use rom::sizes::FRAMES_MOST;
+use rom::sizes::NODES_MOST;
+use rom::sizes::NUMBERS_MOST;
+use rom::sizes::PROPERTIES_MOST;
+use rom::sizes::RETURN_MOST;
 use rom::sizes::ROM_LEAST;
 use rom::sizes::ROM_MOST;
 use rom::sizes::STORE_SIZE;
@@ -89,19 +95,19 @@ fn cruise(
     rom: &[u8],
     work: &mut [u8],
     store: &mut [u8],
-    cells: &mut [u32; 64],
-    back: &mut [u32; 32],
-    places: &mut [u32; 16],
-    wides: &mut [bool; 16],
-    bases: &mut [usize; 16],
-    names: &mut [u32; 256],
-    kinds: &mut [u8; 256],
-    values: &mut [u32; 256],
-    ways: &mut [bool; 256],
-    parents: &mut [u32; 32],
-    owners: &mut [u32; 128],
-    titles: &mut [u32; 128],
-    sizes: &mut [u32; 128],
+    cells: &mut [u32; DATA_MOST],
+    back: &mut [u32; RETURN_MOST],
+    places: &mut [u32; FRAMES_MOST],
+    wides: &mut [bool; FRAMES_MOST],
+    bases: &mut [usize; FRAMES_MOST],
+    names: &mut [u32; NUMBERS_MOST],
+    kinds: &mut [u8; NUMBERS_MOST],
+    values: &mut [u32; NUMBERS_MOST],
+    ways: &mut [bool; NUMBERS_MOST],
+    parents: &mut [u32; NODES_MOST],
+    owners: &mut [u32; PROPERTIES_MOST],
+    titles: &mut [u32; PROPERTIES_MOST],
+    sizes: &mut [u32; PROPERTIES_MOST],
     start: Core,
     budget: u32,
 ) -> Cruised

@@ -83,9 +83,15 @@ pub moved-cut : (m : List ℕ) (s t c n : ℕ) → n ≡ min c (min (length m - 
 moved-cut m s t c n e =
     elim (decLe (length m - s) n) [
       | yes h ↦ let d = length-drop s m in
-          elim (decLe c n) [ yes g ↦ let p : n ≡ c = omega arith in
-              rw p | no g ↦ rw (take-all n (drop s m) (omega arith), take-all c (drop s m) (omega arith)) ]
+          elim (decLe c n) [
+            | yes g ↦ let p : n ≡ c = omega arith in
+                rw p
+            | no g ↦ rw (take-all n (drop s m) (omega arith), take-all c (drop s m) (omega arith))
+          ]
       | no h ↦
-          elim (decLe c n) [ yes g ↦ let p : n ≡ c = omega arith in
-              rw p | no g ↦ rw (← take-take n c (drop s m) (omega arith)) (written-take m t (partOf m s c) n (omega arith)) ]
+          elim (decLe c n) [
+            | yes g ↦ let p : n ≡ c = omega arith in
+                rw p
+            | no g ↦ rw (← take-take n c (drop s m) (omega arith)) (written-take m t (partOf m s c) n (omega arith))
+          ]
     ]

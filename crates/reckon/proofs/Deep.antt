@@ -17,6 +17,7 @@ use Rattle.tokens.specs.Code.{codeOf}
 use Rattle.state.specs.Stacks.{stacks, leftOf, cellsFrom, plainOf, turnedOf}
 use Rattle.reckon.proofs.Made.{Works}
 use Rattle.state.specs.Joints.Reckoning.{reckonedAs, divideOf, pickUpOf, rollUpOf, maybeOf}
+use Rattle.rom.specs.Sizes.{dataMost}
 
 -- ---- what u/mod's answer says
 abbrev undivided : Divided → Bool
@@ -46,7 +47,7 @@ module _ (x y : ℕ) where
       (z, ap under d, ap over d)
 
 -- ---- the ways out
-module _ (h b : ℕ) (c : List ℕ) (t : h ≤ 64) where
+module _ (h b : ℕ) (c : List ℕ) (t : h ≤ dataMost) where
   pub divide-low : h < 2 → Works divideOf c h b 14 h c
   divide-low l = (t, λ k. rw (lt-ltb _ _ l))
 
@@ -56,7 +57,7 @@ module _ (h b : ℕ) (c : List ℕ) (t : h ≤ 64) where
 
     divide-left : (k : List ℕ)
         → reckonedAs 0 (stacks (set (set c (h - 2) (getD c (h - 2) 0 % getD c (h - 1) 0)) (h - 1) (getD c (h - 2) 0 / getD c (h - 1) 0)) h k
-            b) ≡ reckonedAs 0 (plainOf 0x2B 0 (stacks c h k b))
+        b) ≡ reckonedAs 0 (plainOf 0x2B 0 (stacks c h k b))
     unfolding plainOf leftOf codeOf rowOf table ends lows highs doubles
     divide-left k =
         let y : h - 1 - 0 ≡ h - 1 = omega arith in
@@ -112,11 +113,11 @@ module _ (h b : ℕ) (c : List ℕ) (t : h ≤ 64) where
     maybe-zero z = (t, λ k. simp (le-ltb _ _ l, at-top, z))
 
     module _ (z : getD c (h - 1) 0 ≡ 0 → ⊥) where
-      pub maybe-high : 64 ≤ h → Works maybeOf c h b 15 h c
-      maybe-high m = let x : 64 < h + 1 = omega arith in (t, λ k. simp (le-ltb _ _ l, at-top, ne-eqb _ _ z, lt-ltb _ _ x))
+      pub maybe-high : dataMost ≤ h → Works maybeOf c h b 15 h c
+      maybe-high m = let x : dataMost < h + 1 = omega arith in (t, λ k. simp (le-ltb _ _ l, at-top, ne-eqb _ _ z, lt-ltb _ _ x))
 
-      pub maybe-fine : h < 64 → Works maybeOf c h b 0 (h + 1) (set c h (getD c (h - 1) 0))
-      maybe-fine m = let x : h + 1 ≤ 64 = omega arith in (x, λ k. simp (le-ltb _ _ l, at-top, ne-eqb _ _ z, le-ltb _ _ x))
+      pub maybe-fine : h < dataMost → Works maybeOf c h b 0 (h + 1) (set c h (getD c (h - 1) 0))
+      maybe-fine m = let x : h + 1 ≤ dataMost = omega arith in (x, λ k. simp (le-ltb _ _ l, at-top, ne-eqb _ _ z, le-ltb _ _ x))
 
 -- ---- roll's loop: what is left to be moved, from a place up to an end, and then the cell that goes to the top
 abbrev pub leftToTurn : List ℕ → ℕ → ℕ → ℕ → List ℕ

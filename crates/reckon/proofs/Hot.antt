@@ -75,42 +75,42 @@ form-formed rom size wide q form h = by (eqb form 0) (eqb form 1) (eqb form 3) r
     by false false false x y z t = absurd t
 
 module _ (rom : List ℕ) (size : ℕ) (wide within : Bool) (p : ℕ) (n : ℕ) (e : n ≡ byteOf rom p) (hot : T (hotFamily (familyIn (codeOf n))))
-    where
-  abbrev nextOf : ℕ
-  nextOf = behindOf rom wide (p + 1) (formIn (codeOf n))
+  where
+    abbrev nextOf : ℕ
+    nextOf = behindOf rom wide (p + 1) (formIn (codeOf n))
 
-  abbrev operandHere : Operand
-  operandHere = operandOf rom size wide (p + 1) (formIn (codeOf n))
+    abbrev operandHere : Operand
+    operandHere = operandOf rom size wide (p + 1) (formIn (codeOf n))
 
-  hot-decoded : decodeOf rom size wide p ≡ tokenIfWhole size n (codeOf n) operandHere nextOf
-  unfolding decodeOf
-  hot-decoded =
-      let s : isDouble (byteOf rom p) ≡ false = rw (← e) (hot-token n hot .single) in
-      rw (s, ← e)
+    hot-decoded : decodeOf rom size wide p ≡ tokenIfWhole size n (codeOf n) operandHere nextOf
+    unfolding decodeOf
+    hot-decoded =
+        let s : isDouble (byteOf rom p) ≡ false = rw (← e) (hot-token n hot .single) in
+        rw (s, ← e)
 
-  judged-hot : (b : Bool) → judged within (pick b Cut (Whole (tokenMade n (codeOf n) operandHere nextOf)))
-      ≡ pick b (Unread 10) (Good (tokenMade n (codeOf n) operandHere nextOf))
-  unfolding misplacedOf
-  judged-hot true = refl
-  judged-hot false = rw (hot-token n hot .anywhere)
+    judged-hot : (b : Bool) → judged within (pick b Cut (Whole (tokenMade n (codeOf n) operandHere nextOf)))
+        ≡ pick b (Unread 10) (Good (tokenMade n (codeOf n) operandHere nextOf))
+    unfolding misplacedOf
+    judged-hot true = refl
+    judged-hot false = rw (hot-token n hot .anywhere)
 
-  -- what is read there
-  pub hot-read : readOf rom size wide within p ≡ pick (ltb size nextOf) (Unread 10) (Good (tokenMade n (codeOf n) operandHere nextOf))
-  unfolding readOf tokenIfWhole
-  hot-read =
-      rw (hot-decoded, hot-token n hot .named, form-formed rom size wide (p + 1) (formIn (codeOf n)) (hot-token n hot .form))
-      (judged-hot (ltb size nextOf))
+    -- what is read there
+    pub hot-read : readOf rom size wide within p ≡ pick (ltb size nextOf) (Unread 10) (Good (tokenMade n (codeOf n) operandHere nextOf))
+    unfolding readOf tokenIfWhole
+    hot-read =
+        rw (hot-decoded, hot-token n hot .named, form-formed rom size wide (p + 1) (formIn (codeOf n)) (hot-token n hot .form))
+        (judged-hot (ltb size nextOf))
 
 -- ---- a turn with such a token: cut off, or done
 pub hot-turn : (s : Scene) (n : ℕ) → n ≡ byteOf (s .rom) (s .state .place) → T (hotFamily (familyIn (codeOf n)))
     → tokenTurn s ≡ pick (ltb (s .state .length) (behindOf (s .rom) (s .state .wide) (s .state .place + 1) (formIn (codeOf n))))
-        (refuse 10 s)
+    (refuse 10 s)
     (doneOf s (tokenMade n (codeOf n) (operandOf (s .rom) (s .state .length) (s .state .wide) (s .state .place + 1) (formIn (codeOf n)))
-        (behindOf (s .rom) (s .state .wide) (s .state .place + 1) (formIn (codeOf n)))))
+    (behindOf (s .rom) (s .state .wide) (s .state .place + 1) (formIn (codeOf n)))))
 unfolding tokenTurn
 hot-turn s n e hot =
     ap (λ (r : Read). readTurn s r) (hot-read (s .rom) (s .state .length) (s .state .wide) (isOpen (s .state .calls))
-        (s .state .place) n e hot)
+    (s .state .place) n e hot)
     ∙ by (ltb (s .state .length) (behindOf (s .rom) (s .state .wide) (s .state .place + 1) (formIn (codeOf n))))
   where
     by : (b : Bool)
@@ -119,9 +119,9 @@ hot-turn s n e hot =
         (Good (tokenMade n (codeOf n) (operandOf (s .rom) (s .state .length) (s .state .wide) (s .state .place + 1) (formIn (codeOf n)))
         (behindOf (s .rom) (s .state .wide) (s .state .place + 1) (formIn (codeOf n))))))
         ≡ pick b (refuse 10 s)
-            (doneOf s
-            (tokenMade n (codeOf n) (operandOf (s .rom) (s .state .length) (s .state .wide) (s .state .place + 1) (formIn (codeOf n)))
-            (behindOf (s .rom) (s .state .wide) (s .state .place + 1) (formIn (codeOf n)))))
+        (doneOf s
+        (tokenMade n (codeOf n) (operandOf (s .rom) (s .state .length) (s .state .wide) (s .state .place + 1) (formIn (codeOf n)))
+        (behindOf (s .rom) (s .state .wide) (s .state .place + 1) (formIn (codeOf n)))))
     by true = refl
     by false = refl
 
@@ -193,9 +193,9 @@ cut-off s l = rw (lt-ltb (s .state .length) _ beyond)
 
     beyond : s .state .length
         < behindOf (s .rom) (s .state .wide) (behindNumber (s .rom) (s .state .place))
-            (formIn (codeOf (numberOf (s .rom) (s .state .place))))
+        (formIn (codeOf (numberOf (s .rom) (s .state .place))))
     beyond =
         let a = first in
         let b = behind-form (s .rom) (s .state .wide) (behindNumber (s .rom) (s .state .place))
-            (formIn (codeOf (numberOf (s .rom) (s .state .place)))) in
+        (formIn (codeOf (numberOf (s .rom) (s .state .place)))) in
         omega arith

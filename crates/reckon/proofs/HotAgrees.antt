@@ -67,7 +67,7 @@ module _ (x : Stacks) where
 abbrev pub turnOf : Scene → ℕ → ℕ → ℕ → ℕ → List ℕ → List ℕ → Turn
 turnOf s why next g r d l =
     turn (pick (eqb why 0) Going (Refused why)) (packedFast (s .state) d g l r (pick (eqb why 0) next (s .state .place))) (s .work)
-        (s .store)
+    (s .store)
 
 -- a taken branch, to the height g
 abbrev takenOf : Scene → Aim → ℕ → Turn
@@ -118,7 +118,7 @@ module _ (s : Scene) (n : ℕ) (e : n ≡ byteOf (s .rom) (s .state .place)) whe
 
     pub plain-turn : (why g r : ℕ) (d l : List ℕ) → behindPlain (codeOf n) (s .state .place) ≤ s .state .length
         → reckonedAs why (stacks d g l r) ≡ reckonOf n (operandPlain (s .rom) (codeOf n) (s .state .place)) (stacksOf (s .state))
-            (baseOf (s .state .calls))
+        (baseOf (s .state .calls))
         → tokenTurn s ≡ turnOf s why (behindPlain (codeOf n) (s .state .place)) g r d l
     plain-turn why g r d l h q′ =
         let q = behind-plain (s .rom) (s .state .length) (s .state .wide) (s .state .place) n f in
@@ -131,7 +131,7 @@ module _ (s : Scene) (n : ℕ) (e : n ≡ byteOf (s .rom) (s .state .place)) whe
 
   -- ---- u/mod, pick, roll and ?dup
   abbrev Deep : (Stacks → Reckoned) → Type 0
-  Deep f = (why g r : ℕ) (d l : List ℕ) → s .state .place < s .state .length → s .state .stack .height ≤ 64
+  Deep f = (why g r : ℕ) (d l : List ℕ) → s .state .place < s .state .length → s .state .stack .height ≤ dataMost
       → reckonedAs why (stacks d g l r) ≡ f (stacksOf (s .state))
       → tokenTurn s ≡ turnOf s why (s .state .place + 1) g r d l
 
@@ -141,8 +141,8 @@ module _ (s : Scene) (n : ℕ) (e : n ≡ byteOf (s .rom) (s .state .place)) whe
   bare k c z = let y : formIn (codeOf n) ≡ 0 = rw c z in (rw y, rw y)
 
   deep : (f : Stacks → Reckoned) (k : ℕ) → codeOf n ≡ k → formIn k ≡ 0 → T (hotFamily (familyIn k))
-      → (s .state .stack .height ≤ 64 → doneOf s (tokenMade n k Nothing (s .state .place + 1)) ≡ outcomeTurn s (s .state .place + 1)
-          (f (stacksOf (s .state))))
+      → (s .state .stack .height ≤ dataMost → doneOf s (tokenMade n k Nothing (s .state .place + 1)) ≡ outcomeTurn s (s .state .place + 1)
+      (f (stacksOf (s .state))))
       → Unmoved (stacksOf (s .state)) (f (stacksOf (s .state))) → Deep f
   deep f k c z hot done u why g r d l p h q =
       let b = bare k c z in
@@ -157,7 +157,7 @@ module _ (s : Scene) (n : ℕ) (e : n ≡ byteOf (s .rom) (s .state .place)) whe
   divide-turn i =
       deep divideOf 0x0700_0022 (rw i) refl tt
       (λ h. ap (λ (j : ℕ). doneOf s (tokenMade j 0x0700_0022 Nothing (s .state .place + 1))) i
-          ∙ divide-done s Nothing (s .state .place + 1) h refl)
+      ∙ divide-done s Nothing (s .state .place + 1) h refl)
       (divide-unmoved (stacksOf (s .state)))
 
   pub pick-turn : codeOf n ≡ 0x0800_0011 → Deep pickUpOf
@@ -178,27 +178,27 @@ module _ (s : Scene) (n : ℕ) (e : n ≡ byteOf (s .rom) (s .state .place)) whe
 
   offset-here : (k : ℕ) → codeOf n ≡ k → formIn k ≡ 3
       → (nextHere ≡ behindBranch (s .state .wide) (s .state .place))
-          × (operandHere ≡ Branch (offsetOf (s .rom) (s .state .wide) (s .state .place + 1)) aimHere)
+      × (operandHere ≡ Branch (offsetOf (s .rom) (s .state .wide) (s .state .place + 1)) aimHere)
   unfolding behindOf operandOf
   offset-here k c z = let y : formIn (codeOf n) ≡ 3 = rw c z in (rw y, rw y)
 
   branch-done : (k : ℕ) → codeOf n ≡ k → formIn k ≡ 3 → T (hotFamily (familyIn k))
       → behindBranch (s .state .wide) (s .state .place) ≤ s .state .length
       → tokenTurn s ≡ doneOf s (tokenMade n k (Branch (offsetOf (s .rom) (s .state .wide) (s .state .place + 1)) aimHere)
-          (behindBranch (s .state .wide) (s .state .place)))
+      (behindBranch (s .state .wide) (s .state .place)))
   branch-done k c z hot l =
       let b = offset-here k c z in
       hot-done (rw c hot) (behindBranch (s .state .wide) (s .state .place)) (b .0) l
       ∙ ap (λ (o : Operand). doneOf s (tokenMade n (codeOf n) o (behindBranch (s .state .wide) (s .state .place)))) (b .1)
       ∙ ap (λ (j : ℕ). doneOf s (tokenMade n j (Branch (offsetOf (s .rom) (s .state .wide) (s .state .place + 1)) aimHere)
-          (behindBranch (s .state .wide) (s .state .place)))) c
+      (behindBranch (s .state .wide) (s .state .place)))) c
 
   branch-cut : (k : ℕ) → codeOf n ≡ k → formIn k ≡ 3 → T (hotFamily (familyIn k))
       → s .state .length < behindBranch (s .state .wide) (s .state .place)
       → tokenTurn s ≡ refuse 10 s
   branch-cut k c z hot l = hot-cut (rw c hot) (behindBranch (s .state .wide) (s .state .place)) (offset-here k c z .0) l
 
-  module _ (c : codeOf n ≡ 0x0303_0000) (h : s .state .stack .height ≤ 64) where
+  module _ (c : codeOf n ≡ 0x0303_0000) (h : s .state .stack .height ≤ dataMost) where
     pub always-cut : s .state .length < behindBranch (s .state .wide) (s .state .place) → tokenTurn s ≡ refuse 10 s
     always-cut l = branch-cut 0x0303_0000 c refl tt l
 
@@ -213,7 +213,7 @@ module _ (s : Scene) (n : ℕ) (e : n ≡ byteOf (s .rom) (s .state .place)) whe
         by (Inside to) = always-inside s n _ _ h to
         by Outside = always-outside s n _ _ h
 
-  module _ (c : codeOf n ≡ 0x0403_0010) (h : s .state .stack .height ≤ 64) where
+  module _ (c : codeOf n ≡ 0x0403_0010) (h : s .state .stack .height ≤ dataMost) where
     pub choice-cut : s .state .length < behindBranch (s .state .wide) (s .state .place) → tokenTurn s ≡ refuse 10 s
     choice-cut l = branch-cut 0x0403_0010 c refl tt l
 
@@ -236,7 +236,7 @@ module _ (s : Scene) (n : ℕ) (e : n ≡ byteOf (s .rom) (s .state .place)) whe
 
       pub choice-fallen : 1 ≤ s .state .stack .height → (cellOf s 0 ≡ 0 → ⊥)
           → tokenTurn s ≡ goes s (packedFast (s .state) (s .state .stack .cells) (s .state .stack .height - 1) (s .state .back .cells)
-              (s .state .back .height) (behindBranch (s .state .wide) (s .state .place)))
+          (s .state .back .height) (behindBranch (s .state .wide) (s .state .place)))
       unfolding leftOf
       choice-fallen o z =
           let y : s .state .stack .height - 1 + 0 ≡ s .state .stack .height - 1 = omega arith in

@@ -25,6 +25,7 @@ use Rattle.state.specs.Effects.{actOf, effects, operandIn, gave}
 use Rattle.state.specs.Step.{doneOf}
 use Rattle.state.specs.Laws.Done.{carried, stopped}
 use Rattle.state.specs.Joints.Reckoning.{tooLow, tooHigh, Reckoned, reckonedAs, reckonOf, divideOf, pickUpOf, rollUpOf, maybeOf}
+use Rattle.rom.specs.Sizes.{dataMost}
 
 -- what holds of each of a list holds of what is among it
 abbrev Each : (ℕ → Type 0) → List ℕ → Type 0
@@ -48,7 +49,7 @@ abbrev shortRefusal : Scene → ℕ → ℕ
 shortRefusal s k =
     pick (ltb (s .state .stack .height) (takesIn k) || false || false) 14
     (pick (backTrouble k (s .state .back .height) (baseOf (s .state .calls)) || false) 16
-    (pick (ltb 64 (s .state .stack .height - takesIn k + givesIn k)) 15 0))
+    (pick (ltb dataMost (s .state .stack .height - takesIn k + givesIn k)) 15 0))
 
 module _ (s : Scene) (n : ℕ) (o : Operand) (next : ℕ) where
   abbrev Refuses : ℕ → Type 0
@@ -57,10 +58,19 @@ module _ (s : Scene) (n : ℕ) (o : Operand) (next : ℕ) where
   plain-refuses : (k : ℕ) → T (among k plainCodes) → Refuses k
   unfolding refusalOf
   plain-refuses k t =
-      each Refuses plainCodes k
-          (refl, (refl,
-          (refl, (refl,
-          (refl, (refl, (refl, (refl, (refl, (refl, (refl, (refl, (refl, (refl, (refl, (refl, (refl, (refl, (refl, tt))))))))))))))))))) t
+      each Refuses plainCodes k (
+        refl,
+        (
+          refl,
+          (
+            refl,
+            (
+              refl,
+              (refl, (refl, (refl, (refl, (refl, (refl, (refl, (refl, (refl, (refl, (refl, (refl, (refl, (refl, (refl, tt))))))))))))))),
+            ),
+          ),
+        ),
+      ) t
 
   abbrev Acts : ℕ → Type 0
   Acts k = actOf s (tokenMade n k o next) ≡ goes s (moved (s .state) (plainOf n (operandIn o) (stacksOf (s .state))) next)
@@ -68,10 +78,19 @@ module _ (s : Scene) (n : ℕ) (o : Operand) (next : ℕ) where
   plain-acts : (k : ℕ) → T (among k plainCodes) → Acts k
   unfolding actOf effects
   plain-acts k t =
-      each Acts plainCodes k
-          (refl, (refl,
-          (refl, (refl,
-          (refl, (refl, (refl, (refl, (refl, (refl, (refl, (refl, (refl, (refl, (refl, (refl, (refl, (refl, (refl, tt))))))))))))))))))) t
+      each Acts plainCodes k (
+        refl,
+        (
+          refl,
+          (
+            refl,
+            (
+              refl,
+              (refl, (refl, (refl, (refl, (refl, (refl, (refl, (refl, (refl, (refl, (refl, (refl, (refl, (refl, (refl, tt))))))))))))))),
+            ),
+          ),
+        ),
+      ) t
 
   pub plain-done : familyIn (codeOf n) ≡ plain
       → doneOf s (tokenMade n (codeOf n) o next) ≡ outcomeTurn s next
@@ -89,8 +108,8 @@ module _ (s : Scene) (n : ℕ) (o : Operand) (next : ℕ) where
           → tooHigh (codeOf n) (s .state .stack .height) ≡ z
           → doneOf s (tokenMade n (codeOf n) o next)
           ≡ outcomeTurn s next (pick x (reckonedAs 14 (stacksOf (s .state)))
-              (pick y (reckonedAs 16 (stacksOf (s .state)))
-              (pick z (reckonedAs 15 (stacksOf (s .state))) (reckonedAs 0 (plainOf n (operandIn o) (stacksOf (s .state)))))))
+          (pick y (reckonedAs 16 (stacksOf (s .state)))
+          (pick z (reckonedAs 15 (stacksOf (s .state))) (reckonedAs 0 (plainOf n (operandIn o) (stacksOf (s .state)))))))
       by true y z p q r = stopped s (tokenMade n (codeOf n) o next) 14 refl (plain-refuses (codeOf n) t ∙ rw p)
       by false true z p q r = stopped s (tokenMade n (codeOf n) o next) 16 refl (plain-refuses (codeOf n) t ∙ rw (p, q))
       by false false true p q r = stopped s (tokenMade n (codeOf n) o next) 15 refl (plain-refuses (codeOf n) t ∙ rw (p, q, r))
@@ -115,20 +134,43 @@ module _ (rom : List ℕ) (size : ℕ) (wide : Bool) (p n : ℕ) (f : familyIn (
   behind-each : (k : ℕ) → T (among k plainCodes) → Behind k
   unfolding behindOf operandOf
   behind-each k t =
-      each Behind plainCodes k
-          ((refl, refl),
-          ((refl, refl),
-          ((refl, refl),
-          ((refl, refl),
-          ((refl, refl),
-          ((refl, refl),
-          ((refl, refl),
-          ((refl, refl),
-          ((refl, refl),
-          ((refl, refl),
-          ((refl, refl),
-          ((refl, refl),
-          ((refl, refl), ((refl, refl), ((refl, refl), ((refl, refl), ((refl, refl), ((refl, refl), ((refl, refl), tt))))))))))))))))))) t
+      each Behind plainCodes k (
+        (refl, refl),
+        (
+          (refl, refl),
+          (
+            (refl, refl),
+            (
+              (refl, refl),
+              (
+                (refl, refl),
+                (
+                  (refl, refl),
+                  (
+                    (refl, refl),
+                    (
+                      (refl, refl),
+                      (
+                        (refl, refl),
+                        (
+                          (refl, refl),
+                          (
+                            (refl, refl),
+                            (
+                              (refl, refl),
+                              ((refl, refl), ((refl, refl), ((refl, refl), ((refl, refl), ((refl, refl), ((refl, refl), ((refl, refl), tt))))))),
+                            ),
+                          ),
+                        ),
+                      ),
+                    ),
+                  ),
+                ),
+              ),
+            ),
+          ),
+        ),
+      ) t
 
   pub behind-plain : behindOf rom wide (p + 1) (formIn (codeOf n)) ≡ behindPlain (codeOf n) p
   behind-plain = behind-each (codeOf n) (plain-coded n (codeOf n) refl f) .0
@@ -137,12 +179,12 @@ module _ (rom : List ℕ) (size : ℕ) (wide : Bool) (p n : ℕ) (f : familyIn (
   operand-plain = behind-each (codeOf n) (plain-coded n (codeOf n) refl f) .1
 
 -- ---- bbranch and b?branch
-module _ (s : Scene) (n bits next : ℕ) (high : s .state .stack .height ≤ 64) where
+module _ (s : Scene) (n bits next : ℕ) (high : s .state .stack .height ≤ dataMost) where
   pub always-inside : (to : ℕ) → doneOf s (tokenMade n 0x0303_0000 (Branch bits (Inside to)) next) ≡ goes s (movedTo (s .state) to)
   unfolding refusalOf actOf effects
   always-inside to =
       carried s (tokenMade n 0x0303_0000 (Branch bits (Inside to)) next)
-      (simp (le-ltb (s .state .stack .height) 0 (omega arith), le-ltb 64 (s .state .stack .height - 0 + 0) (omega arith)))
+      (simp (le-ltb (s .state .stack .height) 0 (omega arith), le-ltb dataMost (s .state .stack .height - 0 + 0) (omega arith)))
 
   pub always-outside : doneOf s (tokenMade n 0x0303_0000 (Branch bits Outside) next) ≡ refuse 19 s
   unfolding refusalOf
@@ -159,7 +201,7 @@ module _ (s : Scene) (n bits next : ℕ) (high : s .state .stack .height ≤ 64)
     unfolding refusalOf actOf effects
     choice-inside to z =
         carried s (tokenMade n 0x0403_0010 (Branch bits (Inside to)) next)
-        (simp (le-ltb (s .state .stack .height) 1 low, eq-eqb _ _ z, le-ltb 64 (s .state .stack .height - 1 + 0) (omega arith)))
+        (simp (le-ltb (s .state .stack .height) 1 low, eq-eqb _ _ z, le-ltb dataMost (s .state .stack .height - 1 + 0) (omega arith)))
         ∙ rw (eq-eqb (cellOf s 0) 0 z)
 
     pub choice-outside : cellOf s 0 ≡ 0 → doneOf s (tokenMade n 0x0403_0010 (Branch bits Outside) next) ≡ refuse 19 s
@@ -173,11 +215,16 @@ module _ (s : Scene) (n bits next : ℕ) (high : s .state .stack .height ≤ 64)
     unfolding refusalOf actOf effects
     choice-past aim z =
         carried s (tokenMade n 0x0403_0010 (Branch bits aim) next)
-        (simp (le-ltb (s .state .stack .height) 1 low, ne-eqb (cellOf s 0) 0 z, le-ltb 64 (s .state .stack .height - 1 + 0) (omega arith)))
+        (simp (
+          le-ltb (s .state .stack .height) 1 low,
+          ne-eqb (cellOf s 0) 0 z,
+          le-ltb dataMost (s .state .stack .height - 1 + 0)
+              (omega arith),
+        ))
         ∙ rw (ne-eqb (cellOf s 0) 0 z)
 
 -- ---- u/mod, pick, roll and ?dup
-module _ (s : Scene) (o : Operand) (next : ℕ) (high : s .state .stack .height ≤ 64) where
+module _ (s : Scene) (o : Operand) (next : ℕ) (high : s .state .stack .height ≤ dataMost) where
   abbrev h : ℕ
   h = s .state .stack .height
 
@@ -187,14 +234,14 @@ module _ (s : Scene) (o : Operand) (next : ℕ) (high : s .state .stack .height 
     where
       by : (x y : Bool) → ltb h 2 ≡ x → eqb (cellOf s 0) 0 ≡ y → doneOf s (tokenMade 0x2B 0x0700_0022 o next)
           ≡ outcomeTurn s next (pick x (reckonedAs 14 (stacksOf (s .state)))
-              (pick y (reckonedAs 21 (stacksOf (s .state))) (reckonedAs 0 (plainOf 0x2B 0 (stacksOf (s .state))))))
+          (pick y (reckonedAs 21 (stacksOf (s .state))) (reckonedAs 0 (plainOf 0x2B 0 (stacksOf (s .state))))))
       by true y p q = stopped s (tokenMade 0x2B 0x0700_0022 o next) 14 refl (rw p)
       by false true p q =
           let l : 2 ≤ h = ltb-false h 2 p in
-          stopped s (tokenMade 0x2B 0x0700_0022 o next) 21 refl (rw (p, le-ltb 64 (h - 2 + 2) (omega arith), q))
+          stopped s (tokenMade 0x2B 0x0700_0022 o next) 21 refl (rw (p, le-ltb dataMost (h - 2 + 2) (omega arith), q))
       by false false p q =
           let l : 2 ≤ h = ltb-false h 2 p in
-          carried s (tokenMade 0x2B 0x0700_0022 o next) (rw (p, le-ltb 64 (h - 2 + 2) (omega arith), q)) ∙ rw e
+          carried s (tokenMade 0x2B 0x0700_0022 o next) (rw (p, le-ltb dataMost (h - 2 + 2) (omega arith), q)) ∙ rw e
 
   pub pick-done : (n : ℕ) → doneOf s (tokenMade n 0x0800_0011 o next) ≡ outcomeTurn s next (pickUpOf (stacksOf (s .state)))
   unfolding refusalOf actOf effects
@@ -206,7 +253,7 @@ module _ (s : Scene) (o : Operand) (next : ℕ) (high : s .state .stack .height 
       by false true p q = stopped s (tokenMade n 0x0800_0011 o next) 14 refl (rw (p, q))
       by false false p q =
           let l : 1 ≤ h = ltb-false h 1 p in
-          carried s (tokenMade n 0x0800_0011 o next) (rw (p, q, le-ltb 64 (h - 1 + 1) (omega arith)))
+          carried s (tokenMade n 0x0800_0011 o next) (rw (p, q, le-ltb dataMost (h - 1 + 1) (omega arith)))
 
   pub roll-done : (n : ℕ) → doneOf s (tokenMade n 0x0900_0010 o next) ≡ outcomeTurn s next (rollUpOf (stacksOf (s .state)))
   unfolding refusalOf actOf effects
@@ -218,20 +265,20 @@ module _ (s : Scene) (o : Operand) (next : ℕ) (high : s .state .stack .height 
       by false true p q = stopped s (tokenMade n 0x0900_0010 o next) 14 refl (rw (p, q))
       by false false p q =
           let l : 1 ≤ h = ltb-false h 1 p in
-          carried s (tokenMade n 0x0900_0010 o next) (rw (p, q, le-ltb 64 (h - 1 + 0) (omega arith)))
+          carried s (tokenMade n 0x0900_0010 o next) (rw (p, q, le-ltb dataMost (h - 1 + 0) (omega arith)))
 
   pub maybe-done : (n : ℕ) → doneOf s (tokenMade n 0x0A00_0011 o next) ≡ outcomeTurn s next (maybeOf (stacksOf (s .state)))
   unfolding refusalOf actOf effects
-  maybe-done n = by (ltb h 1) (eqb (cellOf s 0) 0) (ltb 64 (h + 1)) refl refl refl
+  maybe-done n = by (ltb h 1) (eqb (cellOf s 0) 0) (ltb dataMost (h + 1)) refl refl refl
     where
-      by : (x y z : Bool) → ltb h 1 ≡ x → eqb (cellOf s 0) 0 ≡ y → ltb 64 (h + 1) ≡ z → doneOf s (tokenMade n 0x0A00_0011 o next)
+      by : (x y z : Bool) → ltb h 1 ≡ x → eqb (cellOf s 0) 0 ≡ y → ltb dataMost (h + 1) ≡ z → doneOf s (tokenMade n 0x0A00_0011 o next)
           ≡ outcomeTurn s next (pick x (reckonedAs 14 (stacksOf (s .state)))
-              (pick y (reckonedAs 0 (stacksOf (s .state)))
-              (pick z (reckonedAs 15 (stacksOf (s .state))) (reckonedAs 0 (doubledOf (stacksOf (s .state)))))))
+          (pick y (reckonedAs 0 (stacksOf (s .state)))
+          (pick z (reckonedAs 15 (stacksOf (s .state))) (reckonedAs 0 (doubledOf (stacksOf (s .state)))))))
       by true y z p q r = stopped s (tokenMade n 0x0A00_0011 o next) 14 refl (rw p)
       by false true z p q r =
           let l : 1 ≤ h = ltb-false h 1 p in
-          carried s (tokenMade n 0x0A00_0011 o next) (rw (p, q, le-ltb 64 (h - 1 + 1) (omega arith))) ∙ rw q
+          carried s (tokenMade n 0x0A00_0011 o next) (rw (p, q, le-ltb dataMost (h - 1 + 1) (omega arith))) ∙ rw q
       by false false true p q r =
           let l : 1 ≤ h = ltb-false h 1 p in
           let u : h - 1 + 2 ≡ h + 1 = omega arith in

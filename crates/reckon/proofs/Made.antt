@@ -30,18 +30,19 @@ use Rattle.reckon.proofs.HotDone.{behindPlain, operandPlain}
 use Rattle.reckon.proofs.HotAgrees.{turnOf, plain-cut, plain-turn, divide-turn, pick-turn, roll-turn, maybe-turn, always-cut}
 use Rattle.reckon.proofs.HotAgrees.{always-turn, choice-cut, choice-empty, choice-taken, choice-fallen}
 use Rattle.state.specs.Joints.Reckoning.{Reckoned, reckonedAs, reckonOf, divideOf, pickUpOf, rollUpOf, maybeOf}
+use Rattle.rom.specs.Sizes.{dataMost, returnMost, romMost}
 
 -- what a token's work left, at the next place where it was carried out
 abbrev pub onwardOf : ℕ → ℕ → ℕ → ℕ → ℕ → Turned
 onwardOf why g r place next = pick (eqb why 0) (turned On g r next) (turned (Not why) g r place)
 
-pub within : (place size : ℕ) → place < size → size ≤ 16384 → place < 16384
+pub within : (place size : ℕ) → place < size → size ≤ romMost → place < romMost
 within place size l m = omega arith
 
 -- ---- the ways through a token
 module _ (rom : List ℕ) (size : ℕ) (wide : Bool) (base : ℕ) (c : List ℕ) (h : ℕ) (k : List ℕ) (b place : ℕ) where
   abbrev Sound : Type 0
-  Sound = (h ≤ 64) × (base ≤ b) × (b ≤ 32) × (8 ≤ place) × (place ≤ size)
+  Sound = (h ≤ dataMost) × (base ≤ b) × (b ≤ returnMost) × (8 ≤ place) × (place ≤ size)
 
   stays : (why : ℕ) → Sound → FitsFast size base (turned (Not why) h b place)
   stays why s = (s .0, s .2, s .1, s .3, s .4)
@@ -63,26 +64,26 @@ module _ (rom : List ℕ) (size : ℕ) (wide : Bool) (base : ℕ) (c : List ℕ)
     abbrev Turns : Type 0
     Turns = (st : State) (work store : List ℕ) → Goes st size wide base
         → tokenTurn (scene rom work store (packedFast st c h k b place)) ≡ turnOf (scene rom work store (packedFast st c h k b place)) why
-            next g r d l
+        next g r d l
 
-    work-made : Sound → (g ≤ 64) × (r ≤ 32) × (base ≤ r) → (8 ≤ next) × (next ≤ size) → Turns
+    work-made : Sound → (g ≤ dataMost) × (r ≤ returnMost) × (base ≤ r) → (8 ≤ next) × (next ≤ size) → Turns
         → Fast rom size wide base c h k b place (onwardOf why g r place next) d l
     work-made s i j turns = by (eqb why 0) turns
       where
         by : (x : Bool)
             → ((st : State) (work store : List ℕ) → Goes st size wide base
             → tokenTurn (scene rom work store (packedFast st c h k b place)) ≡ turn (pick x Going (Refused why))
-                (packedFast st d g l r (pick x next place)) work store)
+            (packedFast st d g l r (pick x next place)) work store)
             → Fast rom size wide base c h k b place (pick x (turned On g r next) (turned (Not why) g r place)) d l
         by true a = ((i .0, i .1, i .2, j .0, j .1), a)
         by false a = ((i .0, i .1, i .2, s .3, s .4), a)
 
 -- ---- a token that only reckons and has no operand
-module _ (n h b place code : ℕ) (e : codeOf n ≡ code) (f : familyIn code ≡ plain) (v : eqb code 0x0101_0001 ≡ false) (t : h ≤ 64)
-    (u : b ≤ 32) where
-  pub both-made : (base : ℕ) (c k : List ℕ) (why g r : ℕ) (d l : List ℕ) → g ≤ 64 → r ≤ 32 → (base ≤ b → base ≤ r)
+module _ (n h b place code : ℕ) (e : codeOf n ≡ code) (f : familyIn code ≡ plain) (v : eqb code 0x0101_0001 ≡ false) (t : h ≤ dataMost)
+    (u : b ≤ returnMost) where
+  pub both-made : (base : ℕ) (c k : List ℕ) (why g r : ℕ) (d l : List ℕ) → g ≤ dataMost → r ≤ returnMost → (base ≤ b → base ≤ r)
       → ((operand : ℕ) → reckonedAs why (stacks d g l r) ≡ reckonOf n operand (stacks c h k b) base)
-          → OnBoth n base c h k b place (onwardOf why g r place (place + 1)) d l
+      → OnBoth n base c h k b place (onwardOf why g r place (place + 1)) d l
   both-made base c k why g r d l x y z o rom size wide i =
       work-made rom size wide base c h k b place (place + 1) why g r d l
       (t, i .1, u, i .2, let p = i .3 in omega arith) (x, y, z (i .1)) (let p = i .2 in let q = i .3 in (omega arith, omega arith))
@@ -92,13 +93,13 @@ module _ (n h b place code : ℕ) (e : codeOf n ≡ code) (f : familyIn code ≡
       behind : behindPlain (codeOf n) place ≡ place + 1
       behind = rw (e, v)
 
-  pub data-made : (c : List ℕ) (why g : ℕ) (d : List ℕ) → g ≤ 64
+  pub data-made : (c : List ℕ) (why g : ℕ) (d : List ℕ) → g ≤ dataMost
       → ((operand base : ℕ) (k : List ℕ) → reckonedAs why (stacks d g k b) ≡ reckonOf n operand (stacks c h k b) base)
       → OnData n c h b place (onwardOf why g b place (place + 1)) d
   data-made c why g d x o base k = both-made base c k why g b d k x u (λ l. l) (λ operand. o operand base k)
 
 -- ---- b(lit)
-module _ (rom : List ℕ) (size h b place : ℕ) (c : List ℕ) (t : h ≤ 64) (u : b ≤ 32) where
+module _ (rom : List ℕ) (size h b place : ℕ) (c : List ℕ) (t : h ≤ dataMost) (u : b ≤ returnMost) where
   pub literal-cut : size < place + 5 → (wide : Bool) → Reads 0x10 rom size wide c h b place (turned (Not 10) h b place) c
   unfolding codeOf rowOf table ends lows highs doubles
   literal-cut l wide base k i = (
@@ -107,7 +108,7 @@ module _ (rom : List ℕ) (size h b place : ℕ) (c : List ℕ) (t : h ≤ 64) (
         (rw (w .ofSize) (let p = l in omega arith)),
   )
 
-  pub literal-made : (why g : ℕ) (d : List ℕ) → place + 5 ≤ size → g ≤ 64
+  pub literal-made : (why g : ℕ) (d : List ℕ) → place + 5 ≤ size → g ≤ dataMost
       → ((base : ℕ) (k : List ℕ) → reckonedAs why (stacks d g k b) ≡ reckonOf 0x10 (word32Of rom (place + 1)) (stacks c h k b) base)
       → (wide : Bool) → Reads 0x10 rom size wide c h b place (onwardOf why g b place (place + 5)) d
   unfolding codeOf rowOf table ends lows highs doubles
@@ -124,13 +125,13 @@ module _ (rom : List ℕ) (size h b place : ℕ) (c : List ℕ) (t : h ≤ 64) (
 -- ---- u/mod, pick, roll and ?dup
 -- the work on both stacks by its definition: the return stack's cells are whatever they are
 abbrev pub Works : (Stacks → Reckoned) → List ℕ → ℕ → ℕ → ℕ → ℕ → List ℕ → Type 0
-Works f c h b why g d = (g ≤ 64) × ((k : List ℕ) → reckonedAs why (stacks d g k b) ≡ f (stacks c h k b))
+Works f c h b why g d = (g ≤ dataMost) × ((k : List ℕ) → reckonedAs why (stacks d g k b) ≡ f (stacks c h k b))
 
-module _ (h b place : ℕ) (c : List ℕ) (t : h ≤ 64) (u : b ≤ 32) (why g : ℕ) (d : List ℕ) where
+module _ (h b place : ℕ) (c : List ℕ) (t : h ≤ dataMost) (u : b ≤ returnMost) (why g : ℕ) (d : List ℕ) where
   deep-made : (f : Stacks → Reckoned) (n : ℕ) → Works f c h b why g d
       → ((rom : List ℕ) (size base : ℕ) (k : List ℕ) → Here n rom size base b place → (st : State) (work store : List ℕ) → st .length ≡ size
       → tokenTurn (scene rom work store (packedFast st c h k b place)) ≡ turnOf (scene rom work store (packedFast st c h k b place)) why
-          (place + 1) g b d k)
+      (place + 1) g b d k)
       → OnData n c h b place (onwardOf why g b place (place + 1)) d
   deep-made f n w turns base k rom size wide i =
       work-made rom size wide base c h k b place (place + 1) why g b d k
@@ -141,31 +142,31 @@ module _ (h b place : ℕ) (c : List ℕ) (t : h ≤ 64) (u : b ≤ 32) (why g :
   divide-made w =
       deep-made divideOf 0x2B w
       (λ rom size base k i st work store z. divide-turn (scene rom work store (packedFast st c h k b place)) 0x2B
-          (sym (i .0)) refl why g b d k (rw z (i .3)) t (w .1 k))
+      (sym (i .0)) refl why g b d k (rw z (i .3)) t (w .1 k))
 
   pub pick-made : Works pickUpOf c h b why g d → OnData 0x4E c h b place (onwardOf why g b place (place + 1)) d
   unfolding codeOf rowOf table ends lows highs doubles
   pick-made w =
       deep-made pickUpOf 0x4E w
       (λ rom size base k i st work store z. pick-turn (scene rom work store (packedFast st c h k b place)) 0x4E
-          (sym (i .0)) refl why g b d k (rw z (i .3)) t (w .1 k))
+      (sym (i .0)) refl why g b d k (rw z (i .3)) t (w .1 k))
 
   pub roll-made : Works rollUpOf c h b why g d → OnData 0x4F c h b place (onwardOf why g b place (place + 1)) d
   unfolding codeOf rowOf table ends lows highs doubles
   roll-made w =
       deep-made rollUpOf 0x4F w
       (λ rom size base k i st work store z. roll-turn (scene rom work store (packedFast st c h k b place)) 0x4F
-          (sym (i .0)) refl why g b d k (rw z (i .3)) t (w .1 k))
+      (sym (i .0)) refl why g b d k (rw z (i .3)) t (w .1 k))
 
   pub maybe-made : Works maybeOf c h b why g d → OnData 0x50 c h b place (onwardOf why g b place (place + 1)) d
   unfolding codeOf rowOf table ends lows highs doubles
   maybe-made w =
       deep-made maybeOf 0x50 w
       (λ rom size base k i st work store z. maybe-turn (scene rom work store (packedFast st c h k b place)) 0x50
-          (sym (i .0)) refl why g b d k (rw z (i .3)) t (w .1 k))
+      (sym (i .0)) refl why g b d k (rw z (i .3)) t (w .1 k))
 
 -- ---- branches
-module _ (rom : List ℕ) (size : ℕ) (wide : Bool) (h b place : ℕ) (c : List ℕ) (t : h ≤ 64) (u : b ≤ 32) where
+module _ (rom : List ℕ) (size : ℕ) (wide : Bool) (h b place : ℕ) (c : List ℕ) (t : h ≤ dataMost) (u : b ≤ returnMost) where
   stays-here : (n why base : ℕ) → Here n rom size base b place → FitsFast size base (turned (Not why) h b place)
   stays-here n why base i = (t, u, i .1, i .2, let p = i .3 in omega arith)
 
@@ -213,7 +214,7 @@ module _ (rom : List ℕ) (size : ℕ) (wide : Bool) (h b place : ℕ) (c : List
         lands : (to ≡ 0 → ⊥) → (8 ≤ to) × (to ≤ size)
         lands z =
             let f : AimFits size (Inside to) = subst (AimFits size) (aim-inside rom size wide (place + 1) to a z)
-                (aim-fits rom size wide (place + 1)) in
+            (aim-fits rom size wide (place + 1)) in
             (f .0, omega (arith, f .1))
 
         pub always-out-made : to ≡ 0 → Reads 0x13 rom size wide c h b place (turned (Not 19) h b place) c

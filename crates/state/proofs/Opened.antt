@@ -26,8 +26,8 @@ all-zero m n e =
     let z : length {A = ℕ} (replicate (length m - 0) 0) ≡ length m = length-replicate {A = ℕ} (length m - 0) 0 ∙ sub-zero (length m) in
     let w = written-is m 0 (replicate (length m - 0) 0) (rw z (omega arith)) in
     w ∙ ap (λ (l : List ℕ). replicate (length m - 0) 0 ++ l)
-        (drop-of-length-le m {i = 0 + length {A = ℕ} (replicate (length m - 0) 0)} (rw z (omega arith)))
-        ∙ nothing-behind (replicate (length m - 0) 0)
+    (drop-of-length-le m {i = 0 + length {A = ℕ} (replicate (length m - 0) 0)} (rw z (omega arith)))
+    ∙ nothing-behind (replicate (length m - 0) 0)
     ∙ ap (λ (k : ℕ). replicate k 0) (sub-zero (length m) ∙ e)
 
 module _ (rom work store : List ℕ) where
@@ -36,7 +36,7 @@ module _ (rom work store : List ℕ) where
   unfolding openOf
   unopened why e n =
       sym (when-false (turn Going (freshState rom) (replicate workSize 0) (replicate storeSize 0))
-          (turn (Refused (openRefusal rom work store)) zeroState work store)
+      (turn (Refused (openRefusal rom work store)) zeroState work store)
       (eqb (openRefusal rom work store) 0) (ap (λ (k : ℕ). eqb k 0) e ∙ n) ∙ ap (λ (k : ℕ). turn (Refused k) zeroState work store) e)
 
   pub bad-work : (length work ≡ workSize → ⊥) → turn (Refused 6) zeroState work store ≡ openOf rom work store
@@ -54,5 +54,5 @@ module _ (rom work store : List ℕ) where
     good-header h =
         let r : openRefusal rom work store ≡ 0 = simp (eq-eqb (length work) workSize w, eq-eqb (length store) storeSize s) h in
         sym (when-true (turn Going (freshState rom) (replicate workSize 0) (replicate storeSize 0))
-            (turn (Refused (openRefusal rom work store)) zeroState work store)
+        (turn (Refused (openRefusal rom work store)) zeroState work store)
         (eqb (openRefusal rom work store) 0) (eq-eqb _ _ r))

@@ -39,7 +39,7 @@ Effect = Scene → Token → Turn
 abbrev pub gave : State → ℕ → List ℕ → Stacks
 gave st takes cells =
     stacks (leftOf (st .stack .cells) (st .stack .height - takes) cells) (st .stack .height - takes + length cells) (st .back .cells)
-        (st .back .height)
+    (st .back .height)
 
 -- and then the next token
 abbrev pub onward : Scene → Token → ℕ → List ℕ → State
@@ -128,7 +128,7 @@ enteredOf st to wide next = withCalls st (framedOf (st .calls) next (st .wide) (
 abbrev pub leftBodyOf : State → State
 leftBodyOf st =
     withCalls st (unframedOf (st .calls)) (getD (st .calls .places) (st .calls .count - 1) 0)
-        (getD (st .calls .wides) (st .calls .count - 1) false)
+    (getD (st .calls .wides) (st .calls .count - 1) false)
 
 abbrev pub leaves : Effect
 leaves s t = goes s (leftBodyOf (s .state))
@@ -183,7 +183,7 @@ defines s t = find ((colon, colons) ∷ (value, values) ∷ (variable, variables
 abbrev pub assigns : Effect
 assigns s t =
     goes s (withNumbers (onward s t 1 []) (assignedOf (s .state .numbers) (seekOf (s .state .numbers) (numberIn (t .operand)))
-        (cellOf s 0)))
+    (cellOf s 0)))
 
 -- ---- "111 encode-int (four bytes, big-endian, at the work place, which moves only past what 111, 114 and B9 write), 114 encode-string
 -- (there too: the bytes as before the token, and a null), 112 encode+" the bytes written at the work place, so many cells taken, and their

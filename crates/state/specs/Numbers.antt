@@ -6,6 +6,7 @@ use lib.ListN.{getD, set}
 use lib.Dec.{ltb, eqb}
 use Rattle.cells.specs.Choice.{pick, find}
 use Rattle.tokens.specs.Definition.{colon, value, constant}
+use Rattle.tokens.specs.Table.{programsMost, firstProgram}
 use Rattle.state.specs.declared.state.Numbers.{Numbers}
 
 -- program numbers by their fields, which are listed nowhere else
@@ -44,7 +45,7 @@ kindsFrom ns zero n = []
 kindsFrom ns (suc k) n = kindHeld ns n ∷ kindsFrom ns k (n + 1)
 
 abbrev pub kindsOf : Numbers → List ℕ
-kindsOf ns = kindsFrom ns 2048 0x800
+kindsOf ns = kindsFrom ns programsMost firstProgram
 
 -- one number more
 abbrev pub definedOf : Numbers → ℕ → ℕ → ℕ → Bool → Numbers

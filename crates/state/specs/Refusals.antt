@@ -182,7 +182,7 @@ noRoomFor s name value = overfull (wouldHold (s .state .tree) (s .store) (s .sta
 abbrev pub storeFull : Scene → Token → Bool
 storeFull s t =
     asked property t (λ s t. noRoomFor s (namedHere s) (valueHere s)) s || asked titled t
-        (λ s t. noRoomFor s (titleOf (t .number)) (titledHere s)) s
+    (λ s t. noRoomFor s (titleOf (t .number)) (titledHere s)) s
 
 -- ---- their order. 6, 1, 7 and 4 come before (Step.antt), then 10, 18 and 11, as the token is read (crate tokens, Place.antt)
 abbrev pub firstOf : List (ℕ × Bool) → ℕ

@@ -68,7 +68,7 @@ tooDeep s = ltb (s .height) 1 || ltb (s .height) (topOf (s .cells) (s .height) 0
 abbrev pub pickedOf : Stacks → Stacks
 pickedOf s =
     stacks (set (s .cells) (s .height - 1) (topOf (s .cells) (s .height) (topOf (s .cells) (s .height) 0 + 1))) (s .height) (s .back)
-        (s .returns)
+    (s .returns)
 
 -- roll: that cell is moved to the top, those above it one down; `start` is where it stood
 abbrev pub turnedOf : List ℕ → ℕ → ℕ → List ℕ
@@ -77,7 +77,7 @@ turnedOf cells start count = leftOf cells start (cellsFrom cells (start + 1) cou
 abbrev pub rolledOf : Stacks → Stacks
 rolledOf s =
     stacks (turnedOf (s .cells) (s .height - 2 - topOf (s .cells) (s .height) 0) (topOf (s .cells) (s .height) 0)) (s .height - 1) (s .back)
-        (s .returns)
+    (s .returns)
 
 -- ?dup: 0 is left alone, so that it never asks for room
 abbrev pub doubledOf : Stacks → Stacks

@@ -14,7 +14,11 @@ use crate::state::State;
 use memory::clear_from;
 use rom::check_header;
 use rom::program_length;
+use rom::sizes::DATA_MOST;
 use rom::sizes::FIRST_PLACE;
+use rom::sizes::FRAMES_MOST;
+use rom::sizes::NUMBERS_MOST;
+use rom::sizes::RETURN_MOST;
 use rom::sizes::STORE_SIZE;
 use rom::sizes::WORK_SIZE;
 use rom::wide_start;
@@ -29,24 +33,24 @@ fn empty_state(length: u32, place: u32, wide: bool, first: u32, tree: Tree) -> S
     ensures { λ r. ⌜ r ≡ emptyState length place wide first tree ⌝ }
 {
     let stack = Stack {
-        cells: [0u32; 64],
+        cells: [0u32; DATA_MOST],
         height: 0,
     };
     let back = Back {
-        cells: [0u32; 32],
+        cells: [0u32; RETURN_MOST],
         height: 0,
     };
     let calls = Calls {
-        places: [0u32; 16],
-        wides: [false; 16],
-        bases: [0usize; 16],
+        places: [0u32; FRAMES_MOST],
+        wides: [false; FRAMES_MOST],
+        bases: [0usize; FRAMES_MOST],
         count: 0,
     };
     let numbers = Numbers {
-        programs: [0u32; 256],
-        kinds: [0u8; 256],
-        values: [0u32; 256],
-        wides: [false; 256],
+        programs: [0u32; NUMBERS_MOST],
+        kinds: [0u8; NUMBERS_MOST],
+        values: [0u32; NUMBERS_MOST],
+        wides: [false; NUMBERS_MOST],
         count: 0,
     };
     State {

@@ -85,9 +85,9 @@ fn is_entry(length: u32, program: u32, kind: u8, value: u32) -> bool
 // Each array goes by itself, since a copy of all numbers in one took two fifths of the time of a 10-byte ROM's run.
 fn are_numbers(
     length: u32,
-    programs: [u32; 256],
-    kinds: [u8; 256],
-    values: [u32; 256],
+    programs: [u32; NUMBERS_MOST],
+    kinds: [u8; NUMBERS_MOST],
+    values: [u32; NUMBERS_MOST],
     count: usize,
 ) -> bool
     ensures { λ r. ⌜ ((ways : List Bool) → r ≡ numbersWhole length (numbersOn programs kinds values ways count)) ⌝ }

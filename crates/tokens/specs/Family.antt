@@ -98,4 +98,4 @@ finishDevice = 24
 abbrev pub families : List ℕ
 families =
     unlisted ∷ plain ∷ finish ∷ always ∷ choice ∷ text ∷ widen ∷ divide ∷ pickUp ∷ rollUp ∷ maybe ∷ leave ∷ fetch ∷ store ∷ define ∷ kind ∷
-        assign ∷ call ∷ encodeInt ∷ encodeString ∷ join ∷ property ∷ titled ∷ newDevice ∷ finishDevice ∷ []
+    assign ∷ call ∷ encodeInt ∷ encodeString ∷ join ∷ property ∷ titled ∷ newDevice ∷ finishDevice ∷ []

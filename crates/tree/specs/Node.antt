@@ -1,6 +1,6 @@
--- Nodes: "11F new-device (a bare child of the active node becomes active), 127 finish-device (the parent becomes active)", with refusal 20, "a
--- 33rd node, or finish-device at node 1": at the first node, which is node 1 in every state that opening hands back. At the start "node 0
--- is the root, node 1 its child and active; both have no properties." Which node is active, and which the first, is the state's. Assumes
+-- Nodes: "11F new-device (a bare child of the active node becomes active), 127 finish-device (the parent becomes active)", with refusal 20,
+-- "a 33rd node, or finish-device at node 1": at the first node, which is node 1 in every state that opening hands back. At the start "node
+-- 0 is the root, node 1 its child and active; both have no properties." Which node is active, and which the first, is the state's. Assumes
 -- nothing.
 use Prim.Native.Nat.{ℕ, _+_}
 use mathlib.Core.Bool.{Bool}

@@ -1,6 +1,6 @@
--- Lookups: "A path is "/" or "/a/b"; each part is matched with a child's "name" value less one final null, the oldest match at each level, no
--- going back. Any other form, empty parts included, gives 29. Lookups test 6, 7, 29, 30." 29, 30: "path malformed; no such node or property".
--- Assumes nothing.
+-- Lookups: "A path is "/" or "/a/b"; each part is matched with a child's "name" value less one final null, the oldest match at each level,
+-- no going back. Any other form, empty parts included, gives 29. Lookups test 6, 7, 29, 30." 29, 30: "path malformed; no such node or
+-- property". Assumes nothing.
 use Prim.Native.Nat.{ℕ, zero, suc, _+_, _-_}
 use mathlib.Core.Bool.{Bool, true, false, not, _&&_, _||_}
 use mathlib.Core.List.{List, [], _∷_}
@@ -117,7 +117,8 @@ propertyValueOf t store path name =
       | Refused why ↦ []
     ]
 
--- the bytes of a node's own property, the node known by its number; none where there is none, or where the store has another size or the tree is damaged
+-- the bytes of a node's own property, the node known by its number; none where there is none, or where the store has another size or the
+-- tree is damaged
 abbrev pub bytesOr : Option (List ℕ) → List ℕ
 bytesOr none = []
 bytesOr (some value) = value

@@ -1,5 +1,5 @@
--- The node table: "For the installer, one lent row per node gives parent and property count; 32 rows or refusal 6, unused rows zero; 6, then 7, write
--- none." The rows are lent as a slice of structs, or as two slices of numbers, the parents and the counts. Assumes nothing.
+-- The node table: "For the installer, one lent row per node gives parent and property count; 32 rows or refusal 6, unused rows zero; 6,
+-- then 7, write none." The rows are lent as a slice of structs, or as two slices of numbers, the parents and the counts. Assumes nothing.
 use Prim.Native.Nat.{ℕ, zero, suc, _+_}
 use mathlib.Core.Bool.{Bool, not, _&&_}
 use mathlib.Core.List.{List, [], _∷_}

@@ -9,6 +9,8 @@ ghost use Rattle.tree.specs.Held.{liveAmong};
 ghost use Rattle.tree.specs.Property.{badName, valueOf};
 ghost use Rattle.tree.specs.Joints.Steps.{zeroedOf, appendedOf, replacedOf};
 ghost use Rattle.tree.specs.Joints.Apart.{refusedWith, doneWith, tailOf, EndsAs, Tallied, Finds, Missing, Puts, Opens, Closes};
+ghost use Rattle.rom.specs.Sizes.{propertiesMost, storeSize};
+ghost use Rattle.tree.specs.Whole.{nameMost};
 use crate::property::Found;
 use crate::property::bad_name;
 use crate::property::is_named;
@@ -54,7 +56,7 @@ pub fn tail_of(
     value_sizes: &[u32; PROPERTIES_MOST],
     held: usize,
 ) -> Tail
-    requires { ⌜ held ≤ 128 ⌝ }
+    requires { ⌜ held ≤ propertiesMost ⌝ }
     ensures { λ r. ⌜ r ≡ tailOf (now («name_sizes» .entry)) (now («value_sizes» .entry)) held ⌝ }
 {
     let live = live_bytes(name_sizes, value_sizes, held);
@@ -78,7 +80,7 @@ fn clear_up_to(memory: &mut [u8], at: usize, end: usize)
 
 // A property more, at the live end. What is zero already is not cleared again.
 fn append(store: &mut [u8], tail: Tail, name: &[u8], value: &[u8], null: bool)
-    requires { ⌜ (length (now store) ≡ 16384) × EndsAs (now store) tail × (length (now name) ≤ 31) × (length (now value) ≤ 16384) ⌝ }
+    requires { ⌜ (length (now store) ≡ storeSize) × EndsAs (now store) tail × (length (now name) ≤ nameMost) × (length (now value) ≤ storeSize) ⌝ }
     ensures { λ r. ⌜ now (store .exit)
         ≡ appendedOf (now (store .entry)) (tail .live) (now (name .entry)) (valueOf (now (value .entry)) null) ⌝ }
 {
@@ -91,7 +93,7 @@ fn append(store: &mut [u8], tail: Tail, name: &[u8], value: &[u8], null: bool)
 
 // Bytes moved to another place. Those that stay where they stand, as behind a value of the old one's size, cost nothing.
 fn move_part(store: &mut [u8], from: usize, to: usize, count: usize)
-    requires { ⌜ (from + count ≤ length (now store)) × (length (now store) ≤ 16384) × (to ≤ 32769) ⌝ }
+    requires { ⌜ (from + count ≤ length (now store)) × (length (now store) ≤ storeSize) × (to ≤ 32769) ⌝ }
     ensures { λ r. ⌜ now (store .exit) ≡ movedOf (now (store .entry)) from to count ⌝ }
 {
     if from == to {
@@ -102,7 +104,7 @@ fn move_part(store: &mut [u8], from: usize, to: usize, count: usize)
 
 // Another value in the place of the old one, and what stands behind it moved with it. It is cleared as far as for a property more.
 fn replace(store: &mut [u8], tail: Tail, at: usize, old: usize, value: &[u8], null: bool)
-    requires { ⌜ (length (now store) ≡ 16384) × EndsAs (now store) tail × (at + old ≤ tail .live) × (length (now value) ≤ 16384) ⌝ }
+    requires { ⌜ (length (now store) ≡ storeSize) × EndsAs (now store) tail × (at + old ≤ tail .live) × (length (now value) ≤ storeSize) ⌝ }
     ensures { λ r. ⌜ now (store .exit) ≡ replacedOf (now (store .entry)) (tail .live) at old (valueOf (now (value .entry)) null) ⌝ }
 {
     let behind = tail.live - (at + old);
@@ -122,7 +124,7 @@ fn find_among(
     node: u32,
     name: &[u8],
 ) -> Found
-    requires { ⌜ (held ≤ 128) × (liveAmong (now «name_sizes») (now «value_sizes») held 0 ≤ length (now store)) ⌝ }
+    requires { ⌜ (held ≤ propertiesMost) × (liveAmong (now «name_sizes») (now «value_sizes») held 0 ≤ length (now store)) ⌝ }
     ensures { λ r. ⌜ Finds (now (store .entry)) (now (owners .entry)) (now («name_sizes» .entry)) (now («value_sizes» .entry)) held
         node (now (name .entry)) r ⌝ }
 {
@@ -178,7 +180,7 @@ fn add_property(
     null: bool,
 ) -> Kept
     requires { ⌜ Tallied (now store) (now «name_sizes») (now «value_sizes») held tail × (badName (now name) ≡ false)
-        × (length (now value) ≤ 16384)
+        × (length (now value) ≤ storeSize)
         × Missing (now store) (now owners) (now «name_sizes») (now «value_sizes») held node (now name) ⌝ }
     ensures { λ r. ⌜ Puts node (now (name .entry)) (valueOf (now (value .entry)) null)
         (now (store .entry)) (now (owners .entry)) (now («name_sizes» .entry)) (now («value_sizes» .entry)) held

@@ -11,6 +11,7 @@ ghost use Rattle.tree.specs.Whole.{everyBelow};
 ghost use Rattle.tree.specs.Property.{valueOf, nameByte, allNameBytes, badName};
 ghost use Rattle.tree.specs.Joints.Steps.{sizeOf};
 ghost use Rattle.tree.specs.Laws.Same.{alikeFrom};
+ghost use Rattle.rom.specs.Sizes.{propertiesMost, storeSize};
 use crate::tree::NAME_MOST;
 use crate::tree::Tree;
 use crate::tree::wide;
@@ -122,7 +123,7 @@ pub fn is_named(store: &[u8], owner: u32, start: usize, end: usize, node: u32, n
 
 // The record of a node with this name, the oldest first.
 pub fn find(store: &[u8], tree: Tree, node: u32, name: &[u8]) -> Found
-    requires { ⌜ (tree .held ≤ 128) × (liveOf tree ≤ length (now store)) ⌝ }
+    requires { ⌜ (tree .held ≤ propertiesMost) × (liveOf tree ≤ length (now store)) ⌝ }
     ensures { λ r. ⌜ r ≡ foundFrom tree (now (store .entry)) node (now (name .entry)) (tree .held) 0 0 ⌝ }
 {
     let mut i = 0;
@@ -140,14 +141,14 @@ pub fn find(store: &[u8], tree: Tree, node: u32, name: &[u8]) -> Found
 
 // The bytes of a value, with its null.
 pub fn size_of(count: usize, null: bool) -> usize
-    requires { ⌜ count ≤ 16384 ⌝ }
+    requires { ⌜ count ≤ storeSize ⌝ }
     ensures { λ r. ⌜ (r ≡ sizeOf count null) × (r ≤ count + 1) ⌝ }
 {
     if null { count + 1 } else { count }
 }
 
 pub fn lay_value(store: &mut [u8], at: usize, value: &[u8], null: bool)
-    requires { ⌜ (at ≤ 32768) × (length (now value) ≤ 16384) ⌝ }
+    requires { ⌜ (at ≤ 32768) × (length (now value) ≤ storeSize) ⌝ }
     ensures { λ r. ⌜ now (store .exit) ≡ writtenOf (now (store .entry)) at (valueOf (now (value .entry)) null) ⌝ }
 {
     copy_in(store, at as u32, value);

@@ -3,6 +3,7 @@ ghost use mathlib.Core.Path.{_≡_};
 ghost use Prim.Native.Nat.{_≤_, _<_};
 ghost use Rattle.tree.specs.Held.{liveAmong};
 ghost use Rattle.tree.specs.Whole.{olderAmong, soundWith, soundAmong, everyBelow, counted as Whole·counted, wholeTree};
+ghost use Rattle.rom.specs.Sizes.{nodesMost, propertiesMost};
 use rom::sizes::NODES_MOST;
 use rom::sizes::PROPERTIES_MOST;
 use rom::sizes::STORE_SIZE;
@@ -33,7 +34,7 @@ pub fn wide(x: u32) -> usize
 }
 
 fn is_older(parents: &[u32; NODES_MOST], k: usize) -> bool
-    requires { ⌜ k < 32 ⌝ }
+    requires { ⌜ k < nodesMost ⌝ }
     ensures { λ r. ⌜ r ≡ olderAmong (now (parents .entry)) k ⌝ }
 {
     let parent = wide(parents[k]);
@@ -41,7 +42,7 @@ fn is_older(parents: &[u32; NODES_MOST], k: usize) -> bool
 }
 
 fn all_older(parents: &[u32; NODES_MOST], nodes: usize) -> bool
-    requires { ⌜ nodes ≤ 32 ⌝ }
+    requires { ⌜ nodes ≤ nodesMost ⌝ }
     ensures { λ r. ⌜ r ≡ everyBelow nodes (olderAmong (now (parents .entry))) ⌝ }
 {
     let mut k = 0;
@@ -76,7 +77,7 @@ fn all_sound(
     value_sizes: &[u32; PROPERTIES_MOST],
     held: usize,
 ) -> bool
-    requires { ⌜ held ≤ 128 ⌝ }
+    requires { ⌜ held ≤ propertiesMost ⌝ }
     ensures { λ r. ⌜ r
         ≡ everyBelow held (soundAmong nodes (now (owners .entry)) (now («name_sizes» .entry)) (now («value_sizes» .entry))) ⌝ }
 {
@@ -101,7 +102,7 @@ pub fn live_bytes(
     value_sizes: &[u32; PROPERTIES_MOST],
     held: usize,
 ) -> usize
-    requires { ⌜ held ≤ 128 ⌝ }
+    requires { ⌜ held ≤ propertiesMost ⌝ }
     ensures { λ r. ⌜ r ≡ liveAmong (now («name_sizes» .entry)) (now («value_sizes» .entry)) held 0 ⌝ }
 {
     let mut sum = 0;

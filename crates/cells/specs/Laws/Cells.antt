@@ -97,7 +97,7 @@ unfolding ashiftOf rshiftOf
 ashift-high a n h =
     when-is (λ x. x ≡ invertOf (rshiftOf (invertOf a) n)) (ltb n 32) (cell (shrZ (signed a) (2 ^ n))) (flag (negative a))
     (λ t. simp (signed-high a h, chosen-below (invertOf a / 2 ^ n) 0 n 32 (omega (arith, tests)))
-        (omega (arith, div-le-self (invertOf a) (2 ^ n))))
+    (omega (arith, div-le-self (invertOf a) (2 ^ n))))
     (λ t. simp (signed-high a h, chosen-from (invertOf a / 2 ^ n) 0 n 32 (omega (arith, tests))))
 
 -- the product of two numbers of k bits has at most k + k

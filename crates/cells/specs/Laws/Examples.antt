@@ -35,16 +35,16 @@ bench = refl
 -- "Negate and abs of 80000000 give 80000000", and the other signed words at the ends of the range
 ends : _≡_ {A = List ℕ}
     (negateOf 0x8000_0000 ∷ absOf 0x8000_0000 ∷ negateOf 1 ∷ absOf 0xFFFF_FFFF ∷ minOf 0x8000_0000 0x7FFF_FFFF ∷ maxOf 0x8000_0000
-        0x7FFF_FFFF ∷
+    0x7FFF_FFFF ∷
     halfOf 0x8000_0001 ∷ uHalfOf 0x8000_0001 ∷ lessOf 0x8000_0000 0 ∷ uLessOf 0x8000_0000 0 ∷ zeroLessOf 0x8000_0000 ∷ [])
     (0x8000_0000 ∷ 0x8000_0000 ∷ 0xFFFF_FFFF ∷ 1 ∷ 0x8000_0000 ∷ 0x7FFF_FFFF ∷ 0xC000_0000 ∷ 0x4000_0000 ∷ 0xFFFF_FFFF ∷ 0 ∷ 0xFFFF_FFFF ∷
-        [])
+    [])
 ends = refl
 
 -- "shift counts of 32 or more give 0, for >>a copies of the sign"
 far-shifts : _≡_ {A = List ℕ}
     (lshiftOf 1 31 ∷ lshiftOf 1 32 ∷ rshiftOf 0x8000_0000 31 ∷ rshiftOf 0x8000_0000 0xFFFF_FFFF ∷ ashiftOf 0x8000_0000 31 ∷ ashiftOf
-        0x8000_0000 0xFFFF_FFFF ∷ ashiftOf 1 32 ∷ [])
+    0x8000_0000 0xFFFF_FFFF ∷ ashiftOf 1 32 ∷ [])
     (0x8000_0000 ∷ 0 ∷ 1 ∷ 0 ∷ 0xFFFF_FFFF ∷ 0xFFFF_FFFF ∷ 0 ∷ [])
 unfolding lshiftOf rshiftOf ashiftOf
 far-shifts = refl

@@ -31,8 +31,13 @@ module _ (w : List ℕ) (k sum : ℕ) (h : k < length w) where
           → stepsFrom (sum * 10 + (getD w k 0 - 0x30)) (drop (k + 1) w) ≡ stepsFrom sum (drop k w)
       unfolding stepsFrom
       digit-more l =
-          rw (drop-cons w k 0 h, le-leb 0x30 (getD w k 0) a, le-leb (getD w k 0) 0x39 b, le-ltb most (sum * 10 + (getD w k 0 - 0x30)) l,
-              add-one k)
+          rw (
+            drop-cons w k 0 h,
+            le-leb 0x30 (getD w k 0) a,
+            le-leb (getD w k 0) 0x39 b,
+            le-ltb most (sum * 10 + (getD w k 0 - 0x30)) l,
+            add-one k,
+          )
 
 pub digits-end : (w : List ℕ) (k sum : ℕ) → length w ≤ k → Steps sum ≡ stepsFrom sum (drop k w)
 unfolding stepsFrom

@@ -108,8 +108,12 @@ module _ (rom marks work store : List ℕ) (budget : ℕ) (text : List ℕ) wher
     module _ (a : length marks ≡ marksSize) (b : length work ≡ workSize) (c : length store ≡ storeSize) where
       judged : whole ≡ judgedAs (screenedOf rom marks .verdict) (screenedOf rom marks .marks) rom work store budget text
       unfolding listWith
-      judged = rw (eq-eqb (length text) textSize e, eq-eqb (length marks) marksSize a, eq-eqb (length work) workSize b,
-          eq-eqb (length store) storeSize c)
+      judged = rw (
+        eq-eqb (length text) textSize e,
+        eq-eqb (length marks) marksSize a,
+        eq-eqb (length work) workSize b,
+        eq-eqb (length store) storeSize c,
+      )
 
       -- by the screen's promise
       by-verdict : (v : Verdict) (m : List ℕ) → Promised rom marks v m → whole ≡ judgedAs v m rom work store budget text
@@ -162,7 +166,7 @@ module _ (rom marks work store : List ℕ) (budget : ℕ) (text : List ℕ) wher
       let n = neither (not (eqb (length marks) marksSize)) (wrongSize work store) w .1 in
       let k = neither (not (eqb (length work) workSize)) (not (eqb (length store) storeSize)) n in
       judged-fits (not-unequal (length work) workSize (k .0)) (not-unequal (length store) storeSize (k .1)) (screenedOf rom marks .verdict)
-          (screenedOf rom marks .marks)
+      (screenedOf rom marks .marks)
       (promise-kept rom marks)))
     where
       Fitting : Listed → Type 0

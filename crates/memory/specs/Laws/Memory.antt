@@ -135,7 +135,7 @@ lies-high base size address count f g = rw (le-leb base address f, lt-leb (addre
 pub lies-from : (base size address count : ℕ) → base ≤ address → lies base size address count ≡ leb (address - base + count) size
 lies-from base size address count f =
     rw (le-leb base address f) (same-leb (address + count) (base + size) (address - base + count) size (λ h. omega arith)
-        (λ h. omega arith))
+    (λ h. omega arith))
 
 -- the window of a range, by what the two tests say
 module _ (rom work address count : ℕ) where
@@ -161,7 +161,7 @@ module _ (rom work address count : ℕ) where
   unfolding windowOf
   window-is Q u v w =
       pick-is Q (lies romBase rom address count) (Rom (address - romBase))
-          (pick (lies workBase work address count) (Work (address - workBase)) Nowhere)
+      (pick (lies workBase work address count) (Work (address - workBase)) Nowhere)
       (λ t.
       let p = and-parts (leb romBase address) (leb (address + count) (romBase + rom)) t in
       u (leb→le romBase address (p .0)) (leb→le (address + count) (romBase + rom) (p .1)))

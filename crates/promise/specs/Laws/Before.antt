@@ -55,7 +55,7 @@ module _ {rom : List ℕ} (a : Assignment rom) where
   defined-extent {d} {e} {s} {t} f m =
       let u : fixedOf (f .setting) ≡ fixedOf s = one-fixed a (f .met .reach) (m .reach) in
       subst (λ (v : Fixed). ExtendsBy rom (v .wide) t e) u
-          (subst (λ v. ExtendsBy rom (f .setting .wide) v e) (defined-token f m) (extends-by (f .ends)))
+      (subst (λ v. ExtendsBy rom (f .setting .wide) v e) (defined-token f m) (extends-by (f .ends)))
 
   pub defined-end : {d e c : ℕ} → Defined rom d e → Defined rom d c → e ≡ c
   defined-end f g = one-extent (defined-extent f (g .met)) (extends-by (g .ends))

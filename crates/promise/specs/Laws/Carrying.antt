@@ -53,7 +53,7 @@ unfolding seekFrom
 seek-name list n zero i h = absurd (omega arith)
 seek-name list n (suc k) i h =
     when-is (λ s. s < i + suc k → getD list s 0 ≡ n) (eqb (getD list i 0) n) i (seekFrom list n k (i + 1))
-        (λ t l. eqb→eq (getD list i 0) n t)
+    (λ t l. eqb→eq (getD list i 0) n t)
     (λ t l. seek-name list n k (i + 1) (omega arith)) h
 
 -- a number that is held has the name where it is found
@@ -77,7 +77,7 @@ kind-read ns n p h =
 byte-some : (k : ℕ) → kindOfByte k ≢ 0
 byte-some k =
     pick-is (λ b. b ≢ 0) (eqb k colon) colon _ (λ t q. omega arith)
-        (λ t. pick-is (λ b. b ≢ 0) (eqb k value) value constant (λ u q. omega arith) (λ u q. omega arith))
+    (λ t. pick-is (λ b. b ≢ 0) (eqb k value) value constant (λ u q. omega arith) (λ u q. omega arith))
 
 -- a b(:) is of the kind colon
 colon-kind : (t : Token) → T (isColon t) → kindIn (t .operand) ≡ colon
@@ -139,8 +139,14 @@ module _ {rom : List ℕ} (a : Assignment rom) where
       → unknownOf (kindsOf ns) t ≡ false
   known-at {t} {ns} c (Holds.unnamed n) b = unnamed-known (kindsOf ns) t (is-false (names t) n)
   known-at c (Holds.named {s = s} {d = d} {e = e} {u = u} reach is m ext l) b =
-      let f : Defined rom d e = record { setting = s; token = u; met = record { reach = reach; is = is }; defines = defines-of m; ends =
-          ext } in
+      let f : Defined rom d e = record {
+        setting = s;
+        token = u;
+        met = record { reach = reach; is = is };
+        defines = defines-of m;
+        ends =
+            ext;
+      } in
       named-known c f (b d e f l) m
 
   -- 12 is not given: a token that names no number but one that is known
@@ -163,7 +169,7 @@ module _ {rom : List ℕ} (a : Assignment rom) where
   -- a body at the run's place is read to its C2: 10, 18, 11 and 12 are not given
   pub body-read : {d e c : ℕ} {ns : Numbers} → Carried rom d ns → (f : Defined rom d e) → T (isColon (f .token))
       → Holds rom (reads (f .setting .wide) (f .token .next) c)
-          → bodyOf rom (lengthOf rom) (f .setting .wide) (kindsOf ns) (f .token .next) ≡ Ends c
+      → bodyOf rom (lengthOf rom) (f .setting .wide) (kindsOf ns) (f .token .next) ≡ Ends c
   body-read {d} {e} {c} {ns} k f h r =
       let z = one-extent (extends-by (f .ends)) (ExtendsBy.long h r) in
       reads-on (kindsOf ns) r (λ q t l m. known-at k m (λ x b g u. wholly-before a f g u (omega arith)))

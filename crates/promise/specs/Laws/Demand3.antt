@@ -49,7 +49,7 @@ open-fresh : (rom work store : List ℕ) → openOf rom work store .answer ≡ G
 unfolding openOf
 open-fresh rom work store =
     when-is (λ r. r .answer ≡ Going → r ≡ turn Going (freshState rom) (replicate workSize 0) (replicate storeSize 0))
-        (eqb (openRefusal rom work store) 0) _ _
+    (eqb (openRefusal rom work store) 0) _ _
     (λ t e. refl) (λ t e. absurd (not-going (openRefusal rom work store) e))
 
 module _ (c : Opened) where
@@ -122,6 +122,8 @@ fine-step a open-calls st r (Spent n) f = absurd f
 
 pub stepwise : Stepwise
 stepwise c n open-calls s t =
-    let k = steps-so (pass c .assignment) (c .workLent) (c .storeLent) (work-size c) (store-size c) (pass c .header) t in
-    (k .0, subst (λ r. AllowedStep (r .answer)) (sym (k .0))
-        (fine-step (pass c .assignment) open-calls (s .state) (tokenTurn s) (tokenTurn s .answer) (k .1)))
+    let k = steps-so (pass c .assignment) (c .workLent) (c .storeLent) (work-size c) (store-size c) (pass c .header) t in (
+      k .0,
+      subst (λ r. AllowedStep (r .answer)) (sym (k .0))
+          (fine-step (pass c .assignment) open-calls (s .state) (tokenTurn s) (tokenTurn s .answer) (k .1)),
+    )

@@ -54,7 +54,7 @@ one-null-less = refl
 store : List ℕ
 store =
     lettersOf "name" ++ (0x61 ∷ 0 ∷ lettersOf "name" ++
-        (0x61 ∷ lettersOf "name" ++ (0x63 ∷ lettersOf "name" ++ (0x64 ∷ 0x78 ∷ 7 ∷ 8 ∷ 9 ∷ replicate 16359 0))))
+    (0x61 ∷ lettersOf "name" ++ (0x63 ∷ lettersOf "name" ++ (0x64 ∷ 0x78 ∷ 7 ∷ 8 ∷ 9 ∷ replicate 16359 0))))
 
 tree : Tree
 tree = treeOf (0 ∷ 0 ∷ 0 ∷ 2 ∷ 1 ∷ 0 ∷ []) 6 (1 ∷ 2 ∷ 3 ∷ 4 ∷ 1 ∷ []) (4 ∷ 4 ∷ 4 ∷ 4 ∷ 1 ∷ []) (2 ∷ 1 ∷ 1 ∷ 1 ∷ 3 ∷ []) 5

@@ -67,7 +67,7 @@ calls-kept {calls = calls} {then = then} (within {k = k} c g h p w b) e =
     let l : k < suc k = omega arith in
     let f : SameFrames k calls then =
     record { places = λ i l. e .places i (omega arith); wides = λ i l. e .wides i (omega arith); bases = λ i l. e .bases i (omega arith) }
-        in
+    in
     within (calls-kept c f) g h (e .places k l ∙ p) (e .wides k l ∙ w) (e .bases k l ∙ b)
 
 -- one frame more leaves those below it, and one less too
@@ -209,7 +209,7 @@ module _ {rom : List ℕ} (a : Assignment rom) where
           chain =
               subst (λ v. CallChain a (then .calls) q (after t (g .outer)) v (then .calls .count) 0 0 0) (sym (o .none))
               (subst (λ v. CallChain a (then .calls) q (after t (g .outer)) [] v 0 0 0) (sym (ap (λ v. v .count) (n .calls) ∙ o .count))
-                  outside);
+              outside);
           at = (e, refl);
           height = subst (λ v. then .stack .height ≡ 0 + a .height 0 v) (sym e)
               (omega (arith, z .0, g .height, n .height, o .height, o .low));
@@ -259,7 +259,7 @@ module _ {rom : List ℕ} (a : Assignment rom) where
         let one : calls .count + 1 ≡ suc (calls .count) = omega arith in
         let entry = openCall (g .floor + a .height (g .text) (st .place)) (f .token .next) in
         let same : openCall (st .stack .height) bodyFirst ≡ openCall (g .floor + a .height (g .text) (st .place)) (f .token .next) =
-            same-call (g .height) (p .0) in
+        same-call (g .height) (p .0) in
         let tall = g .height in
         let deep = g .back in
         let high = n .0 in
@@ -276,7 +276,7 @@ module _ {rom : List ℕ} (a : Assignment rom) where
           base = baseIn;
           chain =
               subst (λ v. CallChain a then (g .home) (g .outer) (v ∷ open-calls) (calls .count + 1) (suc (k .place)) floorIn baseIn)
-                  (sym same)
+              (sym same)
               (subst (λ v. CallChain a then (g .home) (g .outer) (entry ∷ open-calls) v (suc (k .place)) floorIn baseIn) (sym one)
               (within chain calling (g .at) (getD-set-same (calls .places) (calls .count) (t .next) 0 (omega (arith, z .places)))
               (getD-set-same (calls .wides) (calls .count) (st .wide) false (omega (arith, z .wides)) ∙ g .wide)
@@ -309,7 +309,7 @@ module _ {rom : List ℕ} (a : Assignment rom) where
         by : (n : ℕ) {es : List OpenCall} {x floor base : ℕ} {s : Setting} → st .calls .count ≡ n
             → CallChain a (st .calls) (g .home) (g .outer) es n x floor base
             → Met rom x s (st .place) t → st .stack .height ≡ floor + a .height x (st .place)
-                → st .back .height ≡ base + a .back x (st .place)
+            → st .back .height ≡ base + a .back x (st .place)
             → Standing a (without es) (leftBodyOf st)
         by n {s = s} e outside m h r =
             absurd (T-not (isA leave t) (fails (isA leave t) (leave-inside rom (lengthOf rom) (s .wide) (st .place) t (m .is))) l)
@@ -326,7 +326,7 @@ module _ {rom : List ℕ} (a : Assignment rom) where
             let up : a .height x (u .next) ≡ a .height x p - a .sum (u .number) .need + a .sum (u .number) .out =
             subst (λ v. a .height x (u .next) ≡ a .height x p - v .takes + v .gives) eff (w0 .0) in
             let down : a .back x (u .next) ≡ a .back x p - 0 + 0 =
-                subst (λ v. a .back x (u .next) ≡ a .back x p - v .«return_takes» + v .«return_gives») eff (w0 .1) in
+            subst (λ v. a .back x (u .next) ≡ a .back x p - v .«return_takes» + v .«return_gives») eff (w0 .1) in
             let place : getD (st .calls .places) (st .calls .count - 1) 0 ≡ u .next = ap (λ q. getD (st .calls .places) q 0) j ∙ v in
             let wide : getD (st .calls .wides) (st .calls .count - 1) false ≡ s .wide = ap (λ q. getD (st .calls .wides) q false) j ∙ w in
             let tall = z .0 in

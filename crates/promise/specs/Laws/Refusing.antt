@@ -143,7 +143,7 @@ module _ {rom : List ℕ} (a : Assignment rom) (work store : List ℕ) (open-cal
       let l = not-past a (g .chain) (g .reach) (g .at) in
       let h = fails unknown (known-numbers a (g .numbers) (a .known met) l) in
       nor (only family call unknown) (only family assign unknown) (unasked family call unknown (λ e. h))
-          (unasked family assign unknown (λ e. h))
+      (unasked family assign unknown (λ e. h))
 
   -- ---- a definition
   module _ (d : T (isA define t)) where
@@ -168,13 +168,19 @@ module _ {rom : List ℕ} (a : Assignment rom) (work store : List ℕ) (open-cal
     -- its body is read to its C2
     pub body-ends : {c : ℕ} → T (isColon t) → Holds rom (reads (g .outer .wide) (t .next) c) → bodyHere s t ≡ Ends c
     body-ends {c} k r =
-        let f : Defined rom (g .home) (suc c) = record { setting = g .outer; token = t; met = outer .met; defines = d; ends =
-            Holds.through-body k r } in
+        let f : Defined rom (g .home) (suc c) = record {
+          setting = g .outer;
+          token = t;
+          met = outer .met;
+          defines = d;
+          ends =
+              Holds.through-body k r;
+        } in
         let b = body-read a (g .numbers) f k r in
         let w = g .wide ∙ ap (λ v. v .wide) (outer .setting) in
         let kinds = kindsOf (st .numbers) in
         subst (λ n. bodyOf rom n (st .wide) kinds (t .next) ≡ Ends c) (sym (g .size))
-            (subst (λ v. bodyOf rom (lengthOf rom) v kinds (t .next) ≡ Ends c) (sym w) b)
+        (subst (λ v. bodyOf rom (lengthOf rom) v kinds (t .next) ≡ Ends c) (sym w) b)
 
   -- ---- 13
   takenHere : Bool
@@ -187,7 +193,7 @@ module _ {rom : List ℕ} (a : Assignment rom) (work store : List ℕ) (open-cal
       (λ e.
       let d : T (isA define t) = holds (isA define t) (eq-eqb family define e) in
       nor (isHeld (st .numbers) (newNumber (t .operand))) (leb numbersMost (st .numbers .count)) (fails _ (new-number d))
-          (fails _ (lt-leb numbersMost (st .numbers .count) (number-room d))))
+      (fails _ (lt-leb numbersMost (st .numbers .count) (number-room d))))
 
   -- ---- a body is read without refusal
   body-well : Refusals.bodyRefusal s t ≡ 0
@@ -324,7 +330,7 @@ module _ {rom : List ℕ} (a : Assignment rom) (work store : List ℕ) (open-cal
       let n = no-pick in
       nor (ltb (st .stack .height) (takesHere t) || only family pickUp tooDeepHere) (only family rollUp tooDeepHere)
       (nor (ltb (st .stack .height) (takesHere t)) (only family pickUp tooDeepHere)
-          (fails _ (le-ltb (st .stack .height) (takesHere t) (omega arith)))
+      (fails _ (le-ltb (st .stack .height) (takesHere t) (omega arith)))
       (unasked family pickUp tooDeepHere (λ k. absurd (T-not (isA pickUp t) (n .0) (holds (isA pickUp t) (eq-eqb family pickUp k))))))
       (unasked family rollUp tooDeepHere (λ k. absurd (T-not (isA rollUp t) (n .1) (holds (isA rollUp t) (eq-eqb family rollUp k)))))
 
@@ -337,7 +343,7 @@ module _ {rom : List ℕ} (a : Assignment rom) (work store : List ℕ) (open-cal
       nor (only family always (leadsOut (t .operand))) (only family choice (eqb (cellOf s 0) 0 && leadsOut (t .operand)))
       (unasked family always (leadsOut (t .operand)) (λ e. leads-in (t .operand) (aimed-in (rw e tt))))
       (unasked family choice (eqb (cellOf s 0) 0 && leadsOut (t .operand))
-          (λ e. not-second (eqb (cellOf s 0) 0) (leadsOut (t .operand)) (leads-in (t .operand) (aimed-in (rw e tt)))))
+      (λ e. not-second (eqb (cellOf s 0) 0) (leadsOut (t .operand)) (leads-in (t .operand) (aimed-in (rw e tt)))))
 
   -- ---- 16: the return stack is within its limits
   not-call : (f : ℕ) → family ≡ f → T (not (eqb f call)) → effectOf (a .sum) t ≡ ownEffect t
@@ -350,15 +356,15 @@ module _ {rom : List ℕ} (a : Assignment rom) (work store : List ℕ) (open-cal
   returns-fit e =
       let o = not-call plain e tt in
       let h : returnTakesIn (t .code) ≤ a .back (g .text) (st .place) =
-          subst (λ v. v .«return_takes» ≤ a .back (g .text) (st .place)) o (low-there .1) in
+      subst (λ v. v .«return_takes» ≤ a .back (g .text) (st .place)) o (low-there .1) in
       let b = g .back in
       let z = base-here in
       let returns = st .back .height in
       nor (ltb (returns - baseOf (st .calls)) (returnTakesIn (t .code)))
-          (ltb returnMost (returns - returnTakesIn (t .code) + returnGivesIn (t .code)))
+      (ltb returnMost (returns - returnTakesIn (t .code) + returnGivesIn (t .code)))
       (fails _ (le-ltb (returns - baseOf (st .calls)) (returnTakesIn (t .code)) (omega arith)))
       (fails _ (le-ltb returnMost (returns - returnTakesIn (t .code) + returnGivesIn (t .code))
-          (by o h (gives-leads rom (lengthOf rom) (g .setting .wide) _ (st .place) t is (a .sum)))))
+      (by o h (gives-leads rom (lengthOf rom) (g .setting .wide) _ (st .place) t is (a .sum)))))
     where
       by : effectOf (a .sum) t ≡ ownEffect t → returnTakesIn (t .code) ≤ a .back (g .text) (st .place) → GivesOn (a .sum) t
           → st .back .height - returnTakesIn (t .code) + returnGivesIn (t .code) ≤ returnMost
@@ -385,7 +391,7 @@ module _ {rom : List ℕ} (a : Assignment rom) (work store : List ℕ) (open-cal
   not-back-wrong : T (not (Refusals.backWrong s t))
   not-back-wrong =
       nor (only family plain (backTrouble (t .code) (st .back .height) (baseOf (st .calls))))
-          (only family leave (not (eqb (st .back .height) (baseOf (st .calls)))))
+      (only family leave (not (eqb (st .back .height) (baseOf (st .calls)))))
       (unasked family plain (backTrouble (t .code) (st .back .height) (baseOf (st .calls))) returns-fit)
       (unasked family leave (not (eqb (st .back .height) (baseOf (st .calls)))) at-base)
 
@@ -487,7 +493,7 @@ module _ {rom : List ℕ} (a : Assignment rom) (work store : List ℕ) (open-cal
       let f = k .entered .defined in
       let o = own-frame a f (holds (isColon (f .token)) (sym (called-colon k) ∙ e)) (k .number) in
       let r : st .calls .count + a .sum (t .number) .frames ≤ framesMost =
-          subst (λ v. st .calls .count + v .frames ≤ framesMost) (effect-call (a .sum) t c) (space .frames) in
+      subst (λ v. st .calls .count + v .frames ≤ framesMost) (effect-call (a .sum) t c) (space .frames) in
       omega arith
 
   not-too-many : T (not (Refusals.tooManyFrames s t))

@@ -118,7 +118,7 @@ pub record Outer {rom : List ℕ} (a : Assignment rom) (es : List OpenCall) (k x
 pub fixed-outer : {rom : List ℕ} (a : Assignment rom) {calls : Calls} {es : List OpenCall} {home k x floor base p : ℕ} {outer s : Setting}
     {t : Token}
     → CallChain a calls home outer es k x floor base → Met rom x s p t → AtHome x p s home outer → T (fixes t || isA finish t)
-        → Outer a es k x floor base p home s outer t
+    → Outer a es k x floor base p home s outer t
 fixed-outer {rom} a {home = home} {s = s} {t = t} outside m h f =
     record {
       met = subst (λ v. Met rom 0 v home t) (h .1) (subst (λ v. Met rom 0 s v t) (h .0) m);

@@ -134,7 +134,7 @@ module _ {rom : List ℕ} (a : Assignment rom) where
   pub arrived-fine : (open-calls : List OpenCall) (s : Scene) → Arrived open-calls s → FineTurn a open-calls (s .state) (tokenTurn s)
   arrived-fine open-calls s m =
       subst (λ v. FineTurn a open-calls (s .state) (tokenTurn v)) (sym (arrived-at open-calls s m))
-          (token-fine open-calls (s .work) (s .store) (s .state) (m .steady))
+      (token-fine open-calls (s .work) (s .store) (s .state) (m .steady))
 
   pub arrived-next : (open-calls : List OpenCall) (s : Scene) → Arrived open-calls s → tokenTurn s .answer ≡ Going
       → Arrived (openAfter open-calls (s .state) (tokenTurn s .state)) (then s (tokenTurn s))
@@ -160,7 +160,7 @@ module _ {rom : List ℕ} (a : Assignment rom) where
     tokens-end {open-calls} {s} before budget zero n b t =
         let e : n ≡ budget = omega arith in
         subst (λ v. RunEnds rom work store before budget (ended (Spent v) v s)) (sym e)
-            (runs-out (subst (λ v. Trail rom work store (before + v) open-calls s) e t))
+        (runs-out (subst (λ v. Trail rom work store (before + v) open-calls s) e t))
     tokens-end {open-calls} {s} before budget (suc k) n b t = by (tokenTurn s .answer) refl (λ i u. tokens-end before budget k (n + 1) i u)
       where
         next : Scene
@@ -174,7 +174,7 @@ module _ {rom : List ℕ} (a : Assignment rom) where
 
         by : (w : Answer) → tokenTurn s .answer ≡ w
             → (n + 1 + k ≡ budget → Trail rom work store (before + (n + 1)) callsThen next
-                → RunEnds rom work store before budget (tokensFrom k (n + 1) next))
+            → RunEnds rom work store before budget (tokensFrom k (n + 1) next))
             → RunEnds rom work store before budget (tokensFrom (suc k) n s)
         by Going e f =
             let one : suc (before + n) ≡ before + (n + 1) = omega arith in
@@ -211,7 +211,7 @@ module _ {rom : List ℕ} (a : Assignment rom) where
   high-chain : {marks : List ℕ} {st : State} → Marks rom a marks
       → {open-calls : List OpenCall} {home k x floor base : ℕ} {outer s : Setting}
       → CallChain a (st .calls) home outer open-calls k x floor base → Reach rom x s (st .place)
-          → st .stack .height ≡ floor + a .height x (st .place)
+      → st .stack .height ≡ floor + a .height x (st .place)
       → HeightIs marks st open-calls
   high-chain m outside r h = let e = m .height r in HeightIs.outside (omega arith)
   high-chain {st = st} m (within {x = x} {floor = floor} {p = p} {d = d} {t = t} c y i q w v) r h =
@@ -219,9 +219,9 @@ module _ {rom : List ℕ} (a : Assignment rom) where
       let f = m .height (Holds.body (y .defined .met .reach) (y .defined .met .is) (y .colon) (b .1 .reads)) in
       let n = a .enter (b .1) .0 in
       let l : a .sum (t .number) .need ≤ a .height x p =
-          subst (λ u. u .takes ≤ a .height x p) (effect-call (a .sum) t (y .calls)) (a .there (y .met) .0) in
+      subst (λ u. u .takes ≤ a .height x p) (effect-call (a .sum) t (y .calls)) (a .there (y .met) .0) in
       HeightIs.within {c = openCall (floor + a .height x p) (y .defined .token .next)} {need = a .sum (t .number) .need} {more =
-          a .height (suc d) (st .place)}
+      a .height (suc d) (st .place)}
       (f ∙ ap suc n) (omega arith) (m .height r) (omega arith)
 
   calls-length : {calls : Calls} {open-calls : List OpenCall} {home k x floor base : ℕ} {outer : Setting}

@@ -60,6 +60,7 @@ use Rattle.promise.specs.Laws.Refusing.{not-first, aimed-in, on, isBodyH
 use Rattle.promise.specs.Laws.Refusing.{no-pick, node-room}
 use Rattle.promise.specs.Laws.Families.{find-in, family-known}
 use Rattle.promise.specs.Laws.Onward.{open-count, falls-on, go-on, fixed, go-fixed, go-in, go-out}
+use Rattle.rom.specs.Sizes.{nodesMost}
 
 -- ---- the tree
 -- a child more leaves every node where it was
@@ -70,7 +71,7 @@ below-more t active (child {k} {n} h l b) =
     child h (omega arith) (subst (λ p. Below (childOf t active) p n) (sym e) (below-more t active b))
 
 -- and is one below the node that was active
-below-child : (t : Tree) (active : ℕ) {n : ℕ} → SizedTree t → 2 ≤ t .nodes → t .nodes < 32 → Below t active n
+below-child : (t : Tree) (active : ℕ) {n : ℕ} → SizedTree t → 2 ≤ t .nodes → t .nodes < nodesMost → Below t active n
     → Below (childOf t active) (t .nodes) (suc n)
 below-child t active {n} z l h b =
     let e : parentOf (childOf t active) (t .nodes) ≡ active = getD-set-same (t .parents) (t .nodes) active 0 (omega (arith, z .parents)) in
@@ -130,7 +131,7 @@ ordinary f =
     not (eqb f call || eqb f define)
     && (not (eqb f plain || eqb f kind)
     && (not (eqb f finish || eqb f leave) &&
-        (not (eqb f always || eqb f choice) && not (eqb f define || eqb f widen || eqb f newDevice || eqb f finishDevice))))
+    (not (eqb f always || eqb f choice) && not (eqb f define || eqb f widen || eqb f newDevice || eqb f finishDevice))))
 
 record Ordinary (f : ℕ) : Type 0 where
   calls : T (not (eqb f call))
@@ -275,7 +276,7 @@ module _ {rom : List ℕ} (a : Assignment rom) (work stored : List ℕ) (open-ca
       let j = pick-is (λ q. In q both) (eqb (cellOf s 0) 0) (aimed (t .operand)) (t .next) (λ h. i .1) (λ h. i .0) in
       stacked (rw e tt)
       (on a work stored open-calls st g t is (subst (λ q. In (pick (eqb (cellOf s 0) 0) (aimed (t .operand)) (t .next)) q)
-          (sym (choice-leads t e)) j))
+      (sym (choice-leads t e)) j))
       (given (rw e tt) (rw e tt) choice _ _ e tt (omega arith) refl) refl refl refl refl refl refl
 
   -- ---- families of which each token takes and gives the same, and goes on behind itself
@@ -354,7 +355,7 @@ module _ {rom : List ℕ} (a : Assignment rom) (work stored : List ℕ) (open-ca
           let o = value-sum a work stored open-calls st g t is c k in
           let h : Effected (st .stack .height - 0 + 1) (st .back .height) =
           subst (λ v. (st .stack .height - 0 + 1 ≡ st .stack .height - v .takes + v .gives)
-              × (st .back .height ≡ st .back .height - v .«return_takes» + v .«return_gives»))
+          × (st .back .height ≡ st .back .height - v .«return_takes» + v .«return_gives»))
           (sym o) (refl, omega arith) in
           rw k (same-calls st refl (stacked (rw e tt) (falls (rw e tt) (rw e tt) (rw e tt)) h refl refl refl refl refl refl))
 
@@ -418,7 +419,7 @@ module _ {rom : List ℕ} (a : Assignment rom) (work stored : List ℕ) (open-ca
   new-good e =
       let f : T (fixes t) = rw e tt in
       let l = past f (rw e tt) (rw e tt) (rw e tt) in
-      let less : st .tree .nodes < 32 = nleb→lt 32 (st .tree .nodes) (node-room a work stored open-calls st g t is e) in
+      let less : st .tree .nodes < nodesMost = nleb→lt nodesMost (st .tree .nodes) (node-room a work stored open-calls st g t is e) in
       go-fixed a work stored open-calls st g t is f l
       (record {
         place = refl;
@@ -476,7 +477,7 @@ module _ {rom : List ℕ} (a : Assignment rom) (work stored : List ℕ) (open-ca
         let o = outer once in
         let f : Defined rom (g .home) q = record { setting = g .outer; token = t; met = o .met; defines = defines; ends = x } in
         let n = carried-new a v (leads-moves a (o .met) l) (g .numbers) (z .numbers)
-            (number-room a work stored open-calls st g t is defines) f c in
+        (number-room a work stored open-calls st g t is defines) f c in
         subst (λ w. Carried rom q (definedOf (st .numbers) (newNumber (t .operand)) (kindIn (t .operand)) v w)) (sym (width once)) n
 
     colon-good : kindIn (t .operand) ≡ colon → Standing a open-calls (Effects.colons s t .state)
@@ -536,7 +537,7 @@ module _ {rom : List ℕ} (a : Assignment rom) (work stored : List ℕ) (open-ca
         let kind = kindIn (t .operand) in
         let y = kind-takes in
         pick-is (λ (f : Effects.Effect). FineTurn a open-calls st (f s t)) (eqb kind colon) Effects.colons _
-            (λ c. same-calls st refl (colon-good (eqb→eq kind colon c)))
+        (λ c. same-calls st refl (colon-good (eqb→eq kind colon c)))
         (λ n. pick-is (λ (f : Effects.Effect). FineTurn a open-calls st (f s t)) (eqb kind value) Effects.values _
         (λ c. same-calls st refl (other-good (neqb→ne kind colon n) 1 (cellOf s 0) (st .«work_place») (rw (eqb→eq kind value c) (y .1))))
         (λ m. pick-is (λ (f : Effects.Effect). FineTurn a open-calls st (f s t)) (eqb kind variable) Effects.variables Effects.values

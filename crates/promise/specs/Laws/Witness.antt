@@ -60,7 +60,7 @@ module _ {c : Case} (a : AmongRows c cases) (p : c .verdict ≡ Passes) where
       let q = and-first (sameAnswer (o .answer) (c .answer)) _ r in
       subst (λ v. sameAnswer (v .answer) (c .answer) ≡ true)
       (sym (seen-ran (c .rom) lent lent lent (c .budget) (length-replicate {A = ℕ} workSize 0xAA) (length-replicate {A = ℕ} storeSize 0xAA)
-          passes-so)) q
+      passes-so)) q
 
 -- A6 A5 2B 00 divides by zero: it passes, and its run is refused
 pub divides : SeenRun

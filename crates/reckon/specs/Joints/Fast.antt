@@ -12,6 +12,7 @@ use Rattle.state.specs.Stacks.{stacks}
 use Rattle.state.specs.State.{moved, baseOf}
 use Rattle.state.specs.Scene.{turn, scene}
 use Rattle.state.specs.Step.{tokenTurn}
+use Rattle.rom.specs.Sizes.{dataMost, returnMost}
 use Rattle.state.specs.declared.state.State.{State}
 use Rattle.state.specs.declared.answer.Answer.{Answer}
 use Rattle.state.specs.declared.answer.Answer.the-variants.{Going, Refused}
@@ -34,11 +35,11 @@ abbrev pub Agrees : Answer → List ℕ → ℕ → Bool → ℕ → List ℕ �
 Agrees answer rom size wide base c h k b place r d l =
     (st : State) (work store : List ℕ) → Goes st size wide base
     → tokenTurn (scene rom work store (packedFast st c h k b place)) ≡ turn answer (packedFast st d (r .height) l (r .returns) (r .place))
-        work store
+    work store
 
 -- heights and place stay in their limits
 abbrev pub FitsFast : ℕ → ℕ → Turned → Type 0
-FitsFast size base r = (r .height ≤ 64) × (r .returns ≤ 32) × (base ≤ r .returns) × (8 ≤ r .place) × (r .place ≤ size)
+FitsFast size base r = (r .height ≤ dataMost) × (r .returns ≤ returnMost) × (base ≤ r .returns) × (8 ≤ r .place) × (r .place ≤ size)
 
 -- a token that is left to be done by value: nothing is changed, and it is a cold one
 abbrev pub LeftFast : List ℕ → List ℕ → ℕ → List ℕ → ℕ → ℕ → Turned → List ℕ → List ℕ → Type 0

@@ -4,6 +4,7 @@ use mathlib.Core.List.{List, [], _∷_}
 use lib.Dec.{ltb}
 use Rattle.cells.specs.Choice.{pick}
 use Rattle.state.specs.Numbers.{seekFrom}
+use Rattle.tokens.specs.Table.{programsMost, firstProgram}
 use Rattle.state.specs.declared.state.Numbers.{Numbers}
 
 -- ---- the kinds, as a function of the number listed from n on
@@ -17,7 +18,7 @@ holdsFrom f ns i n = pick (ltb (seekFrom (ns .programs) n (ns .count - i) i) (ns
     0
 
 abbrev pub tablePast : (ℕ → ℕ) → Numbers → ℕ → List ℕ
-tablePast f ns i = tableFrom 2048 0x800 (holdsFrom f ns i)
+tablePast f ns i = tableFrom programsMost firstProgram (holdsFrom f ns i)
 
 -- ---- where each number stands, one more than that, and 0 where it is not held
 abbrev pub slotsPast : Numbers → ℕ → List ℕ

@@ -12,7 +12,7 @@ use lib.Dec.{ltb, leb, eqb}
 use borrow.Author.Tests.{lt-ltb, le-ltb, le-leb, eq-eqb, ne-eqb, eqb-true, eqb-false, leb-true, ltb-true}
 use Rattle.cells.specs.Choice.{pick}
 use Rattle.cells.specs.Laws.Facts.{and-first, and-second, when-true, when-false}
-use Rattle.tokens.specs.Table.{isProgram}
+use Rattle.tokens.specs.Table.{isProgram, programsMost, firstProgram}
 use Rattle.state.specs.Numbers.{seekFrom, seekOf, isHeld, kindAt, kindHeld, kindsFrom, kindsOf, definedOf}
 use Rattle.state.specs.Joints.Tables.{tableFrom, holdsFrom, tablePast, slotsOf}
 use Rattle.state.specs.declared.state.Numbers.{Numbers}
@@ -59,7 +59,7 @@ set-listed zero n j v f = refl
 set-listed (suc k) n zero v f =
     let e : n + 0 ≡ n = omega arith in
     rw (e, eq-eqb n n refl) (ap (λ (l : List ℕ). v ∷ l)
-        (same-listed k (n + 1) f (λ m. pick (eqb n m) v (f m)) (λ m l h. sym (rw (ne-eqb n m (λ q. omega arith))))))
+    (same-listed k (n + 1) f (λ m. pick (eqb n m) v (f m)) (λ m l h. sym (rw (ne-eqb n m (λ q. omega arith))))))
 set-listed (suc k) n (suc j) v f =
     let e : n + suc j ≡ n + 1 + j = omega arith in
     rw (e, ne-eqb (n + 1 + j) n (λ q. omega arith)) (ap (λ (l : List ℕ). f n ∷ l) (set-listed k (n + 1) j v f))
@@ -83,8 +83,9 @@ none-held f ns n =
     )
 
 -- before any is put down
-pub table-none : (f : ℕ → ℕ) (ns : Numbers) → replicate 2048 0 ≡ tablePast f ns (ns .count)
-table-none f ns = zeros-listed 2048 0x800 ∙ same-listed 2048 0x800 (λ m. 0) (holdsFrom f ns (ns .count)) (λ m l h. sym (none-held f ns m))
+pub table-none : (f : ℕ → ℕ) (ns : Numbers) → replicate programsMost 0 ≡ tablePast f ns (ns .count)
+table-none f ns = zeros-listed programsMost firstProgram
+    ∙ same-listed programsMost firstProgram (λ m. 0) (holdsFrom f ns (ns .count)) (λ m l h. sym (none-held f ns m))
 
 -- the entry i is put down after those above it
 step-held : (f : ℕ → ℕ) (ns : Numbers) (i n : ℕ) → i < ns .count
@@ -96,17 +97,19 @@ step-held f ns i n h = cases (eqb (getD (ns .programs) i 0) n) refl
     cases false e = rw (passed (ns .programs) n (ns .count) i h (eqb-false _ _ e))
 
 put-listed : (n v : ℕ) (f g : ℕ → ℕ) → ((m : ℕ) → g m ≡ pick (eqb n m) v (f m))
-    → putKind (tableFrom 2048 0x800 f) n v ≡ tableFrom 2048 0x800 g
+    → putKind (tableFrom programsMost firstProgram f) n v ≡ tableFrom programsMost firstProgram g
 put-listed n v f g a = cases (isProgram n) refl
   where
-    cases : (b : Bool) → isProgram n ≡ b → pick b (set (tableFrom 2048 0x800 f) (n - 0x800) v) (tableFrom 2048 0x800 f) ≡ tableFrom 2048
+    cases : (b : Bool) → isProgram n ≡ b → pick b (set (tableFrom programsMost firstProgram f) (n - 0x800) v)
+        (tableFrom programsMost firstProgram f) ≡ tableFrom 2048
         0x800 g
     cases true e =
         let r = program-bounds n e in
         let q : 0x800 + (n - 0x800) ≡ n = omega arith in
-        set-listed 2048 0x800 (n - 0x800) v f ∙ same-listed 2048 0x800 _ g (λ m l u. rw q (sym (a m)))
+        set-listed programsMost firstProgram (n - 0x800) v f ∙ same-listed programsMost firstProgram _ g (λ m l u. rw q (sym (a m)))
     cases false e =
-        same-listed 2048 0x800 f g (λ m l u. sym (a m ∙ rw (ne-eqb n m (λ q. outside n e (omega (arith, q)) (omega (arith, q))))))
+        same-listed programsMost firstProgram f g
+        (λ m l u. sym (a m ∙ rw (ne-eqb n m (λ q. outside n e (omega (arith, q)) (omega (arith, q))))))
       where
         outside : (n : ℕ) → isProgram n ≡ false → 0x800 ≤ n → n ≤ 0xFFF → ⊥
         outside n e l u = let z = simp (le-leb 0x800 n l, le-leb n 0xFFF u) at e in let y : _≡_ {A = ℕ} 0 1 = cc in omega arith
@@ -198,7 +201,8 @@ unfolding kindHeld
 held-all ns n = simp sub-zero
 
 pub kinds-all : (ns : Numbers) → tablePast (kindAt ns) ns 0 ≡ kindsOf ns
-kinds-all ns = same-listed 2048 0x800 (holdsFrom (kindAt ns) ns 0) (kindHeld ns) (λ m l h. held-all ns m) ∙ kinds-listed ns 2048 0x800
+kinds-all ns = same-listed programsMost firstProgram (holdsFrom (kindAt ns) ns 0) (kindHeld ns) (λ m l h. held-all ns m)
+    ∙ kinds-listed ns programsMost firstProgram
 
 module _ (ns : Numbers) (n : ℕ) (p : isProgram n ≡ true) where
   slot-got : getD (slotsOf ns) (n - 0x800) 0 ≡ pick (isHeld ns n) (seekOf ns n + 1) 0
@@ -206,7 +210,7 @@ module _ (ns : Numbers) (n : ℕ) (p : isProgram n ≡ true) where
       let r = program-bounds n p in
       let e : 0x800 + (n - 0x800) ≡ n = omega arith in
       let z : ns .count - 0 ≡ ns .count = omega arith in
-      got-listed 2048 0x800 (n - 0x800) (holdsFrom (λ j. j + 1) ns 0) (omega arith) ∙ rw (e, z)
+      got-listed programsMost firstProgram (n - 0x800) (holdsFrom (λ j. j + 1) ns 0) (omega arith) ∙ rw (e, z)
 
   pub slot-none : getD (slotsOf ns) (n - 0x800) 0 ≡ 0 → isHeld ns n ≡ false
   slot-none e = by (isHeld ns n) refl
@@ -232,4 +236,4 @@ got-kind ns (suc k) n (suc j) h = let e : n + suc j ≡ n + 1 + j = omega arith 
 pub kind-got : (ns : Numbers) (n : ℕ) → 0x800 ≤ n → n ≤ 0xFFF → getD (kindsOf ns) (n - 0x800) 0 ≡ kindHeld ns n
 kind-got ns n l h =
     let e : 0x800 + (n - 0x800) ≡ n = omega arith in
-    got-kind ns 2048 0x800 (n - 0x800) (omega arith) ∙ ap (λ (m : ℕ). kindHeld ns m) e
+    got-kind ns programsMost firstProgram (n - 0x800) (omega arith) ∙ ap (λ (m : ℕ). kindHeld ns m) e

@@ -7,6 +7,7 @@ use Rattle.tokens.specs.Table.{ends, lows, highs, doubles, table, rowOf}
 use Rattle.tokens.specs.Code.{codeOf}
 use Rattle.state.specs.Stacks.{Stacks, stacks, leftOf, cellsFrom, plainOf}
 use Rattle.state.specs.Joints.Reckoning.{reckonedAs, reckonOf, divideOf, pickUpOf, rollUpOf, maybeOf}
+use Rattle.rom.specs.Sizes.{dataMost}
 
 abbrev only : List ℕ → ℕ → Stacks
 only cells height = stacks cells height [] 0
@@ -31,10 +32,10 @@ divide-by-zero : divideOf (only (7 ∷ 0 ∷ []) 2) ≡ reckonedAs 21 (only (7 �
 divide-by-zero = refl
 
 -- ?dup of 0 asks for no room
-maybe-of-zero : maybeOf (only (replicate 64 0) 64) ≡ reckonedAs 0 (only (replicate 64 0) 64)
+maybe-of-zero : maybeOf (only (replicate dataMost 0) dataMost) ≡ reckonedAs 0 (only (replicate dataMost 0) dataMost)
 maybe-of-zero = refl
 
-maybe-of-one : maybeOf (only (replicate 64 1) 64) ≡ reckonedAs 15 (only (replicate 64 1) 64)
+maybe-of-one : maybeOf (only (replicate dataMost 1) dataMost) ≡ reckonedAs 15 (only (replicate dataMost 1) dataMost)
 maybe-of-one = refl
 
 -- 2rot
@@ -43,7 +44,8 @@ unfolding leftOf reckonOf plainOf codeOf rowOf table ends lows highs doubles
 rot-two = refl
 
 -- r> below its frame's base: 16 comes before 15
-below-base : reckonOf 0x31 0 (stacks (replicate 64 0) 64 (5 ∷ []) 1) 1 ≡ reckonedAs 16 (stacks (replicate 64 0) 64 (5 ∷ []) 1)
+below-base : reckonOf 0x31 0 (stacks (replicate dataMost 0) dataMost (5 ∷ []) 1) 1 ≡ reckonedAs 16
+    (stacks (replicate dataMost 0) dataMost (5 ∷ []) 1)
 unfolding reckonOf codeOf rowOf table ends lows highs doubles
 below-base = refl
 

@@ -14,6 +14,7 @@ use Rattle.tokens.specs.Code.{codeOf, returnTakesIn, returnGivesIn}
 use Rattle.state.specs.Stacks.{Stacks, leftOf, cellsFrom, topOf, plainOf, backTrouble, tooDeep}
 use Rattle.state.specs.Stacks.{pickedOf, rolledOf, doubledOf}
 use Rattle.state.specs.Joints.Reckoning.{Reckoned, reckonedAs, tooLow, tooHigh, reckonOf, divideOf, pickUpOf, rollUpOf, maybeOf}
+use Rattle.rom.specs.Sizes.{dataMost, returnMost}
 
 pub length-left : (vs c : List ℕ) (base : ℕ) → length (leftOf c base vs) ≡ length c
 unfolding leftOf
@@ -31,7 +32,7 @@ cells-from-is c place (suc k) l =
 
 -- the heights are within the house sizes, and the return stack is not below its frame's base
 abbrev pub Sound : ℕ → Stacks → Type 0
-Sound base s = (s .height ≤ 64) × (s .returns ≤ 32) × (base ≤ s .returns)
+Sound base s = (s .height ≤ dataMost) × (s .returns ≤ returnMost) × (base ≤ s .returns)
 
 -- what a token leaves of such stacks: such stacks, of as many cells
 abbrev pub Keeps : ℕ → Stacks → Reckoned → Type 0
@@ -55,7 +56,7 @@ module _ (base : ℕ) (s : Stacks) (w : Sound base s) where
   unfolding plainOf
   plain-keeps n operand u v =
       let k = codeOf n in
-      let q = neither (ltb (s .returns - base) (returnTakesIn k)) (ltb 32 (s .returns - returnTakesIn k + returnGivesIn k)) u in
+      let q = neither (ltb (s .returns - base) (returnTakesIn k)) (ltb returnMost (s .returns - returnTakesIn k + returnGivesIn k)) u in
       let a = q .0 in
       let b = q .1 in
       let p = w .2 in
@@ -75,14 +76,17 @@ module _ (base : ℕ) (s : Stacks) (w : Sound base s) where
       let p = w .2 in
       pick-is (Keeps base s) (ltb (s .height) 2) (reckonedAs 14 s) _ (λ t. same 14)
       (λ t. pick-is (Keeps base s) (eqb (topOf (s .cells) (s .height) 0) 0) (reckonedAs 21 s) (reckonedAs 0 (plainOf 0x2B 0 s))
-          (λ u. same 21)
-      (λ u. ((rw divided-code (omega (arith, tests)), rw divided-code (omega arith), rw divided-code (omega arith)),
-          length-left _ (s .cells) _, length-left _ (s .back) _)))
+      (λ u. same 21)
+      (λ u. (
+        (rw divided-code (omega (arith, tests)), rw divided-code (omega arith), rw divided-code (omega arith)),
+        length-left _ (s .cells) _,
+        length-left _ (s .back) _,
+      )))
 
   pub pick-up-keeps : Keeps base s (pickUpOf s)
   pick-up-keeps =
       pick-is (Keeps base s) (tooDeep s) (reckonedAs 14 s) (reckonedAs 0 (pickedOf s)) (λ t. same 14)
-          (λ t. (w, length-set (s .cells) _ _, refl))
+      (λ t. (w, length-set (s .cells) _ _, refl))
 
   pub roll-up-keeps : Keeps base s (rollUpOf s)
   roll-up-keeps =
@@ -94,5 +98,5 @@ module _ (base : ℕ) (s : Stacks) (w : Sound base s) where
   maybe-keeps =
       pick-is (Keeps base s) (ltb (s .height) 1) (reckonedAs 14 s) _ (λ t. same 14)
       (λ t. pick-is (Keeps base s) (eqb (topOf (s .cells) (s .height) 0) 0) (reckonedAs 0 s) _ (λ u. same 0)
-      (λ u. pick-is (Keeps base s) (ltb 64 (s .height + 1)) (reckonedAs 15 s) (reckonedAs 0 (doubledOf s)) (λ v. same 15)
+      (λ u. pick-is (Keeps base s) (ltb dataMost (s .height + 1)) (reckonedAs 15 s) (reckonedAs 0 (doubledOf s)) (λ v. same 15)
       (λ v. ((omega (arith, tests), w .1, w .2), length-set (s .cells) _ _, refl))))

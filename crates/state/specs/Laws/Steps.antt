@@ -61,7 +61,7 @@ unfolding actOf effects
 act-fair s t =
     find-at (λ e. FairTurn s (e s t)) effects nothing (familyIn (t .code))
     (go ▸ (λ k. (refl, refl)) ▸ go ▸ go ▸ go ▸ go ▸ go ▸ go ▸ go ▸ go ▸ go ▸ go ▸ go ▸ (λ k. kinds) ▸ go ▸
-        (λ k. body bodyHere refl) ▸ go ▸ go ▸ go ▸ go ▸ go ▸ go ▸ go ▸ tt)
+    (λ k. body bodyHere refl) ▸ go ▸ go ▸ go ▸ go ▸ go ▸ go ▸ go ▸ tt)
     refl
   where
     go : {m n : ℕ} → m ≡ n → Unit {0}
@@ -70,7 +70,7 @@ act-fair s t =
     kinds : FairTurn s (defines s t)
     kinds =
         find-at (λ e. FairTurn s (e s t)) ((colon, colons) ∷ (value, values) ∷ (variable, variables) ∷ []) values (kindIn (t .operand))
-            (go ▸ go ▸ go ▸ tt) tt
+        (go ▸ go ▸ go ▸ tt) tt
 
     bodyHere : Bool
     bodyHere = isBody (s .state .numbers) (seekOf (s .state .numbers) (t .number))
@@ -249,7 +249,7 @@ tokens-left (suc k) n s z r e = by (tokenTurn s .answer) refl (λ to y q f. toke
     by (Refused why) g f =
         let q = refused-keeps s why g in
         rw (g, tokensFrom) (same-left (Refused why) n s (tokenTurn s) e
-            (ap (λ (x : Turn). x .state .tree) q, ap (λ (x : Turn). x .store) q))
+        (ap (λ (x : Turn). x .state .tree) q, ap (λ (x : Turn). x .store) q))
     by (Spent m) g f = rw (g, tokensFrom) (same-left (Spent m) n s (tokenTurn s) e (subst (FairRun s (tokenTurn s)) g (token-fair s)))
 
 pub run-left : (budget : ℕ) (rom : List ℕ) → headerOf rom ≡ 0 → Left (runOf budget (opened rom))

@@ -49,7 +49,7 @@ module _ (s : Scene) (t : Token) where
   records-defined : SameRecords (find ((colon, colons) ∷ (value, values) ∷ (variable, variables) ∷ []) values (kindIn (t .operand)) s t)
   records-defined =
       find-is (λ (f : Effect). SameRecords (f s t)) ((colon, colons) ∷ (value, values) ∷ (variable, variables) ∷ []) values
-          (kindIn (t .operand))
+      (kindIn (t .operand))
       (refl, (refl, (refl, tt))) refl
 
   pub count-kept : (familyIn (t .code) ≡ define → ⊥) → doneOf s t .state .numbers .count ≡ s .state .numbers .count

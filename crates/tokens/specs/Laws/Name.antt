@@ -73,7 +73,7 @@ unpacked-wider (suc k) w h =
     elim (decLt 0 w) [
       | yes l ↦ let p = pow-suc 256 k in
           unpacked-last (suc k) w (λ e. omega arith)
-              ∙ rw (unpacked-wider k (w / 256) (omega arith)) (sym (unpacked-last k w (λ e. omega arith)))
+          ∙ rw (unpacked-wider k (w / 256) (omega arith)) (sym (unpacked-last k w (λ e. omega arith)))
       | no l ↦ let e : w ≡ 0 = omega arith in
           rw e (unpacked-none (suc (suc k)) ∙ sym (unpacked-none (suc k)))
     ]

@@ -58,7 +58,7 @@ decode-formed : (rom : List ℕ) (length : ℕ) (wide : Bool) (p : ℕ) → Form
 decode-formed rom length wide p =
     let b = behind-ahead rom wide (behindNumber rom p) (formIn (codeOf (numberOf rom p))) in
     decoded-is (FormedAs rom length wide p) rom length wide p tt
-        (λ h l. record { number = refl; code = refl; ends = refl; starts = b; before = h })
+    (λ h l. record { number = refl; code = refl; ends = refl; starts = b; before = h })
     (λ h. omega arith)
 
 pub formed-as : (rom : List ℕ) (length : ℕ) (wide : Bool) (p : ℕ) (d : Decoded) → decodeOf rom length wide p ≡ d

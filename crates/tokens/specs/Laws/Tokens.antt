@@ -144,7 +144,7 @@ module _ (rom : List ℕ) (length : ℕ) (wide : Bool) (kinds : List ℕ) where
   body-is p =
       enough (length - p) (suc (length - p)) p (omega arith) (omega arith)
       ∙ same-after p (λ q. bodyFrom rom length wide kinds (length - p) q) (λ q. bodyOf rom length wide kinds q)
-          (readOf rom length wide true p)
+      (readOf rom length wide true p)
       (read-ahead rom length wide true p) (λ q h. enough (length - p) (length - q) q (omega arith) (omega arith))
 
   pub body-stops : (p why : ℕ) → readOf rom length wide true p ≡ Refused why → bodyOf rom length wide kinds p ≡ Stops p why

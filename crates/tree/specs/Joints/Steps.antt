@@ -1,5 +1,5 @@
--- The same by numbers, as the code goes: a walk over the records with a running place, the test for room, and the stores. Laws shows that they come to
--- what Property says. Assumes nothing.
+-- The same by numbers, as the code goes: a walk over the records with a running place, the test for room, and the stores. Laws shows that
+-- they come to what Property says. Assumes nothing.
 use Prim.Native.Nat.{ℕ, _+_, _-_}
 use mathlib.Core.Bool.{Bool, _||_}
 use mathlib.Core.List.{List}
@@ -33,7 +33,8 @@ appendedOf store live name value =
 
 abbrev pub replacedOf : List ℕ → ℕ → ℕ → ℕ → List ℕ → List ℕ
 replacedOf store live at old value =
-    clearedOf (writtenOf (movedOf store (at + old) (at + length value) (live - (at + old))) at value) (at + length value + (live - (at + old)))
+    clearedOf (writtenOf (movedOf store (at + old) (at + length value) (live - (at + old))) at value)
+    (at + length value + (live - (at + old)))
 
 -- the store with a value whose record stands at an index, its name's bytes at a place
 abbrev pub laidWith : Tree → List ℕ → ℕ → ℕ → ℕ → List ℕ → List ℕ → List ℕ

@@ -26,13 +26,14 @@ use Rattle.tree.specs.Laws.Lives.{live-behind, live-inside, found-name, 
 use Rattle.tree.specs.Laws.PutKept.{SizedTree}
 use Rattle.tree.specs.Joints.Apart.{refusedWith, doneWith, tailOf, Clean, Tallied, Finds, Missing, Puts}
 use Rattle.tree.specs.Laws.Clean.{clean-cleared}
+use Rattle.rom.specs.Sizes.{propertiesMost, storeSize}
 use Rattle.tree.specs.declared.tree.Tree.{Tree}
 use Rattle.tree.specs.declared.property.Found.{Found}
 use Rattle.tree.specs.declared.in_place.Tail.{Tail}
 use Rattle.tree.specs.declared.in_place.Kept.{Kept}
 
 -- the tail of a whole tree's records, of whose store nothing else is known
-pub tallied-first : (t : Tree) (s : List ℕ) → SizedTree t → wholeTree t ≡ true → length s ≡ 16384
+pub tallied-first : (t : Tree) (s : List ℕ) → SizedTree t → wholeTree t ≡ true → length s ≡ storeSize
     → Tallied s (t .«name_sizes») (t .«value_sizes») (t .held) (tailOf (t .«name_sizes») (t .«value_sizes») (t .held))
 tallied-first t s z w l =
     let n = whole-facts t w in
@@ -92,7 +93,7 @@ module _ (node : ℕ) (name value s owners nameSizes valueSizes : List ℕ) (hel
         → Given (refusedWith 27 held tail) s owners nameSizes valueSizes
     full o = refused-as 27 (λ e. omega arith) (λ t w. no-room (lent t) s node name value (k .0) w b (o t))
 
-    pub large-value : 16384 < length value → Given (refusedWith 27 held tail) s owners nameSizes valueSizes
+    pub large-value : storeSize < length value → Given (refusedWith 27 held tail) s owners nameSizes valueSizes
     large-value g = full (λ t. full-value (lent t) s node name value (k .3) roomy g)
 
     -- a property more
@@ -100,22 +101,22 @@ module _ (node : ℕ) (name value s owners nameSizes valueSizes : List ℕ) (hel
       abbrev added-live : ℕ
       added-live = tail .live + n + v
 
-      pub all-held : 128 ≤ held → Given (refusedWith 27 held tail) s owners nameSizes valueSizes
+      pub all-held : propertiesMost ≤ held → Given (refusedWith 27 held tail) s owners nameSizes valueSizes
       all-held h =
           full (λ t.
-          full-is (lent t) s node name value (k .3) roomy ∙ rw (m t, eq-eqb held held refl, le-leb 128 held h))
+          full-is (lent t) s node name value (k .3) roomy ∙ rw (m t, eq-eqb held held refl, le-leb propertiesMost held h))
 
-      pub store-full : 16384 < added-live → Given (refusedWith 27 held tail) s owners nameSizes valueSizes
+      pub store-full : storeSize < added-live → Given (refusedWith 27 held tail) s owners nameSizes valueSizes
       store-full h =
           full (λ t.
           full-is (lent t) s node name value (k .3) roomy
-          ∙ rw (m t, eq-eqb held held refl, ← k .4, lt-ltb 16384 added-live h) (or-true (leb 128 held)))
+          ∙ rw (m t, eq-eqb held held refl, ← k .4, lt-ltb storeSize added-live h) (or-true (leb propertiesMost held)))
 
-      module _ (h : held < 128) (l : added-live ≤ 16384) where
+      module _ (h : held < propertiesMost) (l : added-live ≤ storeSize) where
         has-room : (t : Tree) → overfull (wouldHold (lent t) s node name value) ≡ false
         has-room t =
             full-is (lent t) s node name value (k .3) roomy
-            ∙ rw (m t, eq-eqb held held refl, ← k .4, lt-leb 128 held h, le-ltb 16384 added-live l)
+            ∙ rw (m t, eq-eqb held held refl, ← k .4, lt-leb propertiesMost held h, le-ltb storeSize added-live l)
 
         recorded-new : (t : Tree)
             → treeOnRecords t (set owners held node) (set nameSizes held n) (set valueSizes held v) (held + 1)
@@ -142,7 +143,7 @@ module _ (node : ℕ) (name value s owners nameSizes valueSizes : List ℕ) (hel
             let e = k .4 in
             let f = live-behind nameSizes valueSizes held n v (omega arith) (omega arith) held 0 (omega arith) in
             let d : held + 1 ≡ suc held = omega arith in
-            let size : length (appendedOf s live name value) ≡ 16384 = length-appended s live name value ∙ k .0 in (
+            let size : length (appendedOf s live name value) ≡ storeSize = length-appended s live name value ∙ k .0 in (
               size,
               length-set nameSizes held n ∙ kn,
               length-set valueSizes held v ∙ kv,
@@ -186,19 +187,19 @@ module _ (node : ℕ) (name value s owners nameSizes valueSizes : List ℕ) (hel
           let p = present (lent freshTree) s node name value (λ x. omega arith) .0 in
           rw (← named, k .4, e freshTree) p
 
-      pub value-grows : 16384 < changed-live → Given (refusedWith 27 held tail) s owners nameSizes valueSizes
+      pub value-grows : storeSize < changed-live → Given (refusedWith 27 held tail) s owners nameSizes valueSizes
       value-grows g =
           let q = inside in
           full (λ t.
           full-is (lent t) s node name value (k .3) roomy
-          ∙ rw (← there t, ne-eqb i held (λ x. omega arith), ← k .4) (lt-ltb (16384 + old) (tail .live + v) (omega arith)))
+          ∙ rw (← there t, ne-eqb i held (λ x. omega arith), ← k .4) (lt-ltb (storeSize + old) (tail .live + v) (omega arith)))
 
-      module _ (l : changed-live ≤ 16384) where
+      module _ (l : changed-live ≤ storeSize) where
         fits : (t : Tree) → overfull (wouldHold (lent t) s node name value) ≡ false
         fits t =
             let q = inside in
             full-is (lent t) s node name value (k .3) roomy
-            ∙ rw (← there t, ne-eqb i held (λ x. omega arith), ← k .4) (le-ltb (16384 + old) (tail .live + v) (omega arith))
+            ∙ rw (← there t, ne-eqb i held (λ x. omega arith), ← k .4) (le-ltb (storeSize + old) (tail .live + v) (omega arith))
 
         -- the record keeps its node and its name
         same-owner : set owners i node ≡ owners
@@ -240,7 +241,7 @@ module _ (node : ℕ) (name value s owners nameSizes valueSizes : List ℕ) (hel
             let r = live-inside nameSizes valueSizes i n v (omega arith) (omega arith) held 0 (omega arith) (omega arith) in
             let g = rw same-name at r in
             let x : at + v + (live - (at + old)) ≡ changed-live = omega arith in
-            let size : length other ≡ 16384 = length-replaced s live at old value ∙ k .0 in (
+            let size : length other ≡ storeSize = length-replaced s live at old value ∙ k .0 in (
               size,
               kn,
               length-set valueSizes i v ∙ kv,

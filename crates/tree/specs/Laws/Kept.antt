@@ -12,14 +12,15 @@ use lib.Dec.{T, leb, ltb, ltb→lt, lt→ltb}
 use borrow.Author.Tests.{le-leb, leb-false}
 use Rattle.cells.specs.Laws.Facts.{is-true, four-hold, join-four}
 use Rattle.tree.specs.Held.{liveOf}
-use Rattle.tree.specs.Whole.{everyBelow, parentOf, older, olderAmong, sound, soundWith, counted, wholeTree}
+use Rattle.tree.specs.Whole.{everyBelow, parentOf, older, olderAmong, sound, soundWith, counted, wholeTree, nameMost}
 use Rattle.tree.specs.Node.{noRoom, childOf, newDeviceOf}
 use Rattle.tree.specs.Laws.Trees.{Whole, whole-facts, every-all, older-child}
 use Rattle.tree.specs.Laws.Layout.{either}
+use Rattle.rom.specs.Sizes.{nodesMost, propertiesMost, storeSize}
 use Rattle.tree.specs.declared.tree.Tree.{Tree}
 
-pub counted-is : (nodes held : ℕ) → 2 ≤ nodes → nodes ≤ 32 → held ≤ 128 → counted nodes held ≡ true
-counted-is nodes held a b c = rw (le-leb 2 nodes a, le-leb nodes 32 b, le-leb held 128 c)
+pub counted-is : (nodes held : ℕ) → 2 ≤ nodes → nodes ≤ nodesMost → held ≤ propertiesMost → counted nodes held ≡ true
+counted-is nodes held a b c = rw (le-leb 2 nodes a, le-leb nodes nodesMost b, le-leb held propertiesMost c)
 
 pub whole-is : (t : Tree) → Whole t → wholeTree t ≡ true
 unfolding wholeTree
@@ -29,7 +30,7 @@ whole-is t w =
       is-true (everyBelow (t .nodes) (older t)) (every-all (t .nodes) (older t) (w .parents-older)),
       is-true (everyBelow (t .held) (sound t)) (every-all (t .held) (sound t) (w .records-sound)),
     )
-    (le-leb (liveOf t) 16384 (w .live-most))
+    (le-leb (liveOf t) storeSize (w .live-most))
 
 -- what a store into a list leaves
 older-kept : (ps : List ℕ) (i a k : ℕ) → k ≢ i → olderAmong (set ps i a) k ≡ olderAmong ps k
@@ -45,15 +46,15 @@ at-most l i a =
 
 sound-more : (n m o a v : ℕ) → n ≤ m → T (soundWith n o a v) → T (soundWith m o a v)
 sound-more n m o a v h t =
-    let (x, b, c, d) = four-hold (ltb o n) (leb 1 a) (leb a 31) (leb v 16384) t in
+    let (x, b, c, d) = four-hold (ltb o n) (leb 1 a) (leb a nameMost) (leb v storeSize) t in
     let l = ltb→lt o n x in
-    join-four (ltb o m) (leb 1 a) (leb a 31) (leb v 16384) (lt→ltb o m (omega arith)) b c d
+    join-four (ltb o m) (leb 1 a) (leb a nameMost) (leb v storeSize) (lt→ltb o m (omega arith)) b c d
 
 module _ (t : Tree) (active : ℕ) (there : active < t .nodes) where
   -- a child of a node that is there
   pub child-whole : Whole t → noRoom t ≡ false → Whole (childOf t active)
   child-whole w r =
-      let b = leb-false 32 (t .nodes) r in
+      let b = leb-false nodesMost (t .nodes) r in
       let parents = set (t .parents) (t .nodes) active in
       record {
         nodes-least = omega (arith, w .nodes-least);

@@ -1,5 +1,5 @@
--- The steps of the code come to what Property says: the walk finds the oldest property, and the stores leave the properties as they would be.
--- Assumes nothing.
+-- The steps of the code come to what Property says: the walk finds the oldest property, and the stores leave the properties as they would
+-- be. Assumes nothing.
 use Prim.Native.Nat.{ℕ, zero, suc, _+_, _-_, _≤_, _<_}
 use native.Mathlib.Nat.{add-zero}
 use native.Mathlib.Omega.{arith}
@@ -13,7 +13,8 @@ use Rattle.cells.specs.Laws.Tests.{when-is}
 use Rattle.memory.specs.Window.{partOf}
 use Rattle.memory.specs.Writing.{writtenOf, movedOf, clearedOf}
 use Rattle.memory.specs.Laws.Memory.{written-append, written-is, length-written, length-part}
-use Rattle.tree.specs.Held.{Property, propertyAt, nameSize, valueSize, heldFrom, liveAmong, liveFrom, laidOut, matches, indexOf, foundFrom}
+use Rattle.tree.specs.Held.{Property, propertyAt, nameSize, valueSize, heldFrom, liveAmong, liveFrom, laidOut, matches, indexOf}
+use Rattle.tree.specs.Held.{foundFrom}
 use Rattle.tree.specs.Property.{putIn}
 use Rattle.tree.specs.Joints.Steps.{appendedOf, replacedOf}
 use Rattle.tree.specs.declared.tree.Tree.{Tree}
@@ -33,14 +34,17 @@ never-not b e t = absurd (rw e at t)
 module _ (p : Property) (ps : List Property) (node : ℕ) (name : List ℕ) where
   pub index-here : matches p node name ≡ true → indexOf (p ∷ ps) node name ≡ 0
   unfolding indexOf
-  index-here e = when-is (λ z. z ≡ 0) (matches p node name) 0 (suc (indexOf ps node name)) (λ t. refl) (λ t. never (matches p node name) e t)
+  index-here e = when-is (λ z. z ≡ 0) (matches p node name) 0 (suc (indexOf ps node name)) (λ t. refl)
+      (λ t. never (matches p node name) e t)
 
   pub index-next : matches p node name ≡ false → indexOf (p ∷ ps) node name ≡ suc (indexOf ps node name)
   unfolding indexOf
   index-next e =
-      when-is (λ z. z ≡ suc (indexOf ps node name)) (matches p node name) 0 (suc (indexOf ps node name)) (λ t. never-not (matches p node name) e t) (λ t. refl)
+      when-is (λ z. z ≡ suc (indexOf ps node name)) (matches p node name) 0 (suc (indexOf ps node name))
+      (λ t. never-not (matches p node name) e t) (λ t. refl)
 
-  pub put-here : (value : List ℕ) → matches p node name ≡ true → putIn (p ∷ ps) node name value ≡ record { node = p .node; name = p .name; value = value } ∷ ps
+  pub put-here : (value : List ℕ) → matches p node name ≡ true
+      → putIn (p ∷ ps) node name value ≡ record { node = p .node; name = p .name; value = value } ∷ ps
   unfolding putIn
   put-here value e =
       let x : List Property = record { node = p .node; name = p .name; value = value } ∷ ps in
@@ -50,7 +54,8 @@ module _ (p : Property) (ps : List Property) (node : ℕ) (name : List ℕ) wher
   unfolding putIn
   put-next value e =
       let x : List Property = record { node = p .node; name = p .name; value = value } ∷ ps in
-      when-is (λ z. z ≡ p ∷ putIn ps node name value) (matches p node name) x (p ∷ putIn ps node name value) (λ t. never-not (matches p node name) e t) (λ t. refl)
+      when-is (λ z. z ≡ p ∷ putIn ps node name value) (matches p node name) x (p ∷ putIn ps node name value)
+      (λ t. never-not (matches p node name) e t) (λ t. refl)
 
 -- parts one behind the other are one part
 pub part-join : (s : List ℕ) (at n m : ℕ) → partOf s at n ++ partOf s (at + n) m ≡ partOf s at (n + m)
@@ -141,7 +146,8 @@ module _ (t : Tree) (store : List ℕ) where
           )),
         )
 
-    walked-next : (k i at : ℕ) → matches (propertyAt t store i at) node name ≡ false → Walked k (i + 1) (at + nameSize t i + valueSize t i) → Walked (suc k) i at
+    walked-next : (k i at : ℕ) → matches (propertyAt t store i at) node name ≡ false → Walked k (i + 1) (at + nameSize t i + valueSize t i)
+        → Walked (suc k) i at
     unfolding foundFrom heldFrom liveAmong
     walked-next k i at m w =
         let n = nameSize t i in
@@ -183,7 +189,8 @@ appended-is s l name value h =
     let b = length-append (take l s) (name ++ value) in
     let c = length-take-le l s (omega arith) in
     let d = l + length (name ++ value) in
-    let w = sym (written-append s l name value) ∙ written-is s l (name ++ value) (omega arith) ∙ sym (append-assoc (take l s) (name ++ value) (drop d s)) in
+    let w = sym (written-append s l name value) ∙ written-is s l (name ++ value) (omega arith)
+    ∙ sym (append-assoc (take l s) (name ++ value) (drop d s)) in
     let e : length p ≡ l + length name + length value = omega arith in
     let f = length-written s l (name ++ value) in
     let g = length-written (writtenOf s l name) (l + length name) value in
@@ -205,7 +212,8 @@ replaced-is s l a v value h k g =
     let m = movedOf s (a + v) (a + w) (l - (a + v)) in
     let e1 : m ≡ take (a + w) s ++ (b ++ drop n s) = written-is s (a + w) b (omega arith) ∙ rw q in
     let lm : length m ≡ length s = length-written s (a + w) b in
-    let e2 : take a m ≡ take a s = rw e1 (take-append-le a (take (a + w) s) (b ++ drop n s) (omega arith) ∙ take-take a (a + w) s (omega arith)) in
+    let e2 : take a m ≡ take a s = rw e1 (take-append-le a (take (a + w) s) (b ++ drop n s) (omega arith)
+    ∙ take-take a (a + w) s (omega arith)) in
     let e3 : drop (a + w) m ≡ b ++ drop n s = rw e1 (drop-at (take (a + w) s) (b ++ drop n s) (a + w) t) in
     let x : writtenOf m a value ≡ p ++ drop n s =
     written-is m a value (omega arith) ∙ rw (e2, e3)

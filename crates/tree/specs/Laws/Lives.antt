@@ -80,7 +80,8 @@ module _ (t : Tree) (store : List ℕ) (node : ℕ) (name : List ℕ) where
       either (matches (propertyAt t store i at) node name)
       (λ m. rw m
       (sym (length-part store at (nameSize t i) (omega arith))
-      ∙ same-length (partOf store at (nameSize t i)) name (and-second (eqb (ownerOf t i) node) (sameBytes (partOf store at (nameSize t i)) name) m)))
+      ∙ same-length (partOf store at (nameSize t i)) name
+      (and-second (eqb (ownerOf t i) node) (sameBytes (partOf store at (nameSize t i)) name) m)))
       (λ m. let l′ = rw m at l in rw m (found-name k (i + 1) (at + nameSize t i + valueSize t i) (omega arith) (omega arith)))
 
   pub found-owner : (k i at : ℕ) → foundFrom t store node name k i at .index < i + k

@@ -15,12 +15,13 @@ use borrow.Author.Tests.{lt-ltb, le-ltb, eq-eqb, ne-eqb, eqb-true, eqb-false}
 use Rattle.cells.specs.Choice.{pick}
 use Rattle.cells.specs.Laws.Facts.{when-true, when-false}
 use Rattle.memory.specs.Window.{partOf}
-use Rattle.rom.specs.Sizes.{storeSize}
+use Rattle.rom.specs.Sizes.{storeSize, propertiesMost}
 use Rattle.tree.specs.Held.{Property, nameSize, valueSize, propertyAt, heldFrom, heldOf, liveOf, matches, foundFrom}
 use Rattle.tree.specs.Whole.{parentOf, wholeTree}
 use Rattle.tree.specs.Laws.Trees.{whole-facts}
 use Rattle.tree.specs.Laws.Layout.{either, walked}
-use Rattle.tree.specs.Path.{slash, splitOf, partsOf, isEmpty, anyEmpty, malformed, valueIn, lessNull, isCalled, childFrom, childNamed, downFrom, behindSlash, findNodeOf, namedPlace, findPropertyOf, propertyValueOf}
+use Rattle.tree.specs.Path.{slash, splitOf, partsOf, isEmpty, anyEmpty, malformed, valueIn, lessNull, isCalled, childFrom, childNamed}
+use Rattle.tree.specs.Path.{downFrom, behindSlash, findNodeOf, namedPlace, findPropertyOf, propertyValueOf}
 use Rattle.tree.specs.Path.{ownValueOf}
 use Rattle.tree.specs.declared.tree.Tree.{Tree}
 use Rattle.tree.specs.declared.property.Found.{Found}
@@ -173,7 +174,8 @@ module _ (t : Tree) (store : List ℕ) (node : ℕ) (name : List ℕ) where
       partOf store (foundFrom t store node name k i at .at + nameSize t (foundFrom t store node name k i at .index))
       (valueSize t (foundFrom t store node name k i at .index))
 
-  value-found : (k i at : ℕ) → foundFrom t store node name k i at .index < i + k → valueIn (heldFrom t store k i at) node name ≡ some (valueFrom k i at)
+  value-found : (k i at : ℕ) → foundFrom t store node name k i at .index < i + k
+      → valueIn (heldFrom t store k i at) node name ≡ some (valueFrom k i at)
   unfolding foundFrom heldFrom
   value-found zero i at h = absurd (omega arith)
   value-found (suc k) i at h =
@@ -201,7 +203,8 @@ module _ (t : Tree) (store : List ℕ) (node : ℕ) (name : List ℕ) where
   unfolding namedPlace
   place-none h = rw (le-ltb (found .index) (t .held) h)
 
-  pub place-there : found .index < t .held → namedPlace t store node name ≡ Value (found .at + nameSize t (found .index)) (valueSize t (found .index))
+  pub place-there : found .index < t .held
+      → namedPlace t store node name ≡ Value (found .at + nameSize t (found .index)) (valueSize t (found .index))
   unfolding namedPlace
   place-there h = rw (lt-ltb (found .index) (t .held) h)
 
@@ -253,22 +256,27 @@ module _ (t : Tree) (store : List ℕ) (node : ℕ) (part : List ℕ) where
 
   pub child-here : (n k : ℕ) → k < n → isChild k ≡ true → childFrom t store node part (n - k) k ≡ some k
   unfolding childFrom
-  child-here n k h e = let f : n - k ≡ suc (n - (k + 1)) = omega arith in rw f (when-true (some k) (childFrom t store node part (n - (k + 1)) (k + 1)) (isChild k) e)
+  child-here n k h e = let f : n - k ≡ suc (n - (k + 1)) = omega arith in
+      rw f (when-true (some k) (childFrom t store node part (n - (k + 1)) (k + 1)) (isChild k) e)
 
-  pub child-next : (n k : ℕ) → k < n → isChild k ≡ false → childFrom t store node part (n - k) k ≡ childFrom t store node part (n - (k + 1)) (k + 1)
+  pub child-next : (n k : ℕ) → k < n → isChild k ≡ false
+      → childFrom t store node part (n - k) k ≡ childFrom t store node part (n - (k + 1)) (k + 1)
   unfolding childFrom
-  child-next n k h e = let f : n - k ≡ suc (n - (k + 1)) = omega arith in rw f (when-false (some k) (childFrom t store node part (n - (k + 1)) (k + 1)) (isChild k) e)
+  child-next n k h e = let f : n - k ≡ suc (n - (k + 1)) = omega arith in
+      rw f (when-false (some k) (childFrom t store node part (n - (k + 1)) (k + 1)) (isChild k) e)
 
   pub child-none : (n k : ℕ) → n ≤ k → childFrom t store node part (n - k) k ≡ none
   unfolding childFrom
   child-none n k h = let f : n - k ≡ 0 = omega arith in rw f
 
   -- a level down
-  pub down-child : (k : ℕ) (parts : List (List ℕ)) → childSought (childNamed t store node part) ≡ Node k → downFrom t store node (part ∷ parts) ≡ downFrom t store k parts
+  pub down-child : (k : ℕ) (parts : List (List ℕ)) → childSought (childNamed t store node part) ≡ Node k
+      → downFrom t store node (part ∷ parts) ≡ downFrom t store k parts
   unfolding downFrom
   down-child k parts e = rw (sought-child (childNamed t store node part) k e, downFrom)
 
-  pub down-none : (why : ℕ) (parts : List (List ℕ)) → childSought (childNamed t store node part) ≡ Refused why → downFrom t store node (part ∷ parts) ≡ Refused 30
+  pub down-none : (why : ℕ) (parts : List (List ℕ)) → childSought (childNamed t store node part) ≡ Refused why
+      → downFrom t store node (part ∷ parts) ≡ Refused 30
   unfolding downFrom
   down-none why parts e = rw (sought-none (childNamed t store node part) why e, downFrom)
 
@@ -279,37 +287,37 @@ down-end t store node = refl
 -- ---- lookups
 module _ (t : Tree) (store path : List ℕ) where
   -- the refusals in their order
-  pub node-size : (length store ≡ 16384 → ⊥) → findNodeOf t store path ≡ Refused 6
+  pub node-size : (length store ≡ storeSize → ⊥) → findNodeOf t store path ≡ Refused 6
   unfolding findNodeOf
-  node-size n = rw (ne-eqb (length store) 16384 n)
+  node-size n = rw (ne-eqb (length store) storeSize n)
 
-  module _ (e : length store ≡ 16384) where
+  module _ (e : length store ≡ storeSize) where
     pub node-damaged : wholeTree t ≡ false → findNodeOf t store path ≡ Refused 7
     unfolding findNodeOf
-    node-damaged w = rw (eq-eqb (length store) 16384 e, w)
+    node-damaged w = rw (eq-eqb (length store) storeSize e, w)
 
     module _ (w : wholeTree t ≡ true) where
       pub node-malformed : malformed path ≡ true → findNodeOf t store path ≡ Refused 29
       unfolding findNodeOf
-      node-malformed m = rw (eq-eqb (length store) 16384 e, w, m)
+      node-malformed m = rw (eq-eqb (length store) storeSize e, w, m)
 
       pub node-down : malformed path ≡ false → findNodeOf t store path ≡ downFrom t store 0 (partsOf (behindSlash path))
       unfolding findNodeOf
-      node-down m = rw (eq-eqb (length store) 16384 e, w, m)
+      node-down m = rw (eq-eqb (length store) storeSize e, w, m)
 
   -- a node is found only in a whole tree, whose bytes lie in the store
   pub record Sought : Type 0 where
-    pub held-most : t .held ≤ 128
+    pub held-most : t .held ≤ propertiesMost
     pub live-most : liveOf t ≤ length store
 
   pub node-whole : (k : ℕ) → findNodeOf t store path ≡ Node k → Sought
   node-whole k e =
-      either (eqb (length store) 16384)
-      (λ a. let z = eqb-true (length store) 16384 a in
+      either (eqb (length store) storeSize)
+      (λ a. let z = eqb-true (length store) storeSize a in
       either (wholeTree t)
       (λ w. let f = whole-facts t w in let l = f .live-most in record { held-most = f .held-most; live-most = omega arith })
       (λ w. let f = sym (node-damaged z w) ∙ e in let x : _≡_ {A = ℕ} 0 1 = cc in absurd (omega arith)))
-      (λ a. let f = sym (node-size (eqb-false (length store) 16384 a)) ∙ e in let x : _≡_ {A = ℕ} 0 1 = cc in absurd (omega arith))
+      (λ a. let f = sym (node-size (eqb-false (length store) storeSize a)) ∙ e in let x : _≡_ {A = ℕ} 0 1 = cc in absurd (omega arith))
 
   module _ (name : List ℕ) where
     pub property-there : (k : ℕ) → findNodeOf t store path ≡ Node k → findPropertyOf t store path name ≡ namedPlace t store k name
@@ -325,7 +333,8 @@ module _ (t : Tree) (store path : List ℕ) where
     unfolding propertyValueOf
     value-there k value e f = rw (e, f, propertyValueOf)
 
-    value-missing : (k : ℕ) → findNodeOf t store path ≡ Node k → valueIn (heldOf t store) k name ≡ none → propertyValueOf t store path name ≡ []
+    value-missing : (k : ℕ) → findNodeOf t store path ≡ Node k → valueIn (heldOf t store) k name ≡ none
+        → propertyValueOf t store path name ≡ []
     unfolding propertyValueOf
     value-missing k e f = rw (e, f, propertyValueOf)
 
@@ -354,27 +363,28 @@ module _ (t : Tree) (store path : List ℕ) where
 
 -- ---- a node's own property, by the tests that the code makes
 module _ (t : Tree) (store : List ℕ) (node : ℕ) (name : List ℕ) where
-  pub own-size : (length store ≡ 16384 → ⊥) → ownValueOf t store node name ≡ []
+  pub own-size : (length store ≡ storeSize → ⊥) → ownValueOf t store node name ≡ []
   unfolding ownValueOf
-  own-size n = rw (ne-eqb (length store) 16384 n)
+  own-size n = rw (ne-eqb (length store) storeSize n)
 
-  module _ (e : length store ≡ 16384) where
+  module _ (e : length store ≡ storeSize) where
     pub own-damaged : wholeTree t ≡ false → ownValueOf t store node name ≡ []
     unfolding ownValueOf
-    own-damaged w = rw (eq-eqb (length store) 16384 e, w)
+    own-damaged w = rw (eq-eqb (length store) storeSize e, w)
 
     module _ (w : wholeTree t ≡ true) where
-      pub own-there : (at size : ℕ) → namedPlace t store node name ≡ Value at size → (at + size ≤ length store) × (ownValueOf t store node name ≡ partOf store at size)
+      pub own-there : (at size : ℕ) → namedPlace t store node name ≡ Value at size → (at + size ≤ length store)
+          × (ownValueOf t store node name ≡ partOf store at size)
       unfolding ownValueOf
       own-there at size p =
           let v = place-value t store node name at size p in
           let l = whole-facts t w .live-most in
           let a = v .0 in
-          (omega arith, rw (eq-eqb (length store) 16384 e, w, v .1))
+          (omega arith, rw (eq-eqb (length store) storeSize e, w, v .1))
 
       pub own-missing : (why : ℕ) → namedPlace t store node name ≡ Unfound why → ownValueOf t store node name ≡ []
       unfolding ownValueOf
-      own-missing why p = rw (eq-eqb (length store) 16384 e, w, place-empty t store node name why p)
+      own-missing why p = rw (eq-eqb (length store) storeSize e, w, place-empty t store node name why p)
 
 -- ---- lookups judge no name: a path of good form, and any property's name, bring nothing but 30
 module _ (t : Tree) (store : List ℕ) where

@@ -13,35 +13,37 @@ use borrow.Author.Tests.{eqb-true, eqb-false, eq-eqb, ne-eqb, ltb-false}
 use Rattle.cells.specs.Choice.{pick}
 use Rattle.cells.specs.Laws.Facts.{join-four}
 use Rattle.tree.specs.Held.{Property, liveOf, laidOut, nameSize, valueSize}
-use Rattle.tree.specs.Whole.{soundWith, wholeTree}
+use Rattle.tree.specs.Whole.{soundWith, wholeTree, nameMost}
 use Rattle.tree.specs.Property.{badName, overfull, wouldHold, putRefusal, storeWith, recordedOf, treePut, storePut, putOf, storeOf}
 use Rattle.tree.specs.Joints.Steps.{foundOf}
 use Rattle.tree.specs.Laws.Trees.{Whole, whole-facts}
 use Rattle.tree.specs.Laws.Layout.{either}
-use Rattle.tree.specs.Laws.Puts.{or-parts, wrong-size, damaged, misnamed, no-room, index-is, index-most, present, length-new, length-old, fits, index-fits, name-facts}
+use Rattle.tree.specs.Laws.Puts.{or-parts, wrong-size, damaged, misnamed, no-room, index-is, index-most, present, length-new}
+use Rattle.tree.specs.Laws.Puts.{length-old, fits, index-fits, name-facts}
 use Rattle.tree.specs.Laws.Kept.{whole-is}
 use Rattle.tree.specs.Laws.Lives.{live-inside, live-behind, found-name}
+use Rattle.rom.specs.Sizes.{nodesMost, propertiesMost, storeSize}
 use Rattle.tree.specs.declared.tree.Tree.{Tree}
 
 -- the arrays are as long as the code has them
 pub record SizedTree (t : Tree) : Type 0 where
-  pub parents : length (t .parents) ≡ 32
-  pub owners : length (t .owners) ≡ 128
-  pub nameSizes : length (t .«name_sizes») ≡ 128
-  pub valueSizes : length (t .«value_sizes») ≡ 128
+  pub parents : length (t .parents) ≡ nodesMost
+  pub owners : length (t .owners) ≡ propertiesMost
+  pub nameSizes : length (t .«name_sizes») ≡ propertiesMost
+  pub valueSizes : length (t .«value_sizes») ≡ propertiesMost
 
 -- what is known of a call that is not refused, as far as the tree and the store go by it
 pub record Accepted (t : Tree) (s : List ℕ) (node : ℕ) (name value : List ℕ) : Type 0 where
-  pub size : length s ≡ 16384
+  pub size : length s ≡ storeSize
   pub whole : Whole t
   pub least : 1 ≤ length name
-  pub most : length name ≤ 31
+  pub most : length name ≤ nameMost
   pub roomy : overfull (wouldHold t s node name value) ≡ false
 
 pub accepted : (t : Tree) (s : List ℕ) (node : ℕ) (name value : List ℕ) → putRefusal t s node name value ≡ 0 → Accepted t s node name value
 accepted t s node name value e =
-    either (eqb (length s) 16384)
-    (λ a. let z = eqb-true (length s) 16384 a in
+    either (eqb (length s) storeSize)
+    (λ a. let z = eqb-true (length s) storeSize a in
     either (wholeTree t)
     (λ w.
     either (badName name) (λ b. let x = sym (misnamed t s node name value z w b) ∙ e in absurd (omega arith))
@@ -49,22 +51,24 @@ accepted t s node name value e =
     either (overfull (wouldHold t s node name value)) (λ o. let x = sym (no-room t s node name value z w b o) ∙ e in absurd (omega arith))
     (λ o. let d = name-facts name b in record { size = z; whole = whole-facts t w; least = d .0; most = d .1; roomy = o })))
     (λ w. let x = sym (damaged t s node name value z w) ∙ e in absurd (omega arith)))
-    (λ a. let x = sym (wrong-size t s node name value (eqb-false (length s) 16384 a)) ∙ e in absurd (omega arith))
+    (λ a. let x = sym (wrong-size t s node name value (eqb-false (length s) storeSize a)) ∙ e in absurd (omega arith))
 
 -- one record more, or the same
-held-most : (i h : ℕ) → i < 128 → h ≤ 128 → pick (eqb i h) (h + 1) h ≤ 128
+held-most : (i h : ℕ) → i < propertiesMost → h ≤ propertiesMost → pick (eqb i h) (h + 1) h ≤ propertiesMost
 held-most i h f g = either (eqb i h) (λ e. let q = eqb-true i h e in rw e (omega arith)) (λ e. rw e g)
 
 held-below : (i h j : ℕ) → j < pick (eqb i h) (h + 1) h → (j ≡ i → ⊥) → j < h
 held-below i h j l n =
-    either (eqb i h) (λ e. let q = eqb-true i h e in let l′ : j < h + 1 = rw e at l in elim (decLe h j) [ yes p ↦ absurd (n (omega arith)) | no p ↦ omega arith ])
+    either (eqb i h) (λ e. let q = eqb-true i h e in let l′ : j < h + 1 = rw e at l in
+    elim (decLe h j) [ yes p ↦ absurd (n (omega arith)) | no p ↦ omega arith ])
     (λ e. rw e at l)
 
-sound-is : (n o a v : ℕ) → o < n → 1 ≤ a → a ≤ 31 → v ≤ 16384 → T (soundWith n o a v)
-sound-is n o a v f g h k = join-four (ltb o n) (leb 1 a) (leb a 31) (leb v 16384) (lt→ltb o n f) (le→leb 1 a g) (le→leb a 31 h) (le→leb v 16384 k)
+sound-is : (n o a v : ℕ) → o < n → 1 ≤ a → a ≤ nameMost → v ≤ storeSize → T (soundWith n o a v)
+sound-is n o a v f g h k = join-four (ltb o n) (leb 1 a) (leb a nameMost) (leb v storeSize) (lt→ltb o n f) (le→leb 1 a g)
+    (le→leb a nameMost h) (le→leb v storeSize k)
 
 module _ (t : Tree) (z : SizedTree t) (i node n v : ℕ) where
-  pub live-new : i ≡ t .held → i < 128 → liveOf (recordedOf t i node n v) ≡ liveOf t + (n + v)
+  pub live-new : i ≡ t .held → i < propertiesMost → liveOf (recordedOf t i node n v) ≡ liveOf t + (n + v)
   unfolding recordedOf
   live-new e h =
       let f = z .nameSizes in
@@ -73,7 +77,7 @@ module _ (t : Tree) (z : SizedTree t) (i node n v : ℕ) where
       rw (eq-eqb i (t .held) e, d) (live-behind (t .«name_sizes») (t .«value_sizes») i n v (omega arith) (omega arith) (t .held) 0
       (omega arith))
 
-  pub live-old : i < t .held → i < 128 → liveOf (recordedOf t i node n v) + (nameSize t i + valueSize t i) ≡ liveOf t + (n + v)
+  pub live-old : i < t .held → i < propertiesMost → liveOf (recordedOf t i node n v) + (nameSize t i + valueSize t i) ≡ liveOf t + (n + v)
   unfolding recordedOf
   live-old e h =
       let f = z .nameSizes in
@@ -81,7 +85,8 @@ module _ (t : Tree) (z : SizedTree t) (i node n v : ℕ) where
       rw (ne-eqb i (t .held) (λ d. omega arith))
       (live-inside (t .«name_sizes») (t .«value_sizes») i n v (omega arith) (omega arith) (t .held) 0 (omega arith) (omega arith))
 
-  pub recorded-whole : Whole t → node < t .nodes → i < 128 → 1 ≤ n → n ≤ 31 → v ≤ 16384 → liveOf (recordedOf t i node n v) ≤ 16384
+  pub recorded-whole : Whole t → node < t .nodes → i < propertiesMost → 1 ≤ n → n ≤ nameMost → v ≤ storeSize
+      → liveOf (recordedOf t i node n v) ≤ storeSize
       → Whole (recordedOf t i node n v)
   unfolding recordedOf
   recorded-whole w there h f g k l =
@@ -112,12 +117,13 @@ module _ (t : Tree) (z : SizedTree t) (i node n v : ℕ) where
       }
 
 -- a store that holds properties which have room has the store's size
-pub length-store : (ps : List Property) → overfull ps ≡ false → length (storeWith ps) ≡ 16384
+pub length-store : (ps : List Property) → overfull ps ≡ false → length (storeWith ps) ≡ storeSize
 unfolding storeWith overfull
 length-store ps o =
-    let f = ltb-false 16384 (length (laidOut ps)) (or-parts (ltb 128 (length ps)) (ltb 16384 (length (laidOut ps))) o .1) in
-    let r : List ℕ = replicate (16384 - length (laidOut ps)) 0 in
-    let x : length r ≡ 16384 - length (laidOut ps) = length-replicate (16384 - length (laidOut ps)) 0 in
+    let f = ltb-false storeSize (length (laidOut ps)) (or-parts (ltb propertiesMost (length ps)) (ltb storeSize (length (laidOut ps))) o .1)
+    in
+    let r : List ℕ = replicate (storeSize - length (laidOut ps)) 0 in
+    let x : length r ≡ storeSize - length (laidOut ps) = length-replicate (storeSize - length (laidOut ps)) 0 in
     let y : length (laidOut ps ++ r) ≡ length (laidOut ps) + length r = length-append (laidOut ps) r in
     omega arith
 
@@ -136,7 +142,7 @@ module _ (t : Tree) (s : List ℕ) (node : ℕ) (name value : List ℕ) (a : Acc
       let i = foundOf t s node name .index in
       let c = index-fits t s node name value h b (a .size) (a .roomy) in
       let m = index-most t s node name value in
-      let go : length value ≤ 16384 → liveOf (recordedOf t i node (length name) (length value)) ≤ 16384 → Whole
+      let go : length value ≤ storeSize → liveOf (recordedOf t i node (length name) (length value)) ≤ storeSize → Whole
       (treePut t s node name value) =
       λ v x. rw (← index-is t s node name value)
       (recorded-whole t z i node (length name) (length value) (a .whole) there c (a .least) (a .most) v x) in

@@ -19,6 +19,7 @@ use Rattle.tree.specs.Node.{writeDone, writeRefused}
 use Rattle.tree.specs.Property.{allNameBytes, badName, overfull, wouldHold, putRefusal, storeWith, treePut, storePut, putOf, storeOf}
 use Rattle.tree.specs.Joints.Steps.{foundOf, fullWith, laidWith}
 use Rattle.tree.specs.Laws.Layout.{walked, appended-is, replaced-is}
+use Rattle.rom.specs.Sizes.{propertiesMost, storeSize}
 use Rattle.tree.specs.declared.tree.Tree.{Tree}
 
 pub or-parts : (a b : Bool) → a || b ≡ false → (a ≡ false) × (b ≡ false)
@@ -46,28 +47,28 @@ module _ (t : Tree) (s : List ℕ) (node : ℕ) (name value : List ℕ) where
   put-done e = (rw e, rw e)
 
   -- the refusals in their order
-  pub wrong-size : (length s ≡ 16384 → ⊥) → putRefusal t s node name value ≡ 6
+  pub wrong-size : (length s ≡ storeSize → ⊥) → putRefusal t s node name value ≡ 6
   unfolding putRefusal
-  wrong-size n = rw (ne-eqb (length s) 16384 n)
+  wrong-size n = rw (ne-eqb (length s) storeSize n)
 
-  module _ (e : length s ≡ 16384) where
+  module _ (e : length s ≡ storeSize) where
     pub damaged : wholeTree t ≡ false → putRefusal t s node name value ≡ 7
     unfolding putRefusal
-    damaged w = rw (eq-eqb (length s) 16384 e, w)
+    damaged w = rw (eq-eqb (length s) storeSize e, w)
 
     module _ (w : wholeTree t ≡ true) where
       pub misnamed : badName name ≡ true → putRefusal t s node name value ≡ 26
       unfolding putRefusal
-      misnamed b = rw (eq-eqb (length s) 16384 e, w, b)
+      misnamed b = rw (eq-eqb (length s) storeSize e, w, b)
 
       module _ (b : badName name ≡ false) where
         pub no-room : overfull (wouldHold t s node name value) ≡ true → putRefusal t s node name value ≡ 27
         unfolding putRefusal
-        no-room o = rw (eq-eqb (length s) 16384 e, w, b, o)
+        no-room o = rw (eq-eqb (length s) storeSize e, w, b, o)
 
         pub room : overfull (wouldHold t s node name value) ≡ false → putRefusal t s node name value ≡ 0
         unfolding putRefusal
-        room o = rw (eq-eqb (length s) 16384 e, w, b, o)
+        room o = rw (eq-eqb (length s) storeSize e, w, b, o)
 
   -- where the record stands
   abbrev index : ℕ
@@ -101,7 +102,7 @@ module _ (t : Tree) (s : List ℕ) (node : ℕ) (name value : List ℕ) where
       let w = walked t s node name value (t .held) 0 0 in
       rw (zero-add (liveOf t)) at (w .4 (omega arith))
 
-  module _ (h : t .held ≤ 128) (l : liveOf t ≤ length s) where
+  module _ (h : t .held ≤ propertiesMost) (l : liveOf t ≤ length s) where
     pub length-new : index ≡ t .held → length (laidOut (wouldHold t s node name value)) ≡ liveOf t + length name + length value
     length-new e =
         let f = length-append name value in
@@ -122,43 +123,44 @@ module _ (t : Tree) (s : List ℕ) (node : ℕ) (name value : List ℕ) where
     unfolding overfull
     full-new e =
         rw (length-new e, absent e .1, eq-eqb index (t .held) e)
-        (elim (decLe 128 (t .held)) [
-          | yes p ↦ rw (lt-ltb 128 (suc (t .held)) (omega arith), le-leb 128 index (omega arith))
-          | no p ↦ rw (le-ltb 128 (suc (t .held)) (omega arith), lt-leb 128 index (omega arith))
+        (elim (decLe propertiesMost (t .held)) [
+          | yes p ↦ rw (lt-ltb propertiesMost (suc (t .held)) (omega arith), le-leb propertiesMost index (omega arith))
+          | no p ↦ rw (le-ltb propertiesMost (suc (t .held)) (omega arith), lt-leb propertiesMost index (omega arith))
         ])
 
     full-old : (index ≡ t .held → ⊥) → overfull (wouldHold t s node name value) ≡ fullWith t (liveOf t) index (length name) (length value)
     unfolding overfull
     full-old n =
         let p = present n .0 in
-        rw (length-old n, present n .1, ne-eqb index (t .held) n, le-ltb 128 (t .held) h)
-        (same-ltb 16384 (start + length value + (liveOf t - end)) (16384 + valueSize t index) (liveOf t + length value) (λ x. omega arith) (λ x. omega arith))
+        rw (length-old n, present n .1, ne-eqb index (t .held) n, le-ltb propertiesMost (t .held) h)
+        (same-ltb storeSize (start + length value + (liveOf t - end)) (storeSize + valueSize t index) (liveOf t + length value)
+        (λ x. omega arith) (λ x. omega arith))
 
     pub full-is : overfull (wouldHold t s node name value) ≡ fullWith t (liveOf t) index (length name) (length value)
     full-is = elim (decLe (t .held) index) [ yes p ↦ full-new (let m = index-most in omega arith) | no p ↦ full-old (λ e. omega arith) ]
 
     -- a value that is larger than the store has no room
-    pub full-value : 16384 < length value → overfull (wouldHold t s node name value) ≡ true
+    pub full-value : storeSize < length value → overfull (wouldHold t s node name value) ≡ true
     unfolding overfull
     full-value g =
         elim (decLe (t .held) index) [
           | yes p ↦ let e = length-new (let m = index-most in omega arith) in
-              rw (lt-ltb 16384 (length (laidOut (wouldHold t s node name value))) (omega arith))
-              (or-true (ltb 128 (length (wouldHold t s node name value))))
+              rw (lt-ltb storeSize (length (laidOut (wouldHold t s node name value))) (omega arith))
+              (or-true (ltb propertiesMost (length (wouldHold t s node name value))))
           | no p ↦ let e = length-old (λ e. omega arith) in
-              rw (lt-ltb 16384 (length (laidOut (wouldHold t s node name value))) (omega arith))
-              (or-true (ltb 128 (length (wouldHold t s node name value))))
+              rw (lt-ltb storeSize (length (laidOut (wouldHold t s node name value))) (omega arith))
+              (or-true (ltb propertiesMost (length (wouldHold t s node name value))))
         ]
 
     -- what has room is laid as it should be
-    module _ (z : length s ≡ 16384) (o : overfull (wouldHold t s node name value) ≡ false) where
-      pub fits : (length (wouldHold t s node name value) ≤ 128) × (length (laidOut (wouldHold t s node name value)) ≤ 16384)
+    module _ (z : length s ≡ storeSize) (o : overfull (wouldHold t s node name value) ≡ false) where
+      pub fits : (length (wouldHold t s node name value) ≤ propertiesMost) × (length (laidOut (wouldHold t s node name value)) ≤ storeSize)
       unfolding overfull
       fits =
-          let p = or-parts (ltb 128 (length (wouldHold t s node name value)))
-          (ltb 16384 (length (laidOut (wouldHold t s node name value)))) o in (
-            ltb-false 128 (length (wouldHold t s node name value)) (p .0),
-            ltb-false 16384 (length (laidOut (wouldHold t s node name value))) (p .1),
+          let p = or-parts (ltb propertiesMost (length (wouldHold t s node name value)))
+          (ltb storeSize (length (laidOut (wouldHold t s node name value)))) o in (
+            ltb-false propertiesMost (length (wouldHold t s node name value)) (p .0),
+            ltb-false storeSize (length (laidOut (wouldHold t s node name value))) (p .1),
           )
 
       laid-new : (e : index ≡ t .held) → laidWith t s (liveOf t) index at name value ≡ storePut t s node name value
@@ -173,12 +175,13 @@ module _ (t : Tree) (s : List ℕ) (node : ℕ) (name value : List ℕ) where
       laid-old n =
           let f = fits .1 in
           let g = length-old n in
-          rw (ne-eqb index (t .held) n, present n .2, ← z) (replaced-is s (liveOf t) start (valueSize t index) value (present n .0) l (omega arith))
+          rw (ne-eqb index (t .held) n, present n .2, ← z)
+          (replaced-is s (liveOf t) start (valueSize t index) value (present n .0) l (omega arith))
 
       pub laid-is : laidWith t s (liveOf t) index at name value ≡ storePut t s node name value
       laid-is = elim (decLe (t .held) index) [ yes p ↦ laid-new (let m = index-most in omega arith) | no p ↦ laid-old (λ e. omega arith) ]
 
-      pub index-fits : index < 128
+      pub index-fits : index < propertiesMost
       index-fits =
           elim (decLe (t .held) index) [
             | yes p ↦ let m = index-most in let a = absent (omega arith) .1 in let f = fits .0 in omega arith

@@ -1,4 +1,5 @@
--- The store and the tree that a property leaves hold what they should: read back, they are the properties as they would be. Assumes nothing.
+-- The store and the tree that a property leaves hold what they should: read back, they are the properties as they would be. Assumes
+-- nothing.
 use Prim.Native.Nat.{ℕ, zero, suc, _+_, _-_, _≤_, _<_}
 use native.Mathlib.Nat.{zero-add}
 use native.Mathlib.Omega.{arith}
@@ -12,19 +13,22 @@ use borrow.Author.Tests.{eqb-true, eq-eqb, ne-eqb}
 use Rattle.cells.specs.Laws.Facts.{and-first, and-second}
 use Rattle.memory.specs.Window.{partOf}
 use Rattle.memory.specs.Laws.Memory.{length-part}
-use Rattle.tree.specs.Held.{Property, ownerOf, nameSize, valueSize, propertyAt, heldFrom, heldOf, liveAmong, liveFrom, liveOf, laidOut, sameBytes, matches, foundFrom}
+use Rattle.tree.specs.Held.{Property, ownerOf, nameSize, valueSize, propertyAt, heldFrom, heldOf, liveAmong, liveFrom, liveOf}
+use Rattle.tree.specs.Held.{laidOut, sameBytes, matches, foundFrom}
 use Rattle.tree.specs.Property.{putIn, wouldHold, putRefusal, storeWith, recordedOf, treePut, storePut}
 use Rattle.tree.specs.Joints.Steps.{foundOf}
 use Rattle.tree.specs.Laws.Layout.{either, put-here, put-next, walked}
 use Rattle.tree.specs.Laws.Lives.{same-length}
 use Rattle.tree.specs.Laws.Puts.{absent, present, index-is, index-most, index-fits}
 use Rattle.tree.specs.Laws.PutKept.{SizedTree, accepted}
+use Rattle.rom.specs.Sizes.{propertiesMost, storeSize}
 use Rattle.tree.specs.declared.tree.Tree.{Tree}
 
 -- records from record i on that are those of a list of properties
 abbrev pub Records : Tree → ℕ → List Property → Type 0
 Records t i [] = Unit {0}
-Records t i (p ∷ ps) = ((ownerOf t i ≡ p .node) × (nameSize t i ≡ length (p .name)) × (valueSize t i ≡ length (p .value))) × Records t (i + 1) ps
+Records t i (p ∷ ps) = ((ownerOf t i ≡ p .node) × (nameSize t i ≡ length (p .name)) × (valueSize t i ≡ length (p .value)))
+    × Records t (i + 1) ps
 
 part-seam : (a b c : List ℕ) (m n : ℕ) → length a ≡ m → length b ≡ n → partOf (a ++ (b ++ c)) m n ≡ b
 part-seam a b c m n e f = rw (drop-at a (b ++ c) m e) (take-at b c n f)
@@ -43,17 +47,21 @@ read-back t (p ∷ ps) i before behind at e r =
     let l = laidOut ps in
     let x : before ++ ((n ++ (v ++ l)) ++ behind) ≡ before ++ (n ++ (v ++ (l ++ behind))) =
     ap (λ (y : List ℕ). before ++ y) (append-assoc n (v ++ l) behind ∙ ap (λ (y : List ℕ). n ++ y) (append-assoc v l behind)) in
-    let y : before ++ (n ++ (v ++ (l ++ behind))) ≡ (before ++ n) ++ (v ++ (l ++ behind)) = sym (append-assoc before n (v ++ (l ++ behind))) in
-    let z : (before ++ n) ++ (v ++ (l ++ behind)) ≡ ((before ++ n) ++ v) ++ (l ++ behind) = sym (append-assoc (before ++ n) v (l ++ behind)) in
+    let y : before ++ (n ++ (v ++ (l ++ behind))) ≡ (before ++ n) ++ (v ++ (l ++ behind)) =
+    sym (append-assoc before n (v ++ (l ++ behind))) in
+    let z : (before ++ n) ++ (v ++ (l ++ behind)) ≡ ((before ++ n) ++ v) ++ (l ++ behind) =
+    sym (append-assoc (before ++ n) v (l ++ behind)) in
     let d : length (before ++ n) ≡ at + length n = length-append before n ∙ omega arith in
     let h : length ((before ++ n) ++ v) ≡ at + length n + length v = length-append (before ++ n) v ∙ omega arith in
-    let pn : partOf (before ++ (n ++ (v ++ (l ++ behind)))) at (length n) ≡ n = part-seam before n (v ++ (l ++ behind)) at (length n) e refl in
-    let pv : partOf (before ++ (n ++ (v ++ (l ++ behind)))) (at + length n) (length v) ≡ v = rw y (part-seam (before ++ n) v (l ++ behind) (at + length n) (length v) d refl) in
+    let pn : partOf (before ++ (n ++ (v ++ (l ++ behind)))) at (length n) ≡ n =
+    part-seam before n (v ++ (l ++ behind)) at (length n) e refl in
+    let pv : partOf (before ++ (n ++ (v ++ (l ++ behind)))) (at + length n) (length v) ≡ v =
+    rw y (part-seam (before ++ n) v (l ++ behind) (at + length n) (length v) d refl) in
     let tl : heldFrom t (before ++ (n ++ (v ++ (l ++ behind)))) (length ps) (i + 1) (at + length n + length v) ≡ ps =
     rw (y ∙ z) (read-back t ps (i + 1) ((before ++ n) ++ v) behind (at + length n + length v) h (r .1)) in
     rw (x, o, f, g, pn, pv, tl)
 
-module _ (t : Tree) (store : List ℕ) (node : ℕ) (name value : List ℕ) (j : ℕ) (z : SizedTree t) (b : j < 128) where
+module _ (t : Tree) (store : List ℕ) (node : ℕ) (name value : List ℕ) (j : ℕ) (z : SizedTree t) (b : j < propertiesMost) where
   abbrev then : Tree
   then = recordedOf t j node (length name) (length value)
 
@@ -78,10 +86,15 @@ module _ (t : Tree) (store : List ℕ) (node : ℕ) (name value : List ℕ) (j :
   )
 
   kept : (i at : ℕ) → (i ≡ j → ⊥) → at + nameSize t i + valueSize t i ≤ length store
-      → (ownerOf then i ≡ ownerOf t i) × (nameSize then i ≡ length (partOf store at (nameSize t i))) × (valueSize then i ≡ length (partOf store (at + nameSize t i) (valueSize t i)))
+      → (ownerOf then i ≡ ownerOf t i) × (nameSize then i ≡ length (partOf store at (nameSize t i)))
+      × (valueSize then i ≡ length (partOf store (at + nameSize t i) (valueSize t i)))
   kept i at n h =
-      let o = other i n in
-      (o .0, o .1 ∙ sym (length-part store at (nameSize t i) (omega arith)), o .2 ∙ sym (length-part store (at + nameSize t i) (valueSize t i) (omega arith)))
+      let o = other i n in (
+        o .0,
+        o .1 ∙ sym (length-part store at (nameSize t i) (omega arith)),
+        o .2
+            ∙ sym (length-part store (at + nameSize t i) (valueSize t i) (omega arith)),
+      )
 
   records-behind : (k i at : ℕ) → j < i → at + liveFrom t k i ≤ length store → Records then i (heldFrom t store k i at)
   unfolding heldFrom liveAmong
@@ -102,8 +115,11 @@ module _ (t : Tree) (store : List ℕ) (node : ℕ) (name value : List ℕ) (j :
       let o = eqb-true (ownerOf t i) node (and-first (eqb (ownerOf t i) node) (sameBytes (partOf store at (nameSize t i)) name) m) in
       let l = same-length (partOf store at (nameSize t i)) name
       (and-second (eqb (ownerOf t i) node) (sameBytes (partOf store at (nameSize t i)) name) m) in
-      rw (put-here p ps node name value m)
-      ((rw (q) (here .0) ∙ sym o, rw q (here .1) ∙ sym l, rw q (here .2)), records-behind k (i + 1) (at + nameSize t i + valueSize t i) (omega arith) (omega arith)))
+      rw (put-here p ps node name value m) (
+        (rw (q) (here .0) ∙ sym o, rw q (here .1) ∙ sym l, rw q (here .2)),
+        records-behind k (i + 1) (at + nameSize t i + valueSize t i)
+            (omega arith) (omega arith),
+      ))
       (λ m.
       let f : foundFrom t store node name k (i + 1) (at + nameSize t i + valueSize t i) .index ≡ j = rw m at e in
       let w = walked t store node name value k (i + 1) (at + nameSize t i + valueSize t i) .2 in
@@ -136,4 +152,4 @@ module _ (t : Tree) (s : List ℕ) (node : ℕ) (name value : List ℕ) (e : put
       let r = records-put t s node name value i z c (t .held) 0 0 (rw (zero-add (liveOf t)) b) refl in
       rw (← index-is t s node name value)
       (ap (λ (k : ℕ). heldFrom (recordedOf t i node (length name) (length value)) (storePut t s node name value) k 0 0) (sym held-then)
-      ∙ read-back (recordedOf t i node (length name) (length value)) ps 0 [] (replicate (16384 - length (laidOut ps)) 0) 0 refl r)
+      ∙ read-back (recordedOf t i node (length name) (length value)) ps 0 [] (replicate (storeSize - length (laidOut ps)) 0) 0 refl r)

@@ -1,5 +1,5 @@
--- The node table by numbers, as the code goes: a count with one record more, a column with one row more; what stands in a row; and that the two
--- columns are the columns of the rows. Assumes nothing.
+-- The node table by numbers, as the code goes: a count with one record more, a column with one row more; what stands in a row; and that the
+-- two columns are the columns of the rows. Assumes nothing.
 use Prim.Native.Nat.{ℕ, zero, suc, _+_, _-_, _≤_, _<_}
 use native.Mathlib.Nat.{add-zero, zero-add}
 use native.Mathlib.Numerals.{add-one}
@@ -15,6 +15,7 @@ use Rattle.cells.specs.Choice.{pick}
 use Rattle.cells.specs.Laws.Facts.{holds}
 use Rattle.tree.specs.Whole.{parentOf, wholeTree}
 use Rattle.tree.specs.Rows.{countFrom, countOf, nodeRow, columnFrom, parentsOf, countsOf, rowsFrom, rowsOf, tableRefusal, rowsRefusal}
+use Rattle.rom.specs.Sizes.{nodesMost}
 use Rattle.tree.specs.declared.tree.Tree.{Tree}
 use Rattle.tree.specs.declared.rows.Row.{Row}
 
@@ -26,7 +27,8 @@ module _ (owners : List ℕ) (node n i : ℕ) where
 
   pub count-next : i < n → (getD owners i 0 ≡ node → ⊥) → countFrom owners node (n - i) i ≡ countFrom owners node (n - (i + 1)) (i + 1)
   unfolding countFrom
-  count-next h e = let f : n - i ≡ suc (n - (i + 1)) = omega arith in rw (f, ne-eqb (getD owners i 0) node e) (zero-add (countFrom owners node (n - (i + 1)) (i + 1)))
+  count-next h e = let f : n - i ≡ suc (n - (i + 1)) = omega arith in
+      rw (f, ne-eqb (getD owners i 0) node e) (zero-add (countFrom owners node (n - (i + 1)) (i + 1)))
 
   pub count-none : n ≤ i → countFrom owners node (n - i) i ≡ 0
   unfolding countFrom
@@ -67,13 +69,13 @@ module _ {A : Type 0} (column : Row → A) (t : Tree) where
 -- both forms of the table say the same
 module _ (t : Tree) where
   pub rows-parents : parentsOf t ≡ map (λ (r : Row). r .parent) (rowsOf t)
-  rows-parents = column-of (λ r. r .parent) t 32 0
+  rows-parents = column-of (λ r. r .parent) t nodesMost 0
 
   pub rows-counts : countsOf t ≡ map (λ (r : Row). r .count) (rowsOf t)
-  rows-counts = column-of (λ r. r .count) t 32 0
+  rows-counts = column-of (λ r. r .count) t nodesMost 0
 
-  pub row-at : (d : Row) (k : ℕ) → k < 32 → getD (rowsOf t) k d ≡ nodeRow t k
-  row-at d k h = rw (zero-add k) at (column-at (λ r. r) t d 32 0 k h)
+  pub row-at : (d : Row) (k : ℕ) → k < nodesMost → getD (rowsOf t) k d ≡ nodeRow t k
+  row-at d k h = rw (zero-add k) at (column-at (λ r. r) t d nodesMost 0 k h)
 
   -- "one lent row per node gives parent and property count", "unused rows zero"
   pub row-used : (k : ℕ) → k < t .nodes → nodeRow t k ≡ record { parent = parentOf t k; count = countOf t k }
@@ -84,23 +86,23 @@ module _ (t : Tree) where
 
 -- the refusals in their order
 module _ (t : Tree) (parents counts : List ℕ) where
-  pub parents-size : (length parents ≡ 32 → ⊥) → tableRefusal t parents counts ≡ 6
+  pub parents-size : (length parents ≡ nodesMost → ⊥) → tableRefusal t parents counts ≡ 6
   unfolding tableRefusal
-  parents-size n = rw (ne-eqb (length parents) 32 n)
+  parents-size n = rw (ne-eqb (length parents) nodesMost n)
 
-  module _ (e : length parents ≡ 32) where
-    pub counts-size : (length counts ≡ 32 → ⊥) → tableRefusal t parents counts ≡ 6
+  module _ (e : length parents ≡ nodesMost) where
+    pub counts-size : (length counts ≡ nodesMost → ⊥) → tableRefusal t parents counts ≡ 6
     unfolding tableRefusal
-    counts-size n = rw (eq-eqb (length parents) 32 e, ne-eqb (length counts) 32 n)
+    counts-size n = rw (eq-eqb (length parents) nodesMost e, ne-eqb (length counts) nodesMost n)
 
-    module _ (f : length counts ≡ 32) where
+    module _ (f : length counts ≡ nodesMost) where
       pub table-damaged : wholeTree t ≡ false → tableRefusal t parents counts ≡ 7
       unfolding tableRefusal
-      table-damaged w = rw (eq-eqb (length parents) 32 e, eq-eqb (length counts) 32 f, w)
+      table-damaged w = rw (eq-eqb (length parents) nodesMost e, eq-eqb (length counts) nodesMost f, w)
 
       pub table-good : wholeTree t ≡ true → tableRefusal t parents counts ≡ 0
       unfolding tableRefusal
-      table-good w = rw (eq-eqb (length parents) 32 e, eq-eqb (length counts) 32 f, w)
+      table-good w = rw (eq-eqb (length parents) nodesMost e, eq-eqb (length counts) nodesMost f, w)
 
 -- where nothing is refused there are 32 rows, and the tree is whole
 refused-none : (sized whole : Bool) → pick {A = ℕ} (not sized) 6 (pick (not whole) 7 0) ≡ 0 → (sized ≡ true) × (whole ≡ true)
@@ -109,18 +111,19 @@ refused-none true false e = absurd (omega (arith, e))
 refused-none false whole e = absurd (omega (arith, e))
 
 module _ (t : Tree) (size : ℕ) where
-  pub rows-size : (size ≡ 32 → ⊥) → rowsRefusal t size ≡ 6
+  pub rows-size : (size ≡ nodesMost → ⊥) → rowsRefusal t size ≡ 6
   unfolding rowsRefusal
-  rows-size n = rw (ne-eqb size 32 n)
+  rows-size n = rw (ne-eqb size nodesMost n)
 
-  pub rows-damaged : size ≡ 32 → wholeTree t ≡ false → rowsRefusal t size ≡ 7
+  pub rows-damaged : size ≡ nodesMost → wholeTree t ≡ false → rowsRefusal t size ≡ 7
   unfolding rowsRefusal
-  rows-damaged e w = rw (eq-eqb size 32 e, w)
+  rows-damaged e w = rw (eq-eqb size nodesMost e, w)
 
-  pub rows-good : size ≡ 32 → wholeTree t ≡ true → rowsRefusal t size ≡ 0
+  pub rows-good : size ≡ nodesMost → wholeTree t ≡ true → rowsRefusal t size ≡ 0
   unfolding rowsRefusal
-  rows-good e w = rw (eq-eqb size 32 e, w)
+  rows-good e w = rw (eq-eqb size nodesMost e, w)
 
-  pub rows-taken : rowsRefusal t size ≡ 0 → (size ≡ 32) × (wholeTree t ≡ true)
+  pub rows-taken : rowsRefusal t size ≡ 0 → (size ≡ nodesMost) × (wholeTree t ≡ true)
   unfolding rowsRefusal
-  rows-taken e = let f = refused-none (eqb size 32) (wholeTree t) e in (eqb→eq size 32 (holds (eqb size 32) (f .0)), f .1)
+  rows-taken e = let f = refused-none (eqb size nodesMost) (wholeTree t) e in
+      (eqb→eq size nodesMost (holds (eqb size nodesMost) (f .0)), f .1)

@@ -147,6 +147,7 @@ module _ (t : Tree) (store path name : List ℕ) where
   pub sought : Holds → (at : ℕ) × (size : ℕ) × (findPropertyOf t store path name ≡ Value at size)
   sought h = by (namedPlace t store (h .0) name) refl
     where
-      by : (v : ValueSought) → namedPlace t store (h .0) name ≡ v → (at : ℕ) × (size : ℕ) × (findPropertyOf t store path name ≡ Value at size)
+      by : (v : ValueSought) → namedPlace t store (h .0) name ≡ v → (at : ℕ) × (size : ℕ)
+          × (findPropertyOf t store path name ≡ Value at size)
       by (Value at size) f = (at, size, property-there t store path name (h .0) (h .1) ∙ f)
       by (Unfound why) f = absurd (value-lacked (h .0) name (heldOf t store) (place-empty t store (h .0) name why f) (h .2) (h .3))

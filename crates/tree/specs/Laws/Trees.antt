@@ -17,6 +17,7 @@ use Rattle.memory.specs.Writing.{writtenOf}
 use Rattle.memory.specs.Laws.Memory.{written-append, written-more, written-none}
 use Rattle.tree.specs.Property.{nameByte, allNameBytes, valueOf}
 use Rattle.tree.specs.Joints.Steps.{sizeOf}
+use Rattle.rom.specs.Sizes.{nodesMost, propertiesMost, storeSize}
 use Rattle.tree.specs.declared.tree.Tree.{Tree}
 
 -- a test of every number below a count: one more, and one that fails
@@ -77,7 +78,8 @@ pub same-more : (a b : List ℕ) (k : ℕ) → k < length a → k < length b →
 unfolding sameBytes
 same-more a b k h g e = rw (drop-cons a k 0 h, drop-cons b k 0 g, eq-eqb (getD a k 0) (getD b k 0) e, add-one k)
 
-pub same-differs : (a b : List ℕ) (k : ℕ) → k < length a → k < length b → (getD a k 0 ≡ getD b k 0 → ⊥) → sameBytes (drop k a) (drop k b) ≡ false
+pub same-differs : (a b : List ℕ) (k : ℕ) → k < length a → k < length b → (getD a k 0 ≡ getD b k 0 → ⊥)
+    → sameBytes (drop k a) (drop k b) ≡ false
 unfolding sameBytes
 same-differs a b k h g n = rw (drop-cons a k 0 h, drop-cons b k 0 g, ne-eqb (getD a k 0) (getD b k 0) n)
 
@@ -112,12 +114,12 @@ length-value bs true = length-append bs (0 ∷ [])
 length-value bs false = rw (append-nil bs)
 
 -- the counts of a tree
-pub counted-facts : (nodes held : ℕ) → counted nodes held ≡ true → (2 ≤ nodes) × (nodes ≤ 32) × (held ≤ 128)
+pub counted-facts : (nodes held : ℕ) → counted nodes held ≡ true → (2 ≤ nodes) × (nodes ≤ nodesMost) × (held ≤ propertiesMost)
 counted-facts nodes held e =
     let t : T (counted nodes held) = rw e tt in
-    let p = both-hold (leb 2 nodes && leb nodes 32) (leb held 128) t in
-    let q = both-hold (leb 2 nodes) (leb nodes 32) (p .0) in
-    (leb→le 2 nodes (q .0), leb→le nodes 32 (q .1), leb→le held 128 (p .1))
+    let p = both-hold (leb 2 nodes && leb nodes nodesMost) (leb held propertiesMost) t in
+    let q = both-hold (leb 2 nodes) (leb nodes nodesMost) (p .0) in
+    (leb→le 2 nodes (q .0), leb→le nodes nodesMost (q .1), leb→le held propertiesMost (p .1))
 
 -- whether a tree is whole, by the tests that the code makes
 module _ (t : Tree) where
@@ -135,7 +137,7 @@ module _ (t : Tree) where
       unfolding wholeTree
       not-sound g = rw (e, f, g)
 
-      pub whole-but-live : everyBelow (t .held) (sound t) ≡ true → leb (liveOf t) 16384 ≡ wholeTree t
+      pub whole-but-live : everyBelow (t .held) (sound t) ≡ true → leb (liveOf t) storeSize ≡ wholeTree t
       unfolding wholeTree
       whole-but-live g = rw (e, f, g)
 
@@ -158,11 +160,11 @@ module _ (t : Tree) (store : List ℕ) (node : ℕ) (name : List ℕ) (k i at n 
 -- what a whole tree says
 pub record Whole (t : Tree) : Type 0 where
   pub nodes-least : 2 ≤ t .nodes
-  pub nodes-most : t .nodes ≤ 32
-  pub held-most : t .held ≤ 128
+  pub nodes-most : t .nodes ≤ nodesMost
+  pub held-most : t .held ≤ propertiesMost
   pub parents-older : (k : ℕ) → k < t .nodes → T (older t k)
   pub records-sound : (i : ℕ) → i < t .held → T (sound t i)
-  pub live-most : liveOf t ≤ 16384
+  pub live-most : liveOf t ≤ storeSize
 
 pub whole-facts : (t : Tree) → wholeTree t ≡ true → Whole t
 unfolding wholeTree
@@ -170,7 +172,7 @@ whole-facts t e =
     let c = counted (t .nodes) (t .held) in
     let o = everyBelow (t .nodes) (older t) in
     let s = everyBelow (t .held) (sound t) in
-    let l = leb (liveOf t) 16384 in
+    let l = leb (liveOf t) storeSize in
     let p = both-hold c (o && (s && l)) (holds (c && (o && (s && l))) e) in
     let q = both-hold o (s && l) (p .1) in
     let r = both-hold s l (q .1) in
@@ -181,5 +183,5 @@ whole-facts t e =
       held-most = f .2;
       parents-older = every-one (t .nodes) (older t) (q .0);
       records-sound = every-one (t .held) (sound t) (r .0);
-      live-most = leb→le (liveOf t) 16384 (r .1);
+      live-most = leb→le (liveOf t) storeSize (r .1);
     }

@@ -67,7 +67,7 @@ returns-4 c =
     let l = c .before .before .before .before .before .before .loop in
     let h = c .if4 .taken in
     too-many (now (args .word)) (l .k) (l .sum) (search needs) (search needs) (search needs) (rw (c .before .value .ensures .0) at h)
-        ∙ l .inv .2
+    ∙ l .inv .2
 
 -- src/budget.rt:40:9
 add-k : tie.Need-add-k Inv-loop μ-loop

@@ -15,7 +15,7 @@ returns : tie.Need-returns
 returns c =
     let a = c .before .before .before .before .before .before .args in
     and-inside (now (a .rom)) (now (a .marks)) (now (a .work)) (now (a .store)) (a .budget) (now (a .text))
-        (wrong-text (now (a .rom)) (now (a .marks)) (now (a .work)) (now (a .store)) (a .budget) (now (a .text)) (c .if1 .taken))
+    (wrong-text (now (a .rom)) (now (a .marks)) (now (a .work)) (now (a .store)) (a .budget) (now (a .text)) (c .if1 .taken))
 
 -- src/listing.rt:54:9
 refused-text-requires : tie.Need-refused-text-requires
@@ -33,8 +33,8 @@ returns-2 c =
     let if1 = c .before .before .before .before .before .if1 in
     let a = c .before .before .before .before .before .before .before .before .before .before .before .args in
     and-inside (now (a .rom)) (now (a .marks)) (now (a .work)) (now (a .store)) (a .budget) (now (a .text))
-        (wrong-buffer (now (a .rom)) (now (a .marks)) (now (a .work)) (now (a .store)) (a .budget) (now (a .text)) (if1 .left)
-        (wrong-marks (now (a .marks)) (now (a .work)) (now (a .store)) (if2 .taken)) _ _ (refused-text .ensures))
+    (wrong-buffer (now (a .rom)) (now (a .marks)) (now (a .work)) (now (a .store)) (a .budget) (now (a .text)) (if1 .left)
+    (wrong-marks (now (a .marks)) (now (a .work)) (now (a .store)) (if2 .taken)) _ _ (refused-text .ensures))
 
 -- src/listing.rt:57:9
 refused-text-requires-2 : tie.Need-refused-text-requires-2
@@ -53,8 +53,8 @@ returns-3 c =
     let if1 = c .before .before .before .before .before .before .if1 in
     let a = c .before .before .before .before .before .before .before .before .before .before .before .before .args in
     and-inside (now (a .rom)) (now (a .marks)) (now (a .work)) (now (a .store)) (a .budget) (now (a .text))
-        (wrong-buffer (now (a .rom)) (now (a .marks)) (now (a .work)) (now (a .store)) (a .budget) (now (a .text)) (if1 .left)
-        (wrong-work (now (a .marks)) (now (a .work)) (now (a .store)) (if2 .left) (if3 .taken)) _ _ (refused-text2 .ensures))
+    (wrong-buffer (now (a .rom)) (now (a .marks)) (now (a .work)) (now (a .store)) (a .budget) (now (a .text)) (if1 .left)
+    (wrong-work (now (a .marks)) (now (a .work)) (now (a .store)) (if2 .left) (if3 .taken)) _ _ (refused-text2 .ensures))
 
 -- src/listing.rt:60:9
 refused-text-requires-3 : tie.Need-refused-text-requires-3
@@ -75,8 +75,8 @@ returns-4 c =
     let c₁ = c .before .before .before .before .before .before .before .before .before .before .before .before in
     let a = c₁ .before .args in
     and-inside (now (a .rom)) (now (a .marks)) (now (a .work)) (now (a .store)) (a .budget) (now (a .text))
-        (wrong-buffer (now (a .rom)) (now (a .marks)) (now (a .work)) (now (a .store)) (a .budget) (now (a .text)) (if1 .left)
-        (wrong-store (now (a .marks)) (now (a .work)) (now (a .store)) (if2 .left) (if3 .left) (if4 .taken)) _ _ (refused-text3 .ensures))
+    (wrong-buffer (now (a .rom)) (now (a .marks)) (now (a .work)) (now (a .store)) (a .budget) (now (a .text)) (if1 .left)
+    (wrong-store (now (a .marks)) (now (a .work)) (now (a .store)) (if2 .left) (if3 .left) (if4 .taken)) _ _ (refused-text3 .ensures))
 
 -- src/listing.rt:62:11
 screen-requires : tie.Need-screen-requires
@@ -137,8 +137,8 @@ returns-5 c =
     let a = c₂ .before .args in
     let p = judged-as (now (a .rom)) (now (a .marks)) _ (screen .ensures) (enum-told .given .1) in
     and-inside (now (a .rom)) (now (a .marks)) (now (a .work)) (now (a .store)) (a .budget) (now (a .text))
-        (passed (now (a .rom)) (now (a .marks)) (now (a .work)) (now (a .store)) (a .budget) (now (a .text)) (if1 .left) (if2 .left)
-        (if3 .left) (if4 .left) _ p _ _ _ _ (list-run .ensures))
+    (passed (now (a .rom)) (now (a .marks)) (now (a .work)) (now (a .store)) (a .budget) (now (a .text)) (if1 .left) (if2 .left)
+    (if3 .left) (if4 .left) _ p _ _ _ _ (list-run .ensures))
 
 -- src/listing.rt:38:1
 same-length-8 : tie.Need-same-length-8
@@ -162,8 +162,8 @@ returns-6 c =
     let a = c₁ .before .before .before .before .before .before .before .before .args in
     let p = judged-as (now (a .rom)) (now (a .marks)) _ (screen .ensures) (why .given .1) in
     and-inside (now (a .rom)) (now (a .marks)) (now (a .work)) (now (a .store)) (a .budget) (now (a .text))
-        (refused (now (a .rom)) (now (a .marks)) (now (a .work)) (now (a .store)) (a .budget) (now (a .text)) (if1 .left) (if2 .left)
-        (if3 .left) (if4 .left) _ _ p _ _ (refused-text4 .ensures))
+    (refused (now (a .rom)) (now (a .marks)) (now (a .work)) (now (a .store)) (a .budget) (now (a .text)) (if1 .left) (if2 .left)
+    (if3 .left) (if4 .left) _ _ p _ _ (refused-text4 .ensures))
 
 pub list-spec : {M : Type 1} → statement M
 list-spec =

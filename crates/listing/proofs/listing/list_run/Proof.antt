@@ -51,7 +51,7 @@ returns c =
     let r = c .before .before .before .before .before .before .before .before .before .before .before .before .run in
     let t = c .before .before .run-text in
     listed-run (now (a .rom)) (now (a .work)) (now (a .store)) (a .budget) (p .0) (p .1) (p .2) (o .result) _ _ (o .ensures) (r .result) _ _
-        (r .ensures) _ (number-of .ensures) (now (a .text)) _ _ (p .3) (t .ensures)
+    (r .ensures) _ (number-of .ensures) (now (a .text)) _ _ (p .3) (t .ensures)
 
 pub list-run-spec : {M : Type 1} → statement M
 list-run-spec =

@@ -23,9 +23,9 @@ Inv-loop rom work₀ store₀ cells₀ back₀ places₀ wides₀ bases₀ names
     n =
     ((n ≤ budget) × (length work ≡ length work₀) × (length store ≡ length store₀))
     × (Going-on budget
-        (runFrom budget 0 (scene rom work₀ store₀
-        (joined (arrays cells₀ back₀ places₀ wides₀ bases₀ names₀ kinds₀ values₀ ways₀ parents₀ owners₀ titles₀ sizes₀) core₀))) n
-        (scene rom work store (joined (arrays cells back places wides bases names kinds values ways parents owners titles sizes) core)))
+    (runFrom budget 0 (scene rom work₀ store₀
+    (joined (arrays cells₀ back₀ places₀ wides₀ bases₀ names₀ kinds₀ values₀ ways₀ parents₀ owners₀ titles₀ sizes₀) core₀))) n
+    (scene rom work store (joined (arrays cells back places wides bases names kinds values ways parents owners titles sizes) core)))
     × ActsKept slots known names kinds store titles sizes core tail
 
 abbrev μ-loop : tie.MeasureT-loop
@@ -37,11 +37,14 @@ fill-tables-requires : tie.Need-fill-tables-requires Inv-loop μ-loop
 fill-tables-requires c κs =
     let c₁ = c .before .before .before .before .before .before .before in
     let pre = c₁ .pre in
-    let x = c₁ .args in
-    (fit (scene (now (x .rom)) (now (x .work)) (now (x .store))
-        (joined (arrays (now (x .cells)) (now (x .back)) (now (x .places)) (now (x .wides)) (now (x .bases)) (now (x .names))
-        (now (x .kinds)) (now (x .values)) (now (x .ways)) (now (x .parents)) (now (x .owners)) (now (x .titles)) (now (x .sizes)))
-        (x .start))) (pre .0) .1, refl, refl)
+    let x = c₁ .args in (
+      fit (scene (now (x .rom)) (now (x .work)) (now (x .store))
+          (joined (arrays (now (x .cells)) (now (x .back)) (now (x .places)) (now (x .wides)) (now (x .bases)) (now (x .names))
+          (now (x .kinds)) (now (x .values)) (now (x .ways)) (now (x .parents)) (now (x .owners)) (now (x .titles)) (now (x .sizes)))
+          (x .start))) (pre .0) .1,
+      refl,
+      refl,
+    )
 
 tail-of-requires : tie.Need-tail-of-requires Inv-loop μ-loop
 tail-of-requires c κs =
@@ -49,52 +52,57 @@ tail-of-requires c κs =
     let pre = c₁ .pre in
     let x = c₁ .args in
     (tallied-first
-        ((scene (now (x .rom)) (now (x .work)) (now (x .store))
-        (joined (arrays (now (x .cells)) (now (x .back)) (now (x .places)) (now (x .wides)) (now (x .bases)) (now (x .names))
-        (now (x .kinds)) (now (x .values)) (now (x .ways)) (now (x .parents)) (now (x .owners)) (now (x .titles)) (now (x .sizes)))
-        (x .start))) .state .tree) (now (x .store)) (pre .1 .tree)
-        (tree-whole (scene (now (x .rom)) (now (x .work)) (now (x .store))
-        (joined (arrays (now (x .cells)) (now (x .back)) (now (x .places)) (now (x .wides)) (now (x .bases)) (now (x .names))
-        (now (x .kinds)) (now (x .values)) (now (x .ways)) (now (x .parents)) (now (x .owners)) (now (x .titles)) (now (x .sizes)))
-        (x .start))) (pre .0))
-        (ready-facts (scene (now (x .rom)) (now (x .work)) (now (x .store))
-        (joined (arrays (now (x .cells)) (now (x .back)) (now (x .places)) (now (x .wides)) (now (x .bases)) (now (x .names))
-        (now (x .kinds)) (now (x .values)) (now (x .ways)) (now (x .parents)) (now (x .owners)) (now (x .titles)) (now (x .sizes)))
-        (x .start))) (pre .0) .0 .store)) .3
+    ((scene (now (x .rom)) (now (x .work)) (now (x .store))
+    (joined (arrays (now (x .cells)) (now (x .back)) (now (x .places)) (now (x .wides)) (now (x .bases)) (now (x .names))
+    (now (x .kinds)) (now (x .values)) (now (x .ways)) (now (x .parents)) (now (x .owners)) (now (x .titles)) (now (x .sizes)))
+    (x .start))) .state .tree) (now (x .store)) (pre .1 .tree)
+    (tree-whole (scene (now (x .rom)) (now (x .work)) (now (x .store))
+    (joined (arrays (now (x .cells)) (now (x .back)) (now (x .places)) (now (x .wides)) (now (x .bases)) (now (x .names))
+    (now (x .kinds)) (now (x .values)) (now (x .ways)) (now (x .parents)) (now (x .owners)) (now (x .titles)) (now (x .sizes)))
+    (x .start))) (pre .0))
+    (ready-facts (scene (now (x .rom)) (now (x .work)) (now (x .store))
+    (joined (arrays (now (x .cells)) (now (x .back)) (now (x .places)) (now (x .wides)) (now (x .bases)) (now (x .names))
+    (now (x .kinds)) (now (x .values)) (now (x .ways)) (now (x .parents)) (now (x .owners)) (now (x .titles)) (now (x .sizes)))
+    (x .start))) (pre .0) .0 .store)) .3
 
 loop-holds : tie.Need-loop-holds Inv-loop μ-loop
 loop-holds c =
     let fill-tables = c .before .before .before .fill-tables in
     let c₁ = c .before .before .before .before .before .before .before .before .before .before .before in
     let pre = c₁ .pre in
-    let x = c₁ .args in
-    ((search needs, refl, refl), begun (x .budget)
-        (scene (now (x .rom)) (now (x .work)) (now (x .store))
-        (joined (arrays (now (x .cells)) (now (x .back)) (now (x .places)) (now (x .wides)) (now (x .bases)) (now (x .names))
-        (now (x .kinds)) (now (x .values)) (now (x .ways)) (now (x .parents)) (now (x .owners)) (now (x .titles)) (now (x .sizes)))
-        (x .start))) (pre .0) (pre .1),
-        (fill-tables .ensures, rw (c .tail-of .ensures)
-        (tallied-first
-        ((scene (now (x .rom)) (now (x .work)) (now (x .store))
-        (joined (arrays (now (x .cells)) (now (x .back)) (now (x .places)) (now (x .wides)) (now (x .bases)) (now (x .names))
-        (now (x .kinds)) (now (x .values)) (now (x .ways)) (now (x .parents)) (now (x .owners)) (now (x .titles)) (now (x .sizes)))
-        (x .start))) .state .tree) (now (x .store)) (pre .1 .tree)
-        (tree-whole (scene (now (x .rom)) (now (x .work)) (now (x .store))
-        (joined (arrays (now (x .cells)) (now (x .back)) (now (x .places)) (now (x .wides)) (now (x .bases)) (now (x .names))
-        (now (x .kinds)) (now (x .values)) (now (x .ways)) (now (x .parents)) (now (x .owners)) (now (x .titles)) (now (x .sizes)))
-        (x .start))) (pre .0))
-        (ready-facts (scene (now (x .rom)) (now (x .work)) (now (x .store))
-        (joined (arrays (now (x .cells)) (now (x .back)) (now (x .places)) (now (x .wides)) (now (x .bases)) (now (x .names))
-        (now (x .kinds)) (now (x .values)) (now (x .ways)) (now (x .parents)) (now (x .owners)) (now (x .titles)) (now (x .sizes)))
-        (x .start))) (pre .0) .0 .store))))
+    let x = c₁ .args in (
+      (search needs, refl, refl),
+      begun (x .budget)
+          (scene (now (x .rom)) (now (x .work)) (now (x .store))
+          (joined (arrays (now (x .cells)) (now (x .back)) (now (x .places)) (now (x .wides)) (now (x .bases)) (now (x .names))
+          (now (x .kinds)) (now (x .values)) (now (x .ways)) (now (x .parents)) (now (x .owners)) (now (x .titles)) (now (x .sizes)))
+          (x .start))) (pre .0) (pre .1),
+      (
+        fill-tables .ensures,
+        rw (c .tail-of .ensures)
+            (tallied-first
+            ((scene (now (x .rom)) (now (x .work)) (now (x .store))
+            (joined (arrays (now (x .cells)) (now (x .back)) (now (x .places)) (now (x .wides)) (now (x .bases)) (now (x .names))
+            (now (x .kinds)) (now (x .values)) (now (x .ways)) (now (x .parents)) (now (x .owners)) (now (x .titles)) (now (x .sizes)))
+            (x .start))) .state .tree) (now (x .store)) (pre .1 .tree)
+            (tree-whole (scene (now (x .rom)) (now (x .work)) (now (x .store))
+            (joined (arrays (now (x .cells)) (now (x .back)) (now (x .places)) (now (x .wides)) (now (x .bases)) (now (x .names))
+            (now (x .kinds)) (now (x .values)) (now (x .ways)) (now (x .parents)) (now (x .owners)) (now (x .titles)) (now (x .sizes)))
+            (x .start))) (pre .0))
+            (ready-facts (scene (now (x .rom)) (now (x .work)) (now (x .store))
+            (joined (arrays (now (x .cells)) (now (x .back)) (now (x .places)) (now (x .wides)) (now (x .bases)) (now (x .names))
+            (now (x .kinds)) (now (x .values)) (now (x .ways)) (now (x .parents)) (now (x .owners)) (now (x .titles)) (now (x .sizes)))
+            (x .start))) (pre .0) .0 .store)),
+      ),
+    )
 
 fast-requires : tie.Need-fast-requires Inv-loop μ-loop
 fast-requires c κs =
     let c₁ = c .before .before .before .before .before .before .before .before .before .before .before .before in
     let x = c₁ .before .before .before .before .args in let l = c .before .before .before .before .loop in
     hot-fit (scene (now (x .rom)) (l .work) (l .store)
-        (joined (arrays (l .cells) (l .back) (l .places) (l .wides) (l .bases) (l .names) (l .kinds) (l .values) (l .ways) (l .parents)
-        (l .owners) (l .titles) (l .sizes)) (l .core))) (l .inv .1 .0)
+    (joined (arrays (l .cells) (l .back) (l .places) (l .wides) (l .bases) (l .names) (l .kinds) (l .values) (l .ways) (l .parents)
+    (l .owners) (l .titles) (l .sizes)) (l .core))) (l .inv .1 .0)
 
 enum-told : tie.Need-enum-told Inv-loop μ-loop
 enum-told c =
@@ -117,13 +125,16 @@ loop-again c =
     let loop-test = c .before .before .before .before .before .before .loop-test in
     let loop = c .before .before .before .before .before .before .before .loop in
     let c₁ = c .before .before .before .before .before .before .before .before .before .before .before .before in
-    let lt = loop-test .taken in
-    ((omega arith, loop .inv .0 .1, loop .inv .0 .2), (let x = c₁ .before .before .before .before .before .before .before .args in
-        let l = c .before .before .before .before .before .before .before .loop in let f = c .before .before .fast in
-        hot-goes (x .budget) (l .n) _ (scene (now (x .rom)) (l .work) (l .store)
-            (joined (arrays (l .cells) (l .back) (l .places) (l .wides) (l .bases) (l .names) (l .kinds) (l .values) (l .ways) (l .parents)
-            (l .owners) (l .titles) (l .sizes)) (l .core))) (l .inv .1) (loop-test .taken) (f .result) _ _ (f .ensures)
-            (c .enum-told .given .1)), loop .inv .2)
+    let lt = loop-test .taken in (
+      (omega arith, loop .inv .0 .1, loop .inv .0 .2),
+      (let x = c₁ .before .before .before .before .before .before .before .args in
+          let l = c .before .before .before .before .before .before .before .loop in let f = c .before .before .fast in
+          hot-goes (x .budget) (l .n) _ (scene (now (x .rom)) (l .work) (l .store)
+          (joined (arrays (l .cells) (l .back) (l .places) (l .wides) (l .bases) (l .names) (l .kinds) (l .values) (l .ways) (l .parents)
+          (l .owners) (l .titles) (l .sizes)) (l .core))) (l .inv .1) (loop-test .taken) (f .result) _ _ (f .ensures)
+          (c .enum-told .given .1)),
+      loop .inv .2,
+    )
 
 enum-known-fared : tie.Need-enum-known-fared Inv-loop μ-loop
 enum-known-fared c =
@@ -150,9 +161,9 @@ returns c =
     let l = c .before .before .before .before .before .before .before .before .before .loop in
     let f = c .before .before .before .before .fast in
     rw (c .halted .ensures) (hot-refused (x .budget) (l .n) _
-        (scene (now (x .rom)) (l .work) (l .store)
-        (joined (arrays (l .cells) (l .back) (l .places) (l .wides) (l .bases) (l .names) (l .kinds) (l .values) (l .ways) (l .parents)
-        (l .owners) (l .titles) (l .sizes)) (l .core))) (l .inv .1) (loop-test .taken) (f .result) _ _ (f .ensures) _ (fared .given .1))
+    (scene (now (x .rom)) (l .work) (l .store)
+    (joined (arrays (l .cells) (l .back) (l .places) (l .wides) (l .bases) (l .names) (l .kinds) (l .values) (l .ways) (l .parents)
+    (l .owners) (l .titles) (l .sizes)) (l .core))) (l .inv .1) (loop-test .taken) (f .result) _ _ (f .ensures) _ (fared .given .1))
 
 enum-told-2 : tie.Need-enum-told-2 Inv-loop μ-loop
 enum-told-2 c =
@@ -221,12 +232,12 @@ returns-2 c =
     let f = c₂ .before .before .before .before .before .before .fast in
     let t = c .before .before .before .before .before .before .before .before .before .before .before .cold-token in
     let h = hot-left (x .budget) (l .n) _ (scene (now (x .rom)) (l .work) (l .store)
-        (joined (arrays (l .cells) (l .back) (l .places) (l .wides) (l .bases) (l .names) (l .kinds) (l .values) (l .ways) (l .parents)
-        (l .owners) (l .titles) (l .sizes)) (l .core))) (l .inv .1) (loop-test .taken) (f .result) _ _ (f .ensures) (enum-told2 .given .1)
-        in let i = h .0 in
-        rw (c .halted2 .ensures) (turn-rooted _ _ _ _ i (loop-test .taken) _
-        (came _ (turnedTo (l .core) (f .result)) _ _ _ _ _ _ _ _ _ _ _ _ _ _ _ _ (i .0) (t .ensures .0) refl refl refl refl refl refl refl
-        refl refl refl refl refl refl) (ap answerOf (enum-told3 .given .1)) (c .before .if1 .taken))
+    (joined (arrays (l .cells) (l .back) (l .places) (l .wides) (l .bases) (l .names) (l .kinds) (l .values) (l .ways) (l .parents)
+    (l .owners) (l .titles) (l .sizes)) (l .core))) (l .inv .1) (loop-test .taken) (f .result) _ _ (f .ensures) (enum-told2 .given .1)
+    in let i = h .0 in
+    rw (c .halted2 .ensures) (turn-rooted _ _ _ _ i (loop-test .taken) _
+    (came _ (turnedTo (l .core) (f .result)) _ _ _ _ _ _ _ _ _ _ _ _ _ _ _ _ (i .0) (t .ensures .0) refl refl refl refl refl refl refl
+    refl refl refl refl refl refl) (ap answerOf (enum-told3 .given .1)) (c .before .if1 .taken))
 
 loop-less-2 : tie.Need-loop-less-2 Inv-loop μ-loop
 loop-less-2 c =
@@ -245,19 +256,21 @@ loop-again-2 c =
     let loop-test = c₂ .before .before .before .before .before .before .before .before .before .loop-test in
     let loop = c₂ .before .before .before .before .before .before .before .before .before .before .loop in
     let c₃ = c₂ .before .before .before .before .before .before .before .before .before .before .before .before in
-    let lt = loop-test .taken in
-    ((omega arith, cold-token .kept .1 .0 ∙ loop .inv .0 .1, cold-token .kept .1 .1 .0 ∙ loop .inv .0 .2),
-        (let x = c₃ .before .before .before .before .before .before .before .before .before .before .args in
-        let l = c₂ .before .before .before .before .before .before .before .before .before .before .loop in
-        let f = c₂ .before .before .before .before .before .fast in
-        let t = c .before .before .before .before .before .before .before .before .before .before .cold-token in
-        let h = hot-left (x .budget) (l .n) _ (scene (now (x .rom)) (l .work) (l .store)
-            (joined (arrays (l .cells) (l .back) (l .places) (l .wides) (l .bases) (l .names) (l .kinds) (l .values) (l .ways) (l .parents)
-            (l .owners) (l .titles) (l .sizes)) (l .core))) (l .inv .1) (loop-test .taken) (f .result) _ _ (f .ensures)
-            (enum-told2 .given .1) in let i = h .0 in
-            turn-goes _ _ _ _ i (loop-test .taken) _
-            (came _ (turnedTo (l .core) (f .result)) _ _ _ _ _ _ _ _ _ _ _ _ _ _ _ _ (i .0) (t .ensures .0) refl refl refl refl refl refl
-            refl refl refl refl refl refl refl) (ap answerOf (enum-told3 .given .1)) (c .if1 .left)), cold-token .ensures .1)
+    let lt = loop-test .taken in (
+      (omega arith, cold-token .kept .1 .0 ∙ loop .inv .0 .1, cold-token .kept .1 .1 .0 ∙ loop .inv .0 .2),
+      (let x = c₃ .before .before .before .before .before .before .before .before .before .before .args in
+          let l = c₂ .before .before .before .before .before .before .before .before .before .before .loop in
+          let f = c₂ .before .before .before .before .before .fast in
+          let t = c .before .before .before .before .before .before .before .before .before .before .cold-token in
+          let h = hot-left (x .budget) (l .n) _ (scene (now (x .rom)) (l .work) (l .store)
+          (joined (arrays (l .cells) (l .back) (l .places) (l .wides) (l .bases) (l .names) (l .kinds) (l .values) (l .ways) (l .parents)
+          (l .owners) (l .titles) (l .sizes)) (l .core))) (l .inv .1) (loop-test .taken) (f .result) _ _ (f .ensures)
+          (enum-told2 .given .1) in let i = h .0 in
+          turn-goes _ _ _ _ i (loop-test .taken) _
+          (came _ (turnedTo (l .core) (f .result)) _ _ _ _ _ _ _ _ _ _ _ _ _ _ _ _ (i .0) (t .ensures .0) refl refl refl refl refl refl
+          refl refl refl refl refl refl refl) (ap answerOf (enum-told3 .given .1)) (c .if1 .left)),
+      cold-token .ensures .1,
+    )
 
 enum-told-4 : tie.Need-enum-told-4 Inv-loop μ-loop
 enum-told-4 c =
@@ -302,12 +315,12 @@ returns-3 c =
     let f = c₂ .before .before .before .before .fast in
     let t = c .before .before .before .before .before .before .before .before .before .cold-token in
     let h = hot-left (x .budget) (l .n) _ (scene (now (x .rom)) (l .work) (l .store)
-        (joined (arrays (l .cells) (l .back) (l .places) (l .wides) (l .bases) (l .names) (l .kinds) (l .values) (l .ways) (l .parents)
-        (l .owners) (l .titles) (l .sizes)) (l .core))) (l .inv .1) (loop-test .taken) (f .result) _ _ (f .ensures) (enum-told2 .given .1)
-        in let i = h .0 in
-        rw (c .halted3 .ensures) (turn-ends _ _ _ _ i (loop-test .taken) _
-        (came _ (turnedTo (l .core) (f .result)) _ _ _ _ _ _ _ _ _ _ _ _ _ _ _ _ (i .0) (t .ensures .0) refl refl refl refl refl refl refl
-        refl refl refl refl refl refl) Finished (ap answerOf (c .before .enum-told4 .given .1)))
+    (joined (arrays (l .cells) (l .back) (l .places) (l .wides) (l .bases) (l .names) (l .kinds) (l .values) (l .ways) (l .parents)
+    (l .owners) (l .titles) (l .sizes)) (l .core))) (l .inv .1) (loop-test .taken) (f .result) _ _ (f .ensures) (enum-told2 .given .1)
+    in let i = h .0 in
+    rw (c .halted3 .ensures) (turn-ends _ _ _ _ i (loop-test .taken) _
+    (came _ (turnedTo (l .core) (f .result)) _ _ _ _ _ _ _ _ _ _ _ _ _ _ _ _ (i .0) (t .ensures .0) refl refl refl refl refl refl refl
+    refl refl refl refl refl refl) Finished (ap answerOf (c .before .enum-told4 .given .1)))
 
 enum-known-told : tie.Need-enum-known-told Inv-loop μ-loop
 enum-known-told c =
@@ -344,12 +357,12 @@ returns-4 c =
     let f = c₂ .before .before .before .before .before .fast in
     let t = c .before .before .before .before .before .before .before .before .before .before .cold-token in
     let h = hot-left (x .budget) (l .n) _ (scene (now (x .rom)) (l .work) (l .store)
-        (joined (arrays (l .cells) (l .back) (l .places) (l .wides) (l .bases) (l .names) (l .kinds) (l .values) (l .ways) (l .parents)
-        (l .owners) (l .titles) (l .sizes)) (l .core))) (l .inv .1) (loop-test .taken) (f .result) _ _ (f .ensures) (enum-told2 .given .1)
-        in let i = h .0 in
-        rw (c .halted4 .ensures) (turn-ends _ _ _ _ i (loop-test .taken) _
-        (came _ (turnedTo (l .core) (f .result)) _ _ _ _ _ _ _ _ _ _ _ _ _ _ _ _ (i .0) (t .ensures .0) refl refl refl refl refl refl refl
-        refl refl refl refl refl refl) (Refused _) (ap answerOf (told .given .1)))
+    (joined (arrays (l .cells) (l .back) (l .places) (l .wides) (l .bases) (l .names) (l .kinds) (l .values) (l .ways) (l .parents)
+    (l .owners) (l .titles) (l .sizes)) (l .core))) (l .inv .1) (loop-test .taken) (f .result) _ _ (f .ensures) (enum-told2 .given .1)
+    in let i = h .0 in
+    rw (c .halted4 .ensures) (turn-ends _ _ _ _ i (loop-test .taken) _
+    (came _ (turnedTo (l .core) (f .result)) _ _ _ _ _ _ _ _ _ _ _ _ _ _ _ _ (i .0) (t .ensures .0) refl refl refl refl refl refl refl
+    refl refl refl refl refl refl) (Refused _) (ap answerOf (told .given .1)))
 
 halted-requires-5 : tie.Need-halted-requires-5 Inv-loop μ-loop
 halted-requires-5 c κs =

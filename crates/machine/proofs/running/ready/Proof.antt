@@ -25,8 +25,14 @@ ready-spec =
     let if3 = c .before .before .before .if3 in
     let if2 = c .before .before .before .before .if2 in
     let if1 = c .before .before .before .before .before .if1 in
-    simp (eq-eqb _ _ (if1 .left), eq-eqb _ _ (if2 .left), le-ltb _ _ (if3 .left), le-ltb _ _ (if4 .left), ← c .before .is-whole .ensures,
-        not-off (c .before .is-whole .result) (c .if5 .taken)))
+    simp (
+      eq-eqb _ _ (if1 .left),
+      eq-eqb _ _ (if2 .left),
+      le-ltb _ _ (if3 .left),
+      le-ltb _ _ (if4 .left),
+      ← c .before .is-whole .ensures,
+      not-off (c .before .is-whole .result) (c .if5 .taken),
+    ))
     (λ c.
     let if5 = c .before .before .if5 in
     let is-whole = c .before .before .before .is-whole in
@@ -34,8 +40,15 @@ ready-spec =
     let if3 = c .before .before .before .before .before .if3 in
     let if2 = c .before .before .before .before .before .before .if2 in
     let if1 = c .before .before .before .before .before .before .before .if1 in
-    simp (eq-eqb _ _ (if1 .left), eq-eqb _ _ (if2 .left), le-ltb _ _ (if3 .left), le-ltb _ _ (if4 .left), ← is-whole .ensures,
-        not-on (is-whole .result) (if5 .left), lt-ltb _ _ (c .if6 .taken)))
+    simp (
+      eq-eqb _ _ (if1 .left),
+      eq-eqb _ _ (if2 .left),
+      le-ltb _ _ (if3 .left),
+      le-ltb _ _ (if4 .left),
+      ← is-whole .ensures,
+      not-on (is-whole .result) (if5 .left),
+      lt-ltb _ _ (c .if6 .taken),
+    ))
     (λ c. search needs)
     (λ c.
     let if6 = c .before .before .if6 in
@@ -45,8 +58,16 @@ ready-spec =
     let if3 = c .before .before .before .before .before .before .before .if3 in
     let if2 = c .before .before .before .before .before .before .before .before .if2 in
     let if1 = c .before .before .before .before .before .before .before .before .before .if1 in
-    simp (eq-eqb _ _ (if1 .left), eq-eqb _ _ (if2 .left), le-ltb _ _ (if3 .left), le-ltb _ _ (if4 .left), ← is-whole .ensures,
-        not-on (is-whole .result) (if5 .left), le-ltb _ _ (if6 .left), lt-ltb _ _ (c .if7 .taken)))
+    simp (
+      eq-eqb _ _ (if1 .left),
+      eq-eqb _ _ (if2 .left),
+      le-ltb _ _ (if3 .left),
+      le-ltb _ _ (if4 .left),
+      ← is-whole .ensures,
+      not-on (is-whole .result) (if5 .left),
+      le-ltb _ _ (if6 .left),
+      lt-ltb _ _ (c .if7 .taken),
+    ))
     (λ c.
     let if6 = c .before .before .before .if6 in
     let if5 = c .before .before .before .before .before .if5 in
@@ -55,8 +76,17 @@ ready-spec =
     let if3 = c .before .before .before .before .before .before .before .before .if3 in
     let if2 = c .before .before .before .before .before .before .before .before .before .if2 in
     let if1 = c .before .before .before .before .before .before .before .before .before .before .if1 in
-    simp (eq-eqb _ _ (if1 .left), eq-eqb _ _ (if2 .left), le-ltb _ _ (if3 .left), le-ltb _ _ (if4 .left), ← is-whole .ensures,
-        not-on (is-whole .result) (if5 .left), le-ltb _ _ (if6 .left), le-ltb _ _ (c .before .if7 .left), c .if8 .taken))
+    simp (
+      eq-eqb _ _ (if1 .left),
+      eq-eqb _ _ (if2 .left),
+      le-ltb _ _ (if3 .left),
+      le-ltb _ _ (if4 .left),
+      ← is-whole .ensures,
+      not-on (is-whole .result) (if5 .left),
+      le-ltb _ _ (if6 .left),
+      le-ltb _ _ (c .before .if7 .left),
+      c .if8 .taken,
+    ))
     (λ c.
     let if6 = c .before .before .before .if6 in
     let if5 = c .before .before .before .before .before .if5 in
@@ -65,5 +95,14 @@ ready-spec =
     let if3 = c .before .before .before .before .before .before .before .before .if3 in
     let if2 = c .before .before .before .before .before .before .before .before .before .if2 in
     let if1 = c .before .before .before .before .before .before .before .before .before .before .if1 in
-    simp (eq-eqb _ _ (if1 .left), eq-eqb _ _ (if2 .left), le-ltb _ _ (if3 .left), le-ltb _ _ (if4 .left), ← is-whole .ensures,
-        not-on (is-whole .result) (if5 .left), le-ltb _ _ (if6 .left), le-ltb _ _ (c .before .if7 .left), c .if8 .left)))
+    simp (
+      eq-eqb _ _ (if1 .left),
+      eq-eqb _ _ (if2 .left),
+      le-ltb _ _ (if3 .left),
+      le-ltb _ _ (if4 .left),
+      ← is-whole .ensures,
+      not-on (is-whole .result) (if5 .left),
+      le-ltb _ _ (if6 .left),
+      le-ltb _ _ (c .before .if7 .left),
+      c .if8 .left,
+    )))

@@ -47,8 +47,8 @@ run-spec =
     let ready = c .before .before .before .ready in
     let a = c .before .before .before .before .before .before .before .before .before .args in
     rw (c .ended .ensures)
-        (sym (run-known (a .budget) 0 (scene (now (a .rom)) (now (a .work)) (now (a .store)) (a .st)) Finished
-        (sym (ready .ensures) ∙ c .before .enum-told2 .given .1) not-finished)))
+    (sym (run-known (a .budget) 0 (scene (now (a .rom)) (now (a .work)) (now (a .store)) (a .st)) Finished
+    (sym (ready .ensures) ∙ c .before .enum-told2 .given .1) not-finished)))
     (λ c. search needs)
     (λ c. search needs)
     (λ c.
@@ -56,8 +56,8 @@ run-spec =
     let ready = c .before .before .before .before .ready in
     let a = c .before .before .before .before .before .before .before .before .before .before .args in
     rw (c .ended2 .ensures)
-        (sym (run-known (a .budget) 0 (scene (now (a .rom)) (now (a .work)) (now (a .store)) (a .st)) (Refused _)
-        (sym (ready .ensures) ∙ why .given .1) (not-going _))))
+    (sym (run-known (a .budget) 0 (scene (now (a .rom)) (now (a .work)) (now (a .store)) (a .st)) (Refused _)
+    (sym (ready .ensures) ∙ why .given .1) (not-going _))))
     (λ c. search needs)
     (λ c. search needs)
     (λ c.
@@ -65,5 +65,5 @@ run-spec =
     let ready = c .before .before .before .before .ready in
     let a = c .before .before .before .before .before .before .before .before .before .before .args in
     rw (c .ended3 .ensures)
-        (sym (run-known (a .budget) 0 (scene (now (a .rom)) (now (a .work)) (now (a .store)) (a .st)) (Spent _)
-        (sym (ready .ensures) ∙ n .given .1) (not-spent _)))))
+    (sym (run-known (a .budget) 0 (scene (now (a .rom)) (now (a .work)) (now (a .store)) (a .st)) (Spent _)
+    (sym (ready .ensures) ∙ n .given .1) (not-spent _)))))

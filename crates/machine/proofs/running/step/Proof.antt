@@ -43,15 +43,15 @@ step-spec =
     let c₁ = c .before .before .before .before .before .before .before .before .before .before .before .before in
     let args = c₁ .before .before .before .args in
     token .ensures
-        ∙ sym (step-going (scene (now (args .rom)) (now (args .work)) (now (args .store)) (args .st))
-        (sym (ready .ensures) ∙ enum-told .given .1)))
+    ∙ sym (step-going (scene (now (args .rom)) (now (args .work)) (now (args .store)) (args .st))
+    (sym (ready .ensures) ∙ enum-told .given .1)))
     (λ c. search needs)
     (λ c. search needs)
     (λ c.
     let ready = c .before .before .ready in
     let args = c .before .before .before .before .before .before .before .before .args in
     sym (finished-stays (scene (now (args .rom)) (now (args .work)) (now (args .store)) (args .st))
-        (sym (ready .ensures) ∙ c .enum-told2 .given .1)))
+    (sym (ready .ensures) ∙ c .enum-told2 .given .1)))
     (λ c. search needs)
     (λ c. search needs)
     (λ c.
@@ -59,12 +59,12 @@ step-spec =
     let ready = c .before .before .before .before .ready in
     let args = c .before .before .before .before .before .before .before .before .before .before .args in
     rw (c .refused .ensures)
-        (sym (step-refused (scene (now (args .rom)) (now (args .work)) (now (args .store)) (args .st)) _
-        (sym (ready .ensures) ∙ why .given .1))))
+    (sym (step-refused (scene (now (args .rom)) (now (args .work)) (now (args .store)) (args .st)) _
+    (sym (ready .ensures) ∙ why .given .1))))
     (λ c. search needs)
     (λ c. search needs)
     (λ c.
     let ready = c .before .before .before .ready in
     let args = c .before .before .before .before .before .before .before .before .before .args in
     sym (step-spent (scene (now (args .rom)) (now (args .work)) (now (args .store)) (args .st)) _
-        (sym (ready .ensures) ∙ c .before .n .given .1))))
+    (sym (ready .ensures) ∙ c .before .n .given .1))))

@@ -19,4 +19,4 @@ token-spec =
     let args = c₁ .args in
     let pre = c₁ .pre in
     rw (c .one .ensures) (one-told (scene (now (args .rom)) (now (args .work)) (now (args .store)) (args .st)) (pre .1) (pre .0)
-        (tokens .result) _ _ (tokens .ensures))))
+    (tokens .result) _ _ (tokens .ensures))))

@@ -35,5 +35,5 @@ store-cell-spec =
     let k = f .before in
     let a = k .before .before .before .args in
     let i = cell-inside (now (a .work)) (a .address) (a .cell) (sym (k .before .lies .ensures) ∙ not-false _ (k .if1 .left))
-        (f .if2 .left) in
+    (f .if2 .left) in
     (i .0, p .write-cell .ensures ∙ i .1)))

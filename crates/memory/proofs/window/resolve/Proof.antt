@@ -14,7 +14,7 @@ found : (c : tie.After-window-of)
     → c .window-of .result
     ≡ rangeOf (now (c .before .before .before .before .args .rom)) (now (c .before .before .before .before .args .work))
     (c .before .before .before .before .args .size) (c .before .before .before .before .args .address)
-        (c .before .before .before .before .args .count)
+    (c .before .before .before .before .args .count)
 found c = rw (← c .before .least .ensures) (c .window-of .ensures)
 
 -- its bytes, which the code counts from where they start
@@ -71,4 +71,4 @@ resolve-spec =
     let before-here = c .before .before .before in
     let a = c .before .before .before .before .before .before .before .args in
     sym (resolved-none (now (a .rom)) (now (a .work)) (a .size) (a .address) (a .count)
-        (sym (found (before-here)) ∙ c .before .enum-told .given .1))))
+    (sym (found (before-here)) ∙ c .before .enum-told .given .1))))

@@ -28,9 +28,9 @@ window-of-spec =
     let k = c .before .before in
     let a = k .before .before .args in
     sym (in-work (a .rom) (a .work) (a .address) (a .count) (sym (k .before .lies .ensures) ∙ k .if1 .left)
-        (sym (c .before .lies2 .ensures) ∙ c .if2 .taken)))
+    (sym (c .before .lies2 .ensures) ∙ c .if2 .taken)))
     (λ c.
     let k = c .before .before in
     let a = k .before .before .args in
     sym (in-none (a .rom) (a .work) (a .address) (a .count) (sym (k .before .lies .ensures) ∙ k .if1 .left)
-        (sym (c .before .lies2 .ensures) ∙ c .if2 .left))))
+    (sym (c .before .lies2 .ensures) ∙ c .if2 .left))))

@@ -13,8 +13,8 @@ by-three-spec =
     (tie.spec
     (λ c κs. search needs)
     (λ c. let s = c .before .before in let a = s .args in
-        rw (c .refuse .ensures) (data-low (a .number) (a .h) (a .b) (a .place) 0x0100_0031 (now (a .stack))
-        (three-code (a .number) (s .pre .0)) (refl, refl, refl, refl) (s .pre .1) (s .pre .2) (search needs)))
+    rw (c .refuse .ensures) (data-low (a .number) (a .h) (a .b) (a .place) 0x0100_0031 (now (a .stack))
+    (three-code (a .number) (s .pre .0)) (refl, refl, refl, refl) (s .pre .1) (s .pre .2) (search needs)))
     (λ c. search needs)
     (λ c. search needs)
     (λ c. search needs)
@@ -30,5 +30,5 @@ by-three-spec =
     (λ c. search needs)
     (λ c κs. search needs)
     (λ c. let s = c .before .before .before .before .before .before in let a = s .args in
-        rw (c .on .ensures) (three-fine (a .h) (a .b) (a .place) (now (a .stack)) (s .pre .1) (s .pre .2) (a .number)
-        (c .before .three .result) (s .pre .0) (search needs) (c .before .three .ensures))))
+    rw (c .on .ensures) (three-fine (a .h) (a .b) (a .place) (now (a .stack)) (s .pre .1) (s .pre .2) (a .number)
+    (c .before .three .result) (s .pre .0) (search needs) (c .before .three .ensures))))

@@ -38,4 +38,4 @@ one-spec =
     (λ c. one-by 0x58 uHalfOf (λ s. refl) (c .before .match .keys11) (c .u-half .ensures))
     (λ c. one-by 0x59 doubleOf (λ s. refl) (c .before .match .keys12) (c .double .ensures))
     (λ c. let s = c .before in
-        absurd (none-left (Unit {0}) ones (s .args .number) (c .match .rest) (one-coded (s .args .number) (s .pre)))))
+    absurd (none-left (Unit {0}) ones (s .args .number) (c .match .rest) (one-coded (s .args .number) (s .pre)))))

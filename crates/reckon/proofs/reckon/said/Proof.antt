@@ -19,4 +19,4 @@ said-spec =
     (λ c. none-by 0xA8 (λ h. 3) (λ s. refl) (c .match .keys5) refl)
     (λ c. none-by 0x51 (λ h. h) (λ s. refl) (c .match .keys6) refl)
     (λ c. let s = c .before in
-        absurd (none-left (Unit {0}) nones (s .args .number) (c .match .rest) (none-coded (s .args .number) (s .pre .0)))))
+    absurd (none-left (Unit {0}) nones (s .args .number) (c .match .rest) (none-coded (s .args .number) (s .pre .0)))))

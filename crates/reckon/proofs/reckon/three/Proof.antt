@@ -17,4 +17,4 @@ three-spec =
     (λ c. three-by 0x44 betweenOf (λ s. refl) (c .before .match .keys1) (c .between .ensures))
     (λ c. three-by 0x45 withinOf (λ s. refl) (c .before .match .keys2) (c .within .ensures))
     (λ c. let s = c .before in
-        absurd (none-left (Unit {0}) threes (s .args .number) (c .match .rest) (three-coded (s .args .number) (s .pre)))))
+    absurd (none-left (Unit {0}) threes (s .args .number) (c .match .rest) (three-coded (s .args .number) (s .pre)))))

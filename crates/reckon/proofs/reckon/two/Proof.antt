@@ -57,4 +57,4 @@ two-spec =
     (λ c. two-by 0x43 atMostOf (λ s. refl) (c .before .match .keys21) (c .at-most .ensures))
     (λ c. two-by 0x4D (λ b a. a) (λ s. refl) (c .match .keys22) refl)
     (λ c. let s = c .before in
-        absurd (none-left (Unit {0}) twos (s .args .number) (c .match .rest) (two-coded (s .args .number) (s .pre)))))
+    absurd (none-left (Unit {0}) twos (s .args .number) (c .match .rest) (two-coded (s .args .number) (s .pre)))))

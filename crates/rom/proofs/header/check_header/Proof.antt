@@ -40,7 +40,7 @@ returns-5 : tie.Need-returns-5
 returns-5 c =
     let k = c .before .before in
     length-low _ (search needs) (search needs) (started (k .before .before)) (formatted k)
-        (rw (← c .before .program-length .ensures) (c .if5 .taken))
+    (rw (← c .before .program-length .ensures) (c .if5 .taken))
 
 returns-6 : tie.Need-returns-6
 returns-6 c =

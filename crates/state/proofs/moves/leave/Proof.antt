@@ -20,8 +20,8 @@ leave-spec =
     let if1 = c .before .before .before .before .before .if1 in
     let args = c .before .before .before .before .before .before .args in
     λ a. let l = if1 .left in
-        rw (c .stop2 .ensures)
-        (simp (ne-eqb _ _ l, lt-ltb 0 (args .core .frames) (omega arith), ← base-at .ensures, ne-eqb _ _ (c .before .if2 .taken))))
+    rw (c .stop2 .ensures)
+    (simp (ne-eqb _ _ l, lt-ltb 0 (args .core .frames) (omega arith), ← base-at .ensures, ne-eqb _ _ (c .before .if2 .taken))))
     (λ c. search needs)
     (λ c κs. search needs)
     (λ c. search needs)
@@ -35,6 +35,12 @@ leave-spec =
     let if1 = c .before .before .before .before .before .before .before .before .before .if1 in
     let args = c .before .before .before .before .before .before .before .before .before .before .args in
     λ a. let l = if1 .left in
-        rw (c .go .ensures)
-        (simp (ne-eqb _ _ l, lt-ltb 0 (args .core .frames) (omega arith), ← base-at .ensures, eq-eqb _ _ (if2 .left), entry .ensures,
-        c .before .wide-at .ensures))))
+    rw (c .go .ensures)
+    (simp (
+      ne-eqb _ _ l,
+      lt-ltb 0 (args .core .frames) (omega arith),
+      ← base-at .ensures,
+      eq-eqb _ _ (if2 .left),
+      entry .ensures,
+      c .before .wide-at .ensures,
+    ))))

@@ -3,6 +3,7 @@ use mathlib.Core.Path.{sym, _∙_}
 use Rattle.state.proofs.Opened.{all-zero, bad-work, bad-store, bad-header, good-header}
 use borrow.Author.Needs.{needs}
 use Rattle.state.proofs.opening.open.Statement.{statement}
+use Rattle.rom.specs.Sizes.{workSize, storeSize}
 use Rattle.state.proofs.opening.open.Tie as tie
 
 pub open-spec : {M : Type 1} → statement M
@@ -22,7 +23,7 @@ open-spec =
     let if1 = c .before .before .before .if1 in
     let a = c .before .before .before .before .before .before .before .args in
     rw (c .refused2 .ensures, c .before .zero-state2 .ensures)
-        (bad-store (now (a .rom)) (now (a .work)) (now (a .store)) (if1 .left) (if2 .taken)))
+    (bad-store (now (a .rom)) (now (a .work)) (now (a .store)) (if1 .left) (if2 .taken)))
     (λ c κs. search needs)
     (λ c κs. search needs)
     (λ c κs. search needs)
@@ -33,8 +34,8 @@ open-spec =
     let if1 = c .before .before .before .before .before .if1 in
     let a = c .before .before .before .before .before .before .before .before .before .args in
     rw (c .refused3 .ensures, c .before .zero-state3 .ensures)
-        (bad-header (now (a .rom)) (now (a .work)) (now (a .store)) (if1 .left) (if2 .left) (check-header .result) (check-header .ensures)
-        (if3 .taken)))
+    (bad-header (now (a .rom)) (now (a .work)) (now (a .store)) (if1 .left) (if2 .left) (check-header .result) (check-header .ensures)
+    (if3 .taken)))
     (λ c κs. search needs)
     (λ c κs. search needs)
     (λ c κs. search needs)
@@ -56,6 +57,15 @@ open-spec =
     let if2 = c₁ .before .before .before .if2 in
     let if1 = c₁ .before .before .before .before .if1 in
     let a = c₁ .before .before .before .before .before .before .before .before .args in
-    rw (c .going .ensures, c .before .empty-state .ensures, fresh-tree .ensures, wide-start .ensures, program-length .ensures,
-        clear-from .ensures, clear-from2 .ensures, all-zero (now (a .work)) 16384 (if1 .left), all-zero (now (a .store)) 16384 (if2 .left))
-        (good-header (now (a .rom)) (now (a .work)) (now (a .store)) (if1 .left) (if2 .left) (sym (check-header .ensures) ∙ if3 .left))))
+    rw (
+      c .going .ensures,
+      c .before .empty-state .ensures,
+      fresh-tree .ensures,
+      wide-start .ensures,
+      program-length .ensures,
+      clear-from .ensures,
+      clear-from2 .ensures,
+      all-zero (now (a .work)) workSize (if1 .left),
+      all-zero (now (a .store)) storeSize (if2 .left),
+    )
+    (good-header (now (a .rom)) (now (a .work)) (now (a .store)) (if1 .left) (if2 .left) (sym (check-header .ensures) ∙ if3 .left))))

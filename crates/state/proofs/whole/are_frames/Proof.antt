@@ -31,7 +31,7 @@ are-frames-spec =
     let if1 = c .before .before .before .before .before .if1 in
     let a = c .before .before .before .before .before .before .before .args in
     rw (le-leb _ _ (if1 .left)) (one-fails (a .calls .count) (frameWhole (a .length) (a .calls) (a .returns)) _ _ (if2 .taken)
-        (c .before .is-frame .ensures) (c .if3 .taken)))
+    (c .before .is-frame .ensures) (c .if3 .taken)))
     (λ c. search needs)
     (λ c. omega arith)
     (λ c.
@@ -42,4 +42,4 @@ are-frames-spec =
     let if1 = c .before .before .before .if1 in
     let a = c .before .before .before .before .before .args in
     rw (le-leb _ _ (if1 .left)) (all-hold (a .calls .count) _ (frameWhole (a .length) (a .calls) (a .returns)) (loop .inv .0) (c .if2 .left)
-        (loop .inv .1))))
+    (loop .inv .1))))

@@ -18,5 +18,10 @@ is-frame-spec =
     let if1 = c .before .before .before .before .before .if1 in
     let is-place = c .before .before .before .before .before .before .is-place in
     let entry = c .before .before .before .before .before .before .before .entry in
-    rw (← entry .ensures, ← is-place .ensures, not-on (is-place .result) (if1 .left), ← c .before .base-at .ensures,
-        ← c .next-base .ensures)))
+    rw (
+      ← entry .ensures,
+      ← is-place .ensures,
+      not-on (is-place .result) (if1 .left),
+      ← c .before .base-at .ensures,
+      ← c .next-base .ensures,
+    )))

@@ -12,7 +12,7 @@ use borrow.Author.Tests.{eqb-true, eqb-false, ltb-true, ltb-false, lt-ltb, le-lt
 use Rattle.cells.specs.Laws.Tests.{tests, neqb→ne}
 use Rattle.cells.specs.Laws.Facts.{holds, both-hold, not-unequal}
 use Rattle.rom.specs.Sizes.{framesMost, numbersMost}
-use Rattle.tokens.specs.Table.{isProgram}
+use Rattle.tokens.specs.Table.{isProgram, programsMost, firstProgram}
 use Rattle.tokens.specs.Family.{call, assign}
 use Rattle.tokens.specs.Code.{familyIn}
 use Rattle.tokens.specs.Body.{kindOf, numberIn, unknownOf}
@@ -229,9 +229,9 @@ kinds-at ns (suc k) n (suc i) l = kinds-at ns k (n + 1) i (omega arith) ∙ ap (
 kind-told : (ns : Numbers) (n : ℕ) → T (isProgram n) → getD (kindsOf ns) (n - 0x800) 0 ≡ kindHeld ns n
 kind-told ns n t =
     let (a, b) = both-hold (leb 0x800 n) (leb n 0xFFF) t in
-    let l : n - 0x800 < 2048 = omega (arith, tests) in
+    let l : n - 0x800 < programsMost = omega (arith, tests) in
     let e : 0x800 + (n - 0x800) ≡ n = omega (arith, tests) in
-    kinds-at ns 2048 0x800 (n - 0x800) l ∙ ap (kindHeld ns) e
+    kinds-at ns programsMost firstProgram (n - 0x800) l ∙ ap (kindHeld ns) e
 
 kind-is : (ns : Numbers) (n : ℕ) → (kindOf (kindsOf ns) n ≡ 0 → ⊥) → kindOf (kindsOf ns) n ≡ kindHeld ns n
 kind-is ns n h = by (isProgram n) refl

@@ -81,7 +81,7 @@ allowed : (s : Scene) (t : Token) → refusalOf s t ≡ 0 → AllowedAct s t
 unfolding refusalOf
 allowed s t e =
     let each = no 11 ▸ no 12 ▸ other ▸ no 13 ▸ no 18 ▸ no 15 ▸ no 14 ▸ no 16 ▸ no 19 ▸ no 20 ▸ no 21 ▸ no 22 ▸ no 23 ▸ no 24 ▸ no 25 ▸ no 26
-        ▸ tt in
+    ▸ tt in
     let n = none-held (refusals s t) each e in
     record {
       undefined = n .0;
@@ -370,7 +370,7 @@ module _ (s : Scene) (t : Token) (z : Sized (s .state)) (l : Lent s) (w : Parts 
   plain-fit : (op : ℕ) → st .stack .height - takesIn (t .code) + givesIn (t .code) ≤ dataMost
       → st .back .height - returnTakesIn (t .code) + returnGivesIn (t .code) ≤ returnMost
       → baseOf (st .calls) ≤ st .back .height - returnTakesIn (t .code) + returnGivesIn (t .code)
-          → Fit (plainOf (t .number) op (stacksOf st))
+      → Fit (plainOf (t .number) op (stacksOf st))
   unfolding plainOf
   plain-fit op h r b =
       record {
@@ -392,7 +392,7 @@ module _ (s : Scene) (t : Token) (z : Sized (s .state)) (l : Lent s) (w : Parts 
       let m = nltb→le (st .back .height - baseOf (st .calls)) (returnTakesIn (t .code)) x in
       let n = nltb→le returnMost over y in
       stacked (plainOf (t .number) (operandIn (t .operand)) (stacksOf st)) (t .next)
-          (plain-fit (operandIn (t .operand)) (omega arith) n (omega arith)) next-place
+      (plain-fit (operandIn (t .operand)) (omega arith) n (omega arith)) next-place
 
   keeps-divide : familyIn (t .code) ≡ divide → Kept s (Effects.reckoned s t)
   keeps-divide k =
@@ -402,7 +402,7 @@ module _ (s : Scene) (t : Token) (z : Sized (s .state)) (l : Lent s) (w : Parts 
       let b = base-now in
       stacked (plainOf (t .number) (operandIn (t .operand)) (stacksOf st)) (t .next)
       (plain-fit (operandIn (t .operand)) (omega arith) (rw (r .0, r .1) (omega (arith, w .returns))) (rw (r .0, r .1) (omega arith)))
-          next-place
+      next-place
 
   keeps-always : familyIn (t .code) ≡ always → Kept s (Effects.branches s t)
   keeps-always k =
@@ -418,14 +418,14 @@ module _ (s : Scene) (t : Token) (z : Sized (s .state)) (l : Lent s) (w : Parts 
       stacked (gave st 1 []) (pick (eqb (cellOf s 0) 0) (aimed (t .operand)) (t .next)) (gave-fit 1 [] (omega arith))
       (pick-is (Place (st .length)) (eqb (cellOf s 0) 0) (aimed (t .operand)) (t .next)
       (λ c. branch-place (s .rom) (st .length) (st .wide) (isOpen (st .calls)) (st .place) t d choice k tt
-          (not-both (eqb (cellOf s 0) 0) (leadsOut (t .operand)) c q))
+      (not-both (eqb (cellOf s 0) 0) (leadsOut (t .operand)) c q))
       (λ c. next-place))
 
   keeps-text : familyIn (t .code) ≡ text → Kept s (Effects.quotes s t)
   keeps-text k =
       let r = room text k tt tt in
       stacked (gave st 0 ((romBase + Effects.textStart (t .operand)) ∷ Effects.textCount (t .operand) ∷ [])) (t .next)
-          (gave-fit 0 _ (omega arith)) next-place
+      (gave-fit 0 _ (omega arith)) next-place
 
   keeps-widen : familyIn (t .code) ≡ widen → Kept s (Effects.widens s t)
   keeps-widen k = called (st .calls) (t .next) true next-place (z .calls) (w .calls)
@@ -434,13 +434,13 @@ module _ (s : Scene) (t : Token) (z : Sized (s .state)) (l : Lent s) (w : Parts 
   keeps-pick k =
       stacked (pickedOf (stacksOf st)) (t .next)
       (data-fit (pickedOf (stacksOf st) .cells) (st .stack .height) (length-set (st .stack .cells) (st .stack .height - 1) _ ∙ z .stack)
-          (w .height)) next-place
+      (w .height)) next-place
 
   keeps-roll : familyIn (t .code) ≡ rollUp → Kept s (Effects.rolled s t)
   keeps-roll k =
       stacked (rolledOf (stacksOf st)) (t .next)
       (data-fit (rolledOf (stacksOf st) .cells) (st .stack .height - 1) (left-length (st .stack .cells) _ _ ∙ z .stack)
-          (omega (arith, w .height))) next-place
+      (omega (arith, w .height))) next-place
 
   keeps-maybe : familyIn (t .code) ≡ maybe → Kept s (Effects.doubled s t)
   keeps-maybe k =
@@ -452,7 +452,7 @@ module _ (s : Scene) (t : Token) (z : Sized (s .state)) (l : Lent s) (w : Parts 
       (λ c.
       let e : givesMore s t ≡ 1 = m ∙ rw (is-false (eqb (cellOf s 0) 0) c) in
       data-fit (doubledOf (stacksOf st) .cells) (st .stack .height + 1) (length-set (st .stack .cells) (st .stack .height) _ ∙ z .stack)
-          (omega arith)))
+      (omega arith)))
       next-place
 
   keeps-leave : familyIn (t .code) ≡ leave → Kept s (Effects.leaves s t)
@@ -460,7 +460,7 @@ module _ (s : Scene) (t : Token) (z : Sized (s .state)) (l : Lent s) (w : Parts 
       let o = leave-open (s .rom) (st .length) (st .wide) (isOpen (st .calls)) (st .place) t d k in
       let c = ltb-true 0 (st .calls .count) o in
       called (unframedOf (st .calls)) (getD (st .calls .places) (st .calls .count - 1) 0)
-          (getD (st .calls .wides) (st .calls .count - 1) false)
+      (getD (st .calls .wides) (st .calls .count - 1) false)
       (w .calls .each (st .calls .count - 1) (omega arith) .place)
       (record { places = z .calls .places; wides = z .calls .wides; bases = z .calls .bases })
       (frames-popped (st .length) (st .calls) (st .back .height) (w .calls))
@@ -481,10 +481,10 @@ module _ (s : Scene) (t : Token) (z : Sized (s .state)) (l : Lent s) (w : Parts 
   keeps-assign k =
       let i = seekOf (st .numbers) (numberIn (t .operand)) in
       full (gave st 1 []) (t .next) (assignedOf (st .numbers) i (cellOf s 0)) (st .«work_place») (s .work)
-          (gave-fit 1 [] (omega (arith, w .height))) next-place
+      (gave-fit 1 [] (omega (arith, w .height))) next-place
       (numbers-assigned (st .numbers) i (cellOf s 0) (z .numbers))
       (entries-assigned (st .length) (st .numbers) i (cellOf s 0) (w .numbers)
-          (assign-value (st .numbers) t k (unfold unknown in undefined-asked assign k)))
+      (assign-value (st .numbers) t k (unfold unknown in undefined-asked assign k)))
       (w .work) (l .work)
 
   keeps-int : familyIn (t .code) ≡ encodeInt → Kept s (Effects.encodesInt s t)
@@ -494,7 +494,7 @@ module _ (s : Scene) (t : Token) (z : Sized (s .state)) (l : Lent s) (w : Parts 
       let q = neither (ltb workSize (st .«work_place» + 4)) false (work-asked encodeInt k) .0 in
       full (gave st 1 ((workBase + st .«work_place») ∷ 4 ∷ [])) (t .next) (st .numbers) (st .«work_place» + 4)
       (writtenOf (s .work) (st .«work_place») (bytesOf (cellOf s 0))) (gave-fit 1 _ (omega arith)) next-place (z .numbers) (w .numbers)
-          (omega (arith, tests))
+      (omega (arith, tests))
       (written-length (s .work) (st .«work_place») (bytesOf (cellOf s 0)) ∙ l .work)
 
   keeps-string : familyIn (t .code) ≡ encodeString → Kept s (Effects.encodesString s t)
@@ -505,10 +505,10 @@ module _ (s : Scene) (t : Token) (z : Sized (s .state)) (l : Lent s) (w : Parts 
       let bytes = stringAt s (cellOf s 1) (cellOf s 0) ++ (0 ∷ []) in
       let m = string-most s (cellOf s 1) (cellOf s 0) in
       let n : length bytes ≡ length (stringAt s (cellOf s 1) (cellOf s 0)) + 1 =
-          length-append (stringAt s (cellOf s 1) (cellOf s 0)) (0 ∷ []) in
+      length-append (stringAt s (cellOf s 1) (cellOf s 0)) (0 ∷ []) in
       full (gave st 2 ((workBase + st .«work_place») ∷ length bytes ∷ [])) (t .next) (st .numbers) (st .«work_place» + length bytes)
       (writtenOf (s .work) (st .«work_place») bytes) (gave-fit 2 _ (omega arith)) next-place (z .numbers) (w .numbers)
-          (omega (arith, tests))
+      (omega (arith, tests))
       (written-length (s .work) (st .«work_place») bytes ∙ l .work)
 
   keeps-join : familyIn (t .code) ≡ join → Kept s (Effects.joins s t)
@@ -573,7 +573,7 @@ module _ (s : Scene) (t : Token) (z : Sized (s .state)) (l : Lent s) (w : Parts 
       by true e =
           rw e
           (called (framedOf (st .calls) (t .next) (st .wide) (st .back .height)) (getD (st .numbers .values) at 0)
-              (getD (st .numbers .wides) at false)
+          (getD (st .numbers .wides) at false)
           (w .numbers .each at held .body (holds isBodyHere e))
           (calls-pushed (st .length) (st .calls) (st .back .height) (t .next) (st .wide) (w .calls) (fits e) (z .calls) next-place)
           (frames-pushed (st .length) (st .calls) (st .back .height) (t .next) (st .wide) (w .calls) (fits e) (z .calls) next-place))
@@ -596,13 +596,13 @@ module _ (s : Scene) (t : Token) (z : Sized (s .state)) (l : Lent s) (w : Parts 
       all-numbers : Entries (st .length) (numbered v)
       all-numbers =
           entries-defined (st .length) (st .numbers) (newNumber (t .operand)) (kindIn (t .operand)) v (st .wide) (w .numbers) one-more
-              (z .numbers)
+          (z .numbers)
           (new-number (s .rom) (st .length) (st .wide) (isOpen (st .calls)) (st .place) t d k) b
 
       all-sized : SizedNumbers (numbered v)
       all-sized =
           numbers-defined (st .length) (st .numbers) (newNumber (t .operand)) (kindIn (t .operand)) v (st .wide) (w .numbers) one-more
-              (z .numbers)
+          (z .numbers)
           (new-number (s .rom) (st .length) (st .wide) (isOpen (st .calls)) (st .place) t d k) b
 
     keeps-colon : Kept s (Effects.colons s t)
@@ -610,13 +610,13 @@ module _ (s : Scene) (t : Token) (z : Sized (s .state)) (l : Lent s) (w : Parts 
         let e = behind-body (s .rom) (st .length) (st .wide) (kindsOf (st .numbers)) (t .next) (next-place .to) in
         full (stacksOf st) (behindBody (bodyHere s t)) (numbered (t .next)) (st .«work_place») (s .work) same-fit
         (record { from = omega (arith, next-place .from, e .0); to = e .1 }) (all-sized (t .next) (λ c. next-place))
-            (all-numbers (t .next) (λ c. next-place))
+        (all-numbers (t .next) (λ c. next-place))
         (w .work) (l .work)
 
     keeps-value : (kindIn (t .operand) ≡ colon → ⊥) → Kept s (Effects.values s t)
     keeps-value n =
         full (gave st 1 []) (t .next) (numbered (cellOf s 0)) (st .«work_place») (s .work) (gave-fit 1 [] (omega (arith, w .height)))
-            next-place
+        next-place
         (all-sized (cellOf s 0) (λ c. absurd (n c))) (all-numbers (cellOf s 0) (λ c. absurd (n c))) (w .work) (l .work)
 
     keeps-variable : kindIn (t .operand) ≡ variable → (kindIn (t .operand) ≡ colon → ⊥) → Kept s (Effects.variables s t)
@@ -625,11 +625,11 @@ module _ (s : Scene) (t : Token) (z : Sized (s .state)) (l : Lent s) (w : Parts 
         let v = workBase + at in
         let p = neither noVariable false (neither (noVariable || false) false (work-asked define k) .0) .0 in
         let q = not-both (eqb (kindIn (t .operand)) variable) (ltb workSize (at + 4)) (holds _ (eq-eqb (kindIn (t .operand)) variable c)) p
-            in
+        in
         full (gave st 0 []) (t .next) (numbered v) (at + 4) (writtenOf (s .work) at (bytesOf 0)) (gave-fit 0 [] (omega (arith, w .height)))
-            next-place
+        next-place
         (all-sized v (λ c. absurd (n c))) (all-numbers v (λ c. absurd (n c))) (nltb→le workSize (at + 4) q)
-            (written-length (s .work) at (bytesOf 0) ∙ l .work)
+        (written-length (s .work) at (bytesOf 0) ∙ l .work)
 
     keeps-define : Kept s (Effects.defines s t)
     keeps-define =

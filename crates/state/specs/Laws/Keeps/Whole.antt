@@ -104,7 +104,7 @@ entry-whole : (size : ℕ) (ns : Numbers) (i : ℕ) → Entry size ns i → T (e
 entry-whole size ns i e =
     join-hold (isProgram (getD (ns .programs) i 0)) (pick (isBody ns i) (isPlace size (getD (ns .values) i 0)) true) (e .name)
     (pick-is T (isBody ns i) (isPlace size (getD (ns .values) i 0)) true (λ t. place-whole size (getD (ns .values) i 0) (e .body t))
-        (λ t. tt))
+    (λ t. tt))
 
 pub numbers-facts : (size : ℕ) (ns : Numbers) → T (numbersWhole size ns) → Entries size ns
 unfolding numbersWhole
@@ -182,9 +182,9 @@ whole-is st w =
     rw (
       is-true (heightsWhole st)
           (join-four (leb (st .stack .height) dataMost) (leb (st .back .height) returnMost) (leb (st .«work_place») workSize)
-              (isPlace (st .length) (st .place))
+          (isPlace (st .length) (st .place))
           (le→leb (st .stack .height) dataMost (w .height)) (le→leb (st .back .height) returnMost (w .returns))
-              (le→leb (st .«work_place») workSize (w .work))
+          (le→leb (st .«work_place») workSize (w .work))
           (place-whole (st .length) (st .place) (w .place))),
       is-true (callsWhole (st .length) (st .calls) (st .back .height)) (calls-whole (st .length) (st .calls) (st .back .height) (w .calls)),
       is-true (numbersWhole (st .length) (st .numbers)) (numbers-whole (st .length) (st .numbers) (w .numbers)),

@@ -28,7 +28,7 @@ passed-spec =
     let byte = c .before .before .byte in
     let a = c .before .before .before .before .args in
     frequent-passed (now (a .rom)) (a .wide) (now (a .kinds)) (a .place) (byte .result) (byte .ensures)
-        (sym (c .before .is-frequent .ensures) ∙ c .if1 .taken))
+    (sym (c .before .is-frequent .ensures) ∙ c .if1 .taken))
     (λ c. search needs)
     (λ c. search needs)
     (λ c κs. search needs)
@@ -59,17 +59,17 @@ passed-spec =
     let byte = c .before .before .before .before .byte in
     let a = c .before .before .before .before .before .before .args in
     c .behind-string .ensures .0 ∙ string-passed (now (a .rom)) (a .wide) (now (a .kinds)) (a .place) (byte .result) (byte .ensures)
-        (c .before .match .keys2))
+    (c .before .match .keys2))
     (λ c.
     let byte = c .before .before .before .before .byte in
     let a = c .before .before .before .before .before .before .args in
     c .behind-offset .ensures .0 ∙ always-passed (now (a .rom)) (a .wide) (now (a .kinds)) (a .place) (byte .result) (byte .ensures)
-        (c .before .match .keys3))
+    (c .before .match .keys3))
     (λ c.
     let byte = c .before .before .before .before .byte in
     let a = c .before .before .before .before .before .before .args in
     c .behind-offset2 .ensures .0 ∙ choice-passed (now (a .rom)) (a .wide) (now (a .kinds)) (a .place) (byte .result) (byte .ensures)
-        (c .before .match .keys4))
+    (c .before .match .keys4))
     (λ c.
     let byte = c .before .before .before .byte in
     let a = c .before .before .before .before .before .args in
@@ -108,19 +108,19 @@ passed-spec =
     let byte = c .before .before .before .before .before .before .before .byte in
     let a = c .before .before .before .before .before .before .before .before .before .args in
     range-passed (now (a .rom)) (a .wide) (now (a .kinds)) (a .place) (byte .result) (byte .ensures) 3 0x1E tt (search needs)
-        (search needs))
+    (search needs))
     (λ c.
     let byte = c .before .before .before .before .before .before .before .before .before .byte in
     let a = c .before .before .before .before .before .before .before .before .before .before .before .args in
     range-passed (now (a .rom)) (a .wide) (now (a .kinds)) (a .place) (byte .result) (byte .ensures) 7 0x23 tt (search needs)
-        (search needs))
+    (search needs))
     (λ c.
     let if1 = c .before .before .if1 in
     let is-frequent = c .before .before .before .is-frequent in
     let byte = c .before .before .before .before .byte in
     let a = c .before .before .before .before .before .before .args in
     none-passed (now (a .rom)) (a .wide) (now (a .kinds)) (a .place) (byte .result) (byte .ensures) keys 0x01 0x00 tt (search needs)
-        (search needs) (sym (is-frequent .ensures) ∙ if1 .left) (c .before .match .rest))
+    (search needs) (sym (is-frequent .ensures) ∙ if1 .left) (c .before .match .rest))
     (λ c.
     let match = c .before .before .before .match in
     let if1 = c .before .before .before .before .if1 in
@@ -128,7 +128,7 @@ passed-spec =
     let byte = c .before .before .before .before .before .before .byte in
     let a = c .before .before .before .before .before .before .before .before .args in
     none-passed (now (a .rom)) (a .wide) (now (a .kinds)) (a .place) (byte .result) (byte .ensures) keys 0x0E 0x10 tt (search needs)
-        (search needs) (sym (is-frequent .ensures) ∙ if1 .left) (match .rest))
+    (search needs) (sym (is-frequent .ensures) ∙ if1 .left) (match .rest))
     (λ c.
     let match = c .before .before .before .before .before .match in
     let if1 = c .before .before .before .before .before .before .if1 in
@@ -136,7 +136,7 @@ passed-spec =
     let byte = c .before .before .before .before .before .before .before .before .byte in
     let a = c .before .before .before .before .before .before .before .before .before .before .args in
     none-passed (now (a .rom)) (a .wide) (now (a .kinds)) (a .place) (byte .result) (byte .ensures) keys 0x02 0x21 tt (search needs)
-        (search needs) (sym (is-frequent .ensures) ∙ if1 .left) (match .rest))
+    (search needs) (sym (is-frequent .ensures) ∙ if1 .left) (match .rest))
     (λ c.
     let match = c .before .before .before .before .before .before .match in
     let if1 = c .before .before .before .before .before .before .before .if1 in
@@ -144,4 +144,4 @@ passed-spec =
     let byte = c .before .before .before .before .before .before .before .before .before .byte in
     let a = c .before .before .before .before .before .before .before .before .before .before .before .args in
     none-passed (now (a .rom)) (a .wide) (now (a .kinds)) (a .place) (byte .result) (byte .ensures) keys 0xD6 0x2A tt (search needs)
-        (search needs) (sym (is-frequent .ensures) ∙ if1 .left) (match .rest)))
+    (search needs) (sym (is-frequent .ensures) ∙ if1 .left) (match .rest)))

@@ -19,11 +19,11 @@ passed-to-spec =
     let c₁ = c .before .before .before .before .before in
     let pre = c₁ .pre in
     let a = c₁ .args in λ wide. c .behind-number .ensures .0
-        ∙ value-passed (now (a .rom)) wide (now (a .kinds)) (a .place) _ refl (pre)
-        (rw (← number-at .ensures, ← kind-of .ensures) (c .before .if1 .taken)))
+    ∙ value-passed (now (a .rom)) wide (now (a .kinds)) (a .place) _ refl (pre)
+    (rw (← number-at .ensures, ← kind-of .ensures) (c .before .if1 .taken)))
     (λ c.
     let number-at = c .before .before .number-at in
     let c₁ = c .before .before .before .before in
     let pre = c₁ .pre in
     let a = c₁ .args in λ wide. other-passed (now (a .rom)) wide (now (a .kinds)) (a .place) _ refl (pre)
-        (rw (← number-at .ensures, ← c .before .kind-of .ensures) (c .if1 .left))))
+    (rw (← number-at .ensures, ← c .before .kind-of .ensures) (c .if1 .left))))

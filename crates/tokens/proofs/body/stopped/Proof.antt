@@ -11,7 +11,7 @@ stopped-spec =
     (tie.spec
     (λ c κs. search needs)
     (λ c. let a = c .before .before .before .args in
-        ends-here (now (a .rom)) (a .length) (a .wide) (a .place) (sym (c .before .ends-at .ensures) ∙ c .if1 .taken))
+    ends-here (now (a .rom)) (a .length) (a .wide) (a .place) (sym (c .before .ends-at .ensures) ∙ c .if1 .taken))
     (λ c κs. search needs)
     (λ c. search needs)
     (λ c. search needs)

@@ -37,9 +37,9 @@ decode-spec =
     let o = c .before .before in
     let b = o .before .before in
     is-whole (found b) (start b .args .length) (o .operand-at .result) (o .operand-at .ensures) (search needs)
-        (sym (c .before .listed .ensures) ∙ c .if2 .taken))
+    (sym (c .before .listed .ensures) ∙ c .if2 .taken))
     (λ c.
     let o = c .before .before in
     let b = o .before .before in
     is-unlisted (found b) (start b .args .length) (o .operand-at .result) (o .operand-at .ensures) (search needs)
-        (sym (c .before .listed .ensures) ∙ c .if2 .left)))
+    (sym (c .before .listed .ensures) ∙ c .if2 .left)))

@@ -25,13 +25,25 @@ defined-spec =
     let number-at = c .before .before .before .number-at in
     let if1 = c .before .before .before .before .if1 in
     let behind-number = c .before .before .before .before .before .behind-number in
-    rw (← behind-number .ensures .0, le-ltb _ _ (if1 .left), ← number-at .ensures, ← byte .ensures, ← c .before .is-definition .ensures,
-        c .if2 .taken))
+    rw (
+      ← behind-number .ensures .0,
+      le-ltb _ _ (if1 .left),
+      ← number-at .ensures,
+      ← byte .ensures,
+      ← c .before .is-definition .ensures,
+      c .if2 .taken,
+    ))
     (λ c.
     let is-definition = c .before .before .is-definition in
     let byte = c .before .before .before .byte in
     let number-at = c .before .before .before .before .number-at in
     let if1 = c .before .before .before .before .before .if1 in
     let behind-number = c .before .before .before .before .before .before .behind-number in
-    rw (← behind-number .ensures .0, le-ltb _ _ (if1 .left), ← number-at .ensures, ← byte .ensures, ← is-definition .ensures,
-        c .before .if2 .left) (c .nothing2 .ensures)))
+    rw (
+      ← behind-number .ensures .0,
+      le-ltb _ _ (if1 .left),
+      ← number-at .ensures,
+      ← byte .ensures,
+      ← is-definition .ensures,
+      c .before .if2 .left,
+    ) (c .nothing2 .ensures)))

@@ -31,7 +31,7 @@ doubled-spec =
     let c₁ = c .before .before .before .before .before in
     let pre = c₁ .pre in
     let a = c₁ .args in λ wide. c .nothing .ensures ∙ not-listed (now (a .rom)) (a .length) wide _ _ _ (c .before .if1 .taken)
-        ∙ of-two (now (a .rom)) (a .length) wide (a .place) (a .first) _ _ (pre .0) (pre .1) (rw (← byte .ensures)) (double-code .ensures))
+    ∙ of-two (now (a .rom)) (a .length) wide (a .place) (a .first) _ _ (pre .0) (pre .1) (rw (← byte .ensures)) (double-code .ensures))
     (λ c. search needs)
     (λ c κs. search needs)
     (λ c.
@@ -42,5 +42,5 @@ doubled-spec =
     let a = c₁ .args in
     let b = bounds 1 0xF (a .first) (pre .1) in
     λ wide. c .ended .ensures ∙ of-none (now (a .rom)) (a .length) wide _ _ _ (c .before .if1 .left)
-        (rw (double-code .ensures) (double-plain _ (omega arith)))
-        ∙ of-two (now (a .rom)) (a .length) wide (a .place) (a .first) _ _ (pre .0) (pre .1) (rw (← byte .ensures)) (double-code .ensures)))
+    (rw (double-code .ensures) (double-plain _ (omega arith)))
+    ∙ of-two (now (a .rom)) (a .length) wide (a .place) (a .first) _ _ (pre .0) (pre .1) (rw (← byte .ensures)) (double-code .ensures)))

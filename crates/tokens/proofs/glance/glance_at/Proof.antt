@@ -11,7 +11,7 @@ glance-at-spec =
     (tie.spec
     (λ c κs. search needs)
     (λ c. let a = c .before .before .before .args in
-        c .nothing .ensures ∙ past-end (now (a .rom)) (a .length) (a .wide) (a .place) (c .before .if1 .taken))
+    c .nothing .ensures ∙ past-end (now (a .rom)) (a .length) (a .wide) (a .place) (c .before .if1 .taken))
     (λ c κs. search needs)
     (λ c κs. search needs)
     (λ c κs. search needs)

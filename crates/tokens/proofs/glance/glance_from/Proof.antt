@@ -17,15 +17,15 @@ glance-from-spec =
     let z = c .before .if2 .taken in
     let h = has-none (a .first) (a .code) (e .2) (λ t. omega arith) in
     c .nothing .ensures ∙ not-listed (now (a .rom)) (a .length) (a .wide) _ _ _ z
-        ∙ of-one (now (a .rom)) (a .length) (a .wide) (a .place) (a .first) (a .code) (e .1) (h .0) (h .1))
+    ∙ of-one (now (a .rom)) (a .length) (a .wide) (a .place) (a .first) (a .code) (e .1) (h .0) (h .1))
     (λ c. search needs)
     (λ c. let a = c .before .before .before .args in
     let e = c .before .before .before .pre in
     let f = c .before .if1 .taken in
     let h = has-none (a .first) (a .code) (e .2) (λ t. omega arith) in
     in-time (a .length) _ _ _ (search needs)
-        ∙ of-none (now (a .rom)) (a .length) (a .wide) (a .code) (a .first) (a .place + 1) (c .if2 .left) f
-        ∙ of-one (now (a .rom)) (a .length) (a .wide) (a .place) (a .first) (a .code) (e .1) (h .0) (h .1))
+    ∙ of-none (now (a .rom)) (a .length) (a .wide) (a .code) (a .first) (a .place + 1) (c .if2 .left) f
+    ∙ of-one (now (a .rom)) (a .length) (a .wide) (a .place) (a .first) (a .code) (e .1) (h .0) (h .1))
     (λ c κs.
     let c₁ = c .before .before .before in
     let pre = c₁ .pre in

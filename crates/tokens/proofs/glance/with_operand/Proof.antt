@@ -29,39 +29,46 @@ with-operand-spec =
     let c₁ = c .before .before .before in
     let pre = c₁ .pre in
     let a = c₁ .args in c .ended .ensures ∙ of-literal (now (a .rom)) (a .length) (a .wide) (a .code) (a .number) (a .start) (pre)
-        (c .before .match .keys1))
+    (c .before .match .keys1))
     (λ c.
     let match = c .before .before .match in
     let c₁ = c .before .before .before .before in
     let pre = c₁ .pre in
     let a = c₁ .args in
-    rw (← of-string (now (a .rom)) (a .length) (a .wide) (a .code) (a .number) (a .start) (pre) (match .keys2),
-        ← c .before .behind-string .ensures .0) (c .ended2 .ensures))
+    rw (
+      ← of-string (now (a .rom)) (a .length) (a .wide) (a .code) (a .number) (a .start) (pre) (match .keys2),
+      ← c .before .behind-string .ensures .0,
+    ) (c .ended2 .ensures))
     (λ c.
     let c₁ = c .before .before .before in
     let pre = c₁ .pre in
     let a = c₁ .args in c .branched .ensures
-        ∙ of-branch (now (a .rom)) (a .length) (a .wide) (a .code) (a .number) (a .start) (pre) (c .before .match .keys3))
+    ∙ of-branch (now (a .rom)) (a .length) (a .wide) (a .code) (a .number) (a .start) (pre) (c .before .match .keys3))
     (λ c.
     let number-at = c .before .before .number-at in
     let match = c .before .before .before .match in
     let c₁ = c .before .before .before .before .before in
     let pre = c₁ .pre in
     let a = c₁ .args in
-    rw (← of-number (now (a .rom)) (a .length) (a .wide) (a .code) (a .number) (a .start) (pre) (match .keys4), ← number-at .ensures,
-        ← c .before .behind-number .ensures .0) (c .ended3 .ensures))
+    rw (
+      ← of-number (now (a .rom)) (a .length) (a .wide) (a .code) (a .number) (a .start) (pre) (match .keys4),
+      ← number-at .ensures,
+      ← c .before .behind-number .ensures .0,
+    ) (c .ended3 .ensures))
     (λ c.
     let c₁ = c .before .before .before in
     let pre = c₁ .pre in
     let a = c₁ .args in c .defined .ensures ∙ of-head (now (a .rom)) (a .length) (a .wide) (a .code) (a .number) (a .start) (pre)
-        (c .before .match .keys5))
+    (c .before .match .keys5))
     (λ c.
     let match = c .before .before .match in
     let c₁ = c .before .before .before .before in
     let pre = c₁ .pre in
     let a = c₁ .args in
-    rw (← of-named (now (a .rom)) (a .length) (a .wide) (a .code) (a .number) (a .start) (pre) (match .keys6),
-        ← c .before .behind-string2 .ensures .0) (c .defined2 .ensures))
+    rw (
+      ← of-named (now (a .rom)) (a .length) (a .wide) (a .code) (a .number) (a .start) (pre) (match .keys6),
+      ← c .before .behind-string2 .ensures .0,
+    ) (c .defined2 .ensures))
     (λ c.
     let c₁ = c .before .before .before in
     let pre = c₁ .pre in

@@ -31,9 +31,12 @@ quick-at-spec =
     let c₁ = c .before .before .before .before .before .before in
     let a = c₁ .args in
     let e = c₁ .pre in
-    let n = e .0 _ (search needs) in
-    (byte .ensures, n, λ z. quick-literal (now (a .rom)) (a .length) (a .place) (byte .result) _ (byte .ensures) n (c .before .if2 .taken)
-        (search needs)))
+    let n = e .0 _ (search needs) in (
+      byte .ensures,
+      n,
+      λ z. quick-literal (now (a .rom)) (a .length) (a .place) (byte .result) _ (byte .ensures) n (c .before .if2 .taken)
+          (search needs),
+    ))
     (λ c.
     let byte = c .before .before .before .before .byte in
     let e = c .before .before .before .before .before .before .pre in

@@ -10,4 +10,6 @@ close-child-spec =
     (λ c. λ t n. rw (eq-eqb _ _ (c .if1 .taken)))
     (λ c κs. search needs)
     (λ c κs. search needs)
-    (λ c. λ t n. rw (ne-eqb _ _ (c .before .before .before .if1 .left), c .parent-among .ensures, c .before .wide .ensures .0)))
+    (λ c.
+    let if1 = c .before .before .before .if1 in
+    λ t n. rw (ne-eqb _ _ (if1 .left), c .parent-among .ensures, c .before .wide .ensures .0)))

@@ -26,14 +26,22 @@ put-in-spec =
     rw (c .refused-with .ensures) (bad-name (a .node) n v (now (a .store)) (now (a .owners)) (now (a .name-sizes)) (now (a .value-sizes))
     (a .held) (a .tail) p (sym (c .before .before .bad-name .ensures) ∙ c .before .if1 .taken)))
     (λ c κs. search needs)
-    (λ c. let a = c .before .before .before .before .before .before .before .args in let p = c .before .before .before .before .before .before .before .pre in let n = now (a .name) in let v = valueOf (now (a .value)) (a .null) in let b = sym (c .before .before .before .bad-name .ensures) ∙ c .before .before .if1 .left in
+    (λ c. let a = c .before .before .before .before .before .before .before .args in
+    let p = c .before .before .before .before .before .before .before .pre in let n = now (a .name) in
+    let v = valueOf (now (a .value)) (a .null) in
+    let b = sym (c .before .before .before .bad-name .ensures) ∙ c .before .before .if1 .left in
     let l = c .before .if2 .taken in
     let q = length-append (now (a .value)) (pick (a .null) (0 ∷ []) []) in
     rw (c .refused-with2 .ensures) (large-value (a .node) n v (now (a .store)) (now (a .owners)) (now (a .name-sizes))
     (now (a .value-sizes)) (a .held) (a .tail) p b (omega arith)))
     (λ c κs. search needs)
-    (λ c κs. let e = c .before .before .before .before .before .find-among .ensures in
-    (c .before .before .before .before .before .before .before .before .before .before .before .before .before .before .before .before .pre, sym (c .before .before .before .before .before .before .before .before .before .before .before .before .bad-name .ensures) ∙ c .before .before .before .before .before .before .before .before .before .before .before .if1 .left, c .before .before .before .before .before .before .before .before .before .before .if2 .left, λ t. sym (ap (λ (x : Found). x .index) (e t)) ∙ c .before .before .before .before .if3 .taken))
+    (λ c κs. let e = c .before .before .before .before .before .find-among .ensures in (
+      c .before .before .before .before .before .before .before .before .before .before .before .before .before .before .before .before .pre,
+      sym (c .before .before .before .before .before .before .before .before .before .before .before .before .bad-name .ensures)
+          ∙ c .before .before .before .before .before .before .before .before .before .before .before .if1 .left,
+      c .before .before .before .before .before .before .before .before .before .before .if2 .left,
+      λ t. sym (ap (λ (x : Found). x .index) (e t)) ∙ c .before .before .before .before .if3 .taken,
+    ))
     (λ c. search needs)
     (λ c. search needs)
     (λ c κs. search needs)
@@ -138,8 +146,12 @@ put-in-spec =
     (a .tail) p f e (c .before .before .before .before .before .before .before .if3 .left) in
     let q = inside (a .node) n v (now (a .store)) (now (a .owners)) (now (a .name-sizes)) (now (a .value-sizes)) (a .held)
     (a .tail) p b f e h in
-    let w = c .before .before .before .before .wide .ensures .0 in
-    (p .0, p .5, omega arith, c .before .before .before .before .before .before .before .before .before .before .before .before .before .if2 .left))
+    let w = c .before .before .before .before .wide .ensures .0 in (
+      p .0,
+      p .5,
+      omega arith,
+      c .before .before .before .before .before .before .before .before .before .before .before .before .before .if2 .left,
+    ))
     (λ c. search needs)
     (λ c.
     let a = c .before .before .before .before .before .before .before .before .before .before .before .before .before .before .before

@@ -27,14 +27,17 @@ child-named-spec =
     (λ c.
     let l = c .before .before .before .before .loop in
     let a = c .before .before .before .before .before .before .before .args in
-    sym (ap childSought (sym (l .inv) ∙ child-here (a .tree) (now (a .store)) (a .node) (now (a .part)) (a .tree .nodes) (l .k) (search needs) (sym (c .before .is-child .ensures) ∙ c .if2 .taken))))
+    sym (ap childSought (sym (l .inv) ∙ child-here (a .tree) (now (a .store)) (a .node) (now (a .part)) (a .tree .nodes) (l .k)
+    (search needs) (sym (c .before .is-child .ensures) ∙ c .if2 .taken))))
     (λ c. search needs)
     (λ c. search needs)
     (λ c.
     let l = c .before .before .before .before .loop in
     let a = c .before .before .before .before .before .before .before .args in
-    sym (child-next (a .tree) (now (a .store)) (a .node) (now (a .part)) (a .tree .nodes) (l .k) (search needs) (sym (c .before .is-child .ensures) ∙ c .if2 .left)) ∙ l .inv)
+    sym (child-next (a .tree) (now (a .store)) (a .node) (now (a .part)) (a .tree .nodes) (l .k) (search needs)
+    (sym (c .before .is-child .ensures) ∙ c .if2 .left)) ∙ l .inv)
     (λ c.
     let l = c .before .before .loop in
     let a = c .before .before .before .before .before .args in
-    sym (ap childSought (sym (l .inv) ∙ child-none (a .tree) (now (a .store)) (a .node) (now (a .part)) (a .tree .nodes) (l .k) (search needs)))))
+    sym (ap childSought (sym (l .inv) ∙ child-none (a .tree) (now (a .store)) (a .node) (now (a .part)) (a .tree .nodes) (l .k)
+    (search needs)))))

@@ -27,13 +27,16 @@ find-node-spec =
     sym (node-size (a .tree) (now (a .store)) (now (a .path)) (c .if1 .taken)))
     (λ c κs. search needs)
     (λ c.
+    let if1 = c .before .before .if1 in
     let a = c .before .before .before .before .before .args in
-    sym (node-damaged (a .tree) (now (a .store)) (now (a .path)) (c .before .before .if1 .left) (sym (c .before .is-whole .ensures) ∙ not-true _ (c .if2 .taken))))
+    sym (node-damaged (a .tree) (now (a .store)) (now (a .path)) (if1 .left)
+    (sym (c .before .is-whole .ensures) ∙ not-true _ (c .if2 .taken))))
     (λ c κs. search needs)
     (λ c.
     let a = c .before .before .before .before .before .before .before .args in
     let w = c .before .before in
-    sym (node-malformed (a .tree) (now (a .store)) (now (a .path)) (w .before .before .if1 .left) (whole w) (sym (c .before .malformed .ensures) ∙ c .if3 .taken)))
+    sym (node-malformed (a .tree) (now (a .store)) (now (a .path)) (w .before .before .if1 .left) (whole w)
+    (sym (c .before .malformed .ensures) ∙ c .if3 .taken)))
     (λ c.
     let a = c .before .before .before .before .before .before .before .before .args in
     let f = c .before in

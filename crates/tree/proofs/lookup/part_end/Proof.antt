@@ -25,16 +25,19 @@ part-end-spec =
     (λ c. (search needs, search needs, refl))
     (λ c. search needs)
     (λ c.
+    let args = c .before .before .before .before .args in
     let l = c .before .before .before .loop in
-    let e = end-slash (now (c .before .before .before .before .args .path)) (l .end) (search needs) (search needs) in
+    let e = end-slash (now (args .path)) (l .end) (search needs) (search needs) in
     (omega arith, search needs))
     (λ c. search needs)
     (λ c. search needs)
     (λ c.
+    let args = c .before .before .before .before .args in
     let l = c .before .before .before .loop in
-    let e = end-next (now (c .before .before .before .before .args .path)) (l .end) (search needs) (c .if1 .left) in
+    let e = end-next (now (args .path)) (l .end) (search needs) (c .if1 .left) in
     (search needs, search needs, omega arith))
     (λ c.
+    let args = c .before .before .args in
     let l = c .before .loop in
-    let e = end-last (now (c .before .before .args .path)) (l .end) (search needs) in
+    let e = end-last (now (args .path)) (l .end) (search needs) in
     (omega arith, search needs)))

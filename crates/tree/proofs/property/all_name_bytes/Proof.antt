@@ -37,5 +37,6 @@ all-name-bytes-spec =
     let b = c .before .is-name-byte in
     (search needs, name-more _ (l .k) (search needs) (sym (b .ensures) ∙ not-on (b .result) (c .if1 .left)) ∙ l .inv .1))
     (λ c.
+    let args = c .before .before .before .args in
     let l = c .before .loop in
-    sym (name-end (now (c .before .before .before .args .name)) (l .k) (search needs)) ∙ l .inv .1))
+    sym (name-end (now (args .name)) (l .k) (search needs)) ∙ l .inv .1))

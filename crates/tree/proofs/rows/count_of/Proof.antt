@@ -33,8 +33,10 @@ count-of-spec =
     let l = c .before .before .before .loop in
     let a = c .before .before .before .before .args in
     ⊎-elim
-    (λ w. let e = count-here (now (a .owners)) (a .node) (a .held) (l .i) (search needs) (w .0 .taken) in (search needs, omega arith, omega arith))
-    (λ w. let e = count-next (now (a .owners)) (a .node) (a .held) (l .i) (search needs) (w .0 .left) in (search needs, omega arith, omega arith))
+    (λ w. let e = count-here (now (a .owners)) (a .node) (a .held) (l .i) (search needs) (w .0 .taken) in
+    (search needs, omega arith, omega arith))
+    (λ w. let e = count-next (now (a .owners)) (a .node) (a .held) (l .i) (search needs) (w .0 .left) in
+    (search needs, omega arith, omega arith))
     (c .if1 .came))
     (λ c.
     let l = c .before .loop in

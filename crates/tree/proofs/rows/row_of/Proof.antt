@@ -13,5 +13,6 @@ row-of-spec =
     (λ c. search needs)
     (λ c κs. search needs)
     (λ c.
+    let parent = c .before .before .parent in
     let a = c .before .before .before .before .before .before .args in
-    rw (c .before .before .parent .ensures, c .count-of .ensures) (sym (row-used (a .tree) (a .k) (search needs)))))
+    rw (parent .ensures, c .count-of .ensures) (sym (row-used (a .tree) (a .k) (search needs)))))

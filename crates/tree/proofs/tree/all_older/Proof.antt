@@ -29,7 +29,8 @@ all-older-spec =
     let i = c .before in
     let l = i .before .before .loop in
     let a = i .before .before .before .args in
-    sym (every-fails (a .nodes) (l .k) (olderAmong (now (a .parents))) (search needs) (sym (i .is-older .ensures) ∙ not-true _ (c .if1 .taken))))
+    sym (every-fails (a .nodes) (l .k) (olderAmong (now (a .parents))) (search needs)
+    (sym (i .is-older .ensures) ∙ not-true _ (c .if1 .taken))))
     (λ c. search needs)
     (λ c. search needs)
     (λ c.

@@ -21,7 +21,14 @@ tested : (c : tie.After-is-sound Inv-loop μ-loop)
     → let l = c .before .before .before .before .before .before .before .before .loop in
     let a = c .before .before .before .before .before .before .before .before .before .args in
     c .is-sound .result ≡ soundAmong (a .nodes) (now (a .owners)) (now (a .name-sizes)) (now (a .value-sizes)) (l .i)
-tested c = rw (← c .before .before .before .before .before .wide .ensures .0, ← c .before .before .before .wide2 .ensures .0, ← c .before .wide3 .ensures .0) (c .is-sound .ensures)
+tested c =
+    let wide2 = c .before .before .before .wide2 in
+    let wide = c .before .before .before .before .before .wide in
+    rw (
+      ← wide .ensures .0,
+      ← wide2 .ensures .0,
+      ← c .before .wide3 .ensures .0,
+    ) (c .is-sound .ensures)
 
 pub all-sound-spec : {M : Type 1} → statement M
 unfolding everyBelow

@@ -20,7 +20,9 @@ is-whole-spec =
     tie.close
     (tie.spec
     (λ c κs. search needs)
-    (λ c. not-counted (c .before .before .args .tree) (sym (said (c .before)) ∙ not-true _ (c .if1 .taken)))
+    (λ c.
+    let args = c .before .before .args in
+    not-counted (args .tree) (sym (said (c .before)) ∙ not-true _ (c .if1 .taken)))
     (λ c κs.
     let k = c .before .before in
     let t = k .before .before .args .tree in
@@ -42,7 +44,8 @@ is-whole-spec =
     (sym (e .before .all-older .ensures) ∙ not-false _ (e .if2 .left))
     (sym (c .before .all-sound .ensures) ∙ not-true _ (c .if3 .taken)))
     (λ c κs.
-    let k = c .before .before .before .before .before .before .before .before .before .before .before .before .before .before in
+    let c₁ = c .before .before .before .before .before .before .before .before .before .before .before .before in
+    let k = c₁ .before .before in
     let t = k .before .before .args .tree in
     let f = counted-facts (t .nodes) (t .held) (sym (said (k .before)) ∙ not-false _ (k .if1 .left)) in
     omega arith)
