@@ -95,10 +95,10 @@ right-buffers marks work store b =
     (not-unequal (length marks) marksSize (c .0), not-unequal (length work) workSize (d .0), not-unequal (length store) storeSize (d .1))
 
 pub person-sees : PersonSees
+unfolding listWith
 person-sees rom marks work store text budget l e (v, after, p, q) = subst (ShownIn rom marks work store budget text) (sym q) by-tests
   where
     by-tests : ShownIn rom marks work store budget text (listWith v after rom marks work store budget text)
-    unfolding listWith
     by-tests =
         rw (eq-eqb (length text) textSize e)
         (pick-is (ShownIn rom marks work store budget text) (wrongBuffer marks work store) _ _
