@@ -128,7 +128,7 @@ pub fn own_lines(
     tree: Tree,
     node: u32,
 ) -> usize
-    requires { ⌜ (tree .held ≤ 128) × (liveOf tree ≤ length (now store)) ⌝ }
+    requires { ⌜ (tree .held ≤ propertiesMost) × (liveOf tree ≤ length (now store)) ⌝ }
     ensures { λ r. ⌜ Wrote (now (text .entry)) (now (text .exit)) at r (ownLines people (heldOf tree (now (store .entry))) node) ⌝ }
 {
     let mut end = at;

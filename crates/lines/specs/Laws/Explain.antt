@@ -32,7 +32,8 @@ module _ (t : Tree) (store : List ℕ) where
   pub path-root : (deep k : ℕ) → k ≡ 0 → pathTo t store deep k ≡ []
   unfolding pathTo
   path-root zero k e = refl
-  path-root (suc deep) k e = when-true [] (pathTo t store deep (parentOf t k) ++ (lettersOf "/" ++ titleShown t store k)) (eqb k 0) (eq-eqb k 0 e)
+  path-root (suc deep) k e = when-true [] (pathTo t store deep (parentOf t k) ++ (lettersOf "/" ++ titleShown t store k)) (eqb k 0)
+      (eq-eqb k 0 e)
 
   pub path-more : (deep k : ℕ) → (deep ≡ 0 → ⊥) → (k ≡ 0 → ⊥)
       → pathTo t store deep k ≡ pathTo t store (deep - 1) (parentOf t k) ++ (lettersOf "/" ++ titleShown t store k)
@@ -85,7 +86,8 @@ read-most value =
     pick-is (λ z. length z ≤ length value + 2) (isText value) (quoted x) []
     (λ i.
     let n = neqb→ne (length value) 0 (both-hold (not (eqb (length value) 0)) _ i .0) in
-    pick-is (λ z. length z ≤ length value + 2) (allPrinted x) (lettersOf " \"" ++ (x ++ lettersOf "\"")) [] (λ j. omega arith) (λ j. omega arith))
+    pick-is (λ z. length z ≤ length value + 2) (allPrinted x) (lettersOf " \"" ++ (x ++ lettersOf "\"")) [] (λ j. omega arith)
+    (λ j. omega arith))
     (λ i. omega arith)
 
 number-most : (value : List ℕ) → length (numberRead value) ≤ 11
@@ -125,7 +127,8 @@ own-read (p ∷ ps) k =
     let line = readLine (p .name) (p .value) in
     let a = length-append line (ownLines true ps k) in
     let i = own-read ps k in
-    pick-is (λ z. length (z ++ ownLines true ps k) ≤ length line + readSizes ps) (eqb (p .node) k) line [] (λ t. omega arith) (λ t. omega arith)
+    pick-is (λ z. length (z ++ ownLines true ps k) ≤ length line + readSizes ps) (eqb (p .node) k) line [] (λ t. omega arith)
+    (λ t. omega arith)
 
 held-read : (t : Tree) (store : List ℕ) (k i at : ℕ) → readSizes (heldFrom t store k i at) ≤ 3 * liveFrom t k i + 19 * k
 unfolding heldFrom liveAmong
@@ -144,7 +147,8 @@ held-read t store (suc k) i at =
 pub read-most : (t : Tree) (store : List ℕ) (k : ℕ) → length (readLines t store k) ≤ 51584
 unfolding readLines
 read-most t store k =
-    pick-is (λ z. length z ≤ 51584) (not (eqb (length store) storeSize) || not (wholeTree t)) [] (ownLines true (heldOf t store) k) (λ i. omega arith)
+    pick-is (λ z. length z ≤ 51584) (not (eqb (length store) storeSize) || not (wholeTree t)) [] (ownLines true (heldOf t store) k)
+    (λ i. omega arith)
     (λ i.
     let w = not-not (wholeTree t) (neither (not (eqb (length store) storeSize)) (not (wholeTree t)) i .1) in
     let f = whole-facts t (is-true (wholeTree t) w) in

@@ -24,7 +24,8 @@ use Rattle.lines.specs.Numbers.{hasWords, wordsOf, opening, naming, movi
 use Rattle.lines.specs.TokenLines.{placeText, allShown, lineText, pieceText}
 use Rattle.lines.specs.Tally.{tallyFrom}
 use Rattle.lines.specs.Verdicts.{reasonOf, verdictOf}
-use Rattle.lines.specs.Explain.{startLine, formatLine, lengthLine, sumLine, sizeLine, fieldLines, headerLines, outsideLines, tallyLines, programLines}
+use Rattle.lines.specs.Explain.{startLine, formatLine, lengthLine, sumLine, sizeLine, fieldLines, headerLines, outsideLines}
+use Rattle.lines.specs.Explain.{tallyLines, programLines}
 use Rattle.lines.specs.Explain.{endLine, atLine, endWords, runLine, verdictLine}
 
 -- ---- headers: a good one, one whose sum differs, one whose length is past its bytes, and too few bytes for any
@@ -34,7 +35,8 @@ unfolding headerLines sizeLine fieldLines startLine formatLine lengthLine sumLin
 good = refl
 
 both-sums : headerLines (0xF1 ∷ 0x08 ∷ 0x00 ∷ 0x00 ∷ 0x00 ∷ 0x00 ∷ 0x00 ∷ 0x0A ∷ 0x46 ∷ 0x00 ∷ [])
-    ≡ lettersOf "file: 10 bytes\nstart: F1, 16-bit branch offsets\nformat: 08\nlength: 10\nchecksum: 0000, but the program's bytes add up to 0046\n"
+    ≡ lettersOf
+    "file: 10 bytes\nstart: F1, 16-bit branch offsets\nformat: 08\nlength: 10\nchecksum: 0000, but the program's bytes add up to 0046\n"
 unfolding headerLines sizeLine fieldLines startLine formatLine lengthLine sumLine sumOf decimalFrom hexWord lettersOf
 both-sums = refl
 
@@ -77,13 +79,17 @@ unfolding readLine isText allPrinted quoted decimalFrom hexOf lettersOf
 null-inside = refl
 
 -- ---- programs: all of the list, and two pieces that are not, of which the first is shown
-all-listed : programLines (0xFD ∷ 0x08 ∷ 0x00 ∷ 0x46 ∷ 0x00 ∷ 0x00 ∷ 0x00 ∷ 0x0A ∷ 0x46 ∷ 0x00 ∷ []) ≡ lettersOf "program: 2 tokens, all of the list\n"
-unfolding programLines tallyLines tallyFrom walkFrom pieceOf decodeOf tokenIfWhole behindOf operandOf aimOf codeOf rowOf table ends lows highs doubles decimalFrom lettersOf
+all-listed : programLines (0xFD ∷ 0x08 ∷ 0x00 ∷ 0x46 ∷ 0x00 ∷ 0x00 ∷ 0x00 ∷ 0x0A ∷ 0x46 ∷ 0x00 ∷ []) ≡ lettersOf
+    "program: 2 tokens, all of the list\n"
+unfolding programLines tallyLines tallyFrom walkFrom pieceOf decodeOf tokenIfWhole behindOf operandOf aimOf codeOf rowOf table ends lows
+    highs doubles decimalFrom lettersOf
 all-listed = refl
 
 some-outside : programLines (0xFD ∷ 0x08 ∷ 0x00 ∷ 0x46 ∷ 0x00 ∷ 0x00 ∷ 0x00 ∷ 0x0C ∷ 0x47 ∷ 0x15 ∷ 0x16 ∷ 0x00 ∷ [])
-    ≡ lettersOf "program: 4 pieces, 2 of them no token of the list. A board that uses such a token is outside the scope of this tool, not broken. The first:\n0009 raw 15 (no token of the list: the next lines may be its operand)\n"
-unfolding programLines tallyLines outsideLines tallyFrom walkFrom pieceOf decodeOf tokenIfWhole behindOf operandOf aimOf codeOf rowOf table ends lows highs doubles lineText placeText allShown hexOf decimalFrom lettersOf
+    ≡ lettersOf
+    "program: 4 pieces, 2 of them no token of the list. A board that uses such a token is outside the scope of this tool, not broken. The first:\n0009 raw 15 (no token of the list: the next lines may be its operand)\n"
+unfolding programLines tallyLines outsideLines tallyFrom walkFrom pieceOf decodeOf tokenIfWhole behindOf operandOf aimOf codeOf rowOf table
+    ends lows highs doubles lineText placeText allShown hexOf decimalFrom lettersOf
 some-outside = refl
 
 -- ---- how a run ended, and where
@@ -100,9 +106,11 @@ unfolding verdictLine verdictOf reasonOf hasWords wordsOf opening naming moving 
 judged = refl
 
 at-a-token : atLine (0xFD ∷ 0x08 ∷ 0x00 ∷ 0x46 ∷ 0x00 ∷ 0x00 ∷ 0x00 ∷ 0x0A ∷ 0x46 ∷ 0x00 ∷ []) false 8 ≡ lettersOf "at: 0008 46 drop\n"
-unfolding atLine endLine pieceText pieceOf decodeOf tokenIfWhole behindOf operandOf aimOf codeOf nameOf rowOf table ends lows highs doubles lineText placeText allShown hexOf decimalFrom lettersOf
+unfolding atLine endLine pieceText pieceOf decodeOf tokenIfWhole behindOf operandOf aimOf codeOf nameOf rowOf table ends lows highs doubles
+    lineText placeText allShown hexOf decimalFrom lettersOf
 at-a-token = refl
 
-at-the-end : atLine (0xFD ∷ 0x08 ∷ 0x00 ∷ 0x46 ∷ 0x00 ∷ 0x00 ∷ 0x00 ∷ 0x0A ∷ 0x46 ∷ 0x00 ∷ []) false 10 ≡ lettersOf "at: 000A the program's end\n"
+at-the-end : atLine (0xFD ∷ 0x08 ∷ 0x00 ∷ 0x46 ∷ 0x00 ∷ 0x00 ∷ 0x00 ∷ 0x0A ∷ 0x46 ∷ 0x00 ∷ []) false 10 ≡ lettersOf
+    "at: 000A the program's end\n"
 unfolding atLine endLine pieceText pieceOf placeText hexOf lettersOf
 at-the-end = refl

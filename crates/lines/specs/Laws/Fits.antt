@@ -18,7 +18,8 @@ use Rattle.tree.specs.Whole.{wholeTree, parentOf}
 use Rattle.tree.specs.Laws.Trees.{whole-facts}
 use Rattle.tree.specs.declared.tree.Tree.{Tree}
 use Rattle.lines.specs.Digits.{decimalOf}
-use Rattle.lines.specs.Lines.{lineEnd, shown, nodeLine, propertyLine, ownLines, nodeLines, stepsLine, refusedLine, doneLine, closingLine, runText}
+use Rattle.lines.specs.Lines.{lineEnd, shown, nodeLine, propertyLine, ownLines, nodeLines, stepsLine, refusedLine, doneLine}
+use Rattle.lines.specs.Lines.{closingLine, runText}
 use Rattle.lines.specs.Laws.Texts.{length-decimal, length-shown}
 
 -- the lines that are made of words and numbers
@@ -89,14 +90,16 @@ unfolding ownLines
 own-behind p ps zero k h = refl
 own-behind p ps (suc n) k h = rw (ne-eqb (p .node) k (λ e. omega arith), own-behind p ps n (k + 1) (omega arith))
 
-own-once : (p : Property) (ps : List Property) (n k : ℕ) → ownSizes (p ∷ ps) n k ≤ length (propertyLine (p .name) (p .value)) + ownSizes ps n k
+own-once : (p : Property) (ps : List Property) (n k : ℕ)
+    → ownSizes (p ∷ ps) n k ≤ length (propertyLine (p .name) (p .value)) + ownSizes ps n k
 unfolding ownLines
 own-once p ps zero k = omega arith
 own-once p ps (suc n) k =
     let line = propertyLine (p .name) (p .value) in
     let l = length-append line (ownLines false ps k) in
     let i = own-once p ps n (k + 1) in
-    pick-is (λ z. length (z ++ ownLines false ps k) + ownSizes (p ∷ ps) n (k + 1) ≤ length line + (length (ownLines false ps k) + ownSizes ps n (k + 1)))
+    pick-is (λ z. length (z ++ ownLines false ps k) + ownSizes (p ∷ ps) n (k + 1) ≤ length line +
+    (length (ownLines false ps k) + ownSizes ps n (k + 1)))
     (eqb (p .node) k) line []
     (λ t. let b = own-behind p ps n (k + 1) (omega (arith, tests)) in omega arith)
     (λ t. omega arith)

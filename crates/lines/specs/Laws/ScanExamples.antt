@@ -53,12 +53,14 @@ whole-line = refl
 
 spent-run : scanLine (lettersOf "loop.bin") stopped (value (lettersOf "loop")) []
     ≡ lettersOf "loop.bin: refused 28: the budget is spent, steps 100000, name \"loop\"\n"
-unfolding scanLine verdictOf reasonOf hasWords wordsOf opening naming moving running other stepsPart labelled quoted isText allPrinted eachAs decimalFrom lettersOf
+unfolding scanLine verdictOf reasonOf hasWords wordsOf opening naming moving running other stepsPart labelled quoted isText allPrinted
+    eachAs decimalFrom lettersOf
 spent-run = refl
 
 -- a refused header has no steps
 bad-header : scanLine (lettersOf "a.bin") unfit [] [] ≡ lettersOf "a.bin: refused 5: the program's bytes do not add up to the checksum\n"
-unfolding scanLine verdictOf reasonOf hasWords wordsOf opening naming moving running other stepsPart labelled quoted isText allPrinted eachAs decimalFrom lettersOf
+unfolding scanLine verdictOf reasonOf hasWords wordsOf opening naming moving running other stepsPart labelled quoted isText allPrinted
+    eachAs decimalFrom lettersOf
 bad-header = refl
 
 -- neither bytes with no null behind them nor a byte that is not printed are text
@@ -75,18 +77,21 @@ control-bytes = refl
 -- ---- rows
 whole-row : scanCsv (lettersOf "scale.bin") passed (value (lettersOf "scale")) (value (lettersOf "XM-2"))
     ≡ lettersOf "\"scale.bin\",passes,0,\"\",7,\"scale\",\"XM-2\"\n"
-unfolding scanCsv foundFields bareVerdict bareSteps wordsOf opening naming moving running other field isText allPrinted eachAs decimalFrom lettersOf
+unfolding scanCsv foundFields bareVerdict bareSteps wordsOf opening naming moving running other field isText allPrinted eachAs decimalFrom
+    lettersOf
 whole-row = refl
 
 -- double quotes in a file's name and in a value
 quotes-doubled : scanCsv (lettersOf "a\"b") stopped (value (lettersOf "\"s\"")) []
     ≡ lettersOf "\"a\"\"b\",refused,28,\"the budget is spent\",100000,\"\"\"s\"\"\",\"\"\n"
-unfolding scanCsv foundFields bareVerdict bareSteps wordsOf opening naming moving running other field isText allPrinted eachAs decimalFrom lettersOf
+unfolding scanCsv foundFields bareVerdict bareSteps wordsOf opening naming moving running other field isText allPrinted eachAs decimalFrom
+    lettersOf
 quotes-doubled = refl
 
 bad-header-row : scanCsv (lettersOf "a.bin") unfit [] (lettersOf "X")
     ≡ lettersOf "\"a.bin\",refused,5,\"the program's bytes do not add up to the checksum\",,\"\",\"\"\n"
-unfolding scanCsv foundFields bareVerdict bareSteps wordsOf opening naming moving running other field isText allPrinted eachAs decimalFrom lettersOf
+unfolding scanCsv foundFields bareVerdict bareSteps wordsOf opening naming moving running other field isText allPrinted eachAs decimalFrom
+    lettersOf
 bad-header-row = refl
 
 lost-row : lostCsv (lettersOf "gone") ≡ lettersOf "\"gone\",unreadable,,\"\",,\"\",\"\"\n"

@@ -29,7 +29,8 @@ module _ (rom : List ℕ) (wide : Bool) (p : ℕ) (so : Tally) where
   unfolding tallyFrom
   tally-end e = rw (walk-is rom wide p, e)
 
-  pub tally-raw : (next : ℕ) → pieceOf rom wide p ≡ Raw next → tallyFrom so (walkAt rom wide p) ≡ tallyFrom (rawMore so p next) (walkAt rom wide next)
+  pub tally-raw : (next : ℕ) → pieceOf rom wide p ≡ Raw next
+      → tallyFrom so (walkAt rom wide p) ≡ tallyFrom (rawMore so p next) (walkAt rom wide next)
   unfolding tallyFrom
   tally-raw next e = rw (walk-is rom wide p, e)
 

@@ -1,4 +1,5 @@
--- What the proofs need of numbers, lines and texts, and that digits read back: a decimal as its number, hexadecimal ones as their bytes. Assumes nothing.
+-- What the proofs need of numbers, lines and texts, and that digits read back: a decimal as its number, hexadecimal ones as their bytes.
+-- Assumes nothing.
 use Prim.Native.Nat.{ℕ, zero, suc, _+_, _*_, _-_, _/_, _%_, _^_, _≤_, _<_}
 use native.Mathlib.Nat.{pow-suc}
 use native.Mathlib.Numerals.{add-one}
@@ -52,7 +53,8 @@ decimal-wider (suc k) n h =
     elim (decLt n 10) [
       | yes l ↦ decimal-one (suc (suc k)) n l ∙ sym (decimal-one (suc k) n l)
       | no l ↦ let p = pow-suc 10 (suc k) in
-          decimal-last (suc (suc k)) n (omega arith) ∙ rw (decimal-wider k (n / 10) (omega arith)) (sym (decimal-last (suc k) n (omega arith)))
+          decimal-last (suc (suc k)) n (omega arith)
+          ∙ rw (decimal-wider k (n / 10) (omega arith)) (sym (decimal-last (suc k) n (omega arith)))
     ]
 
 -- so a number of 32 bits is its tenth's digits, and its last

@@ -1,5 +1,5 @@
--- Laws of the token list: the parts of an operand lie in order; the lines show the bytes of the program, every byte once and in order; written one
--- by one they are the list; and none is longer than `lineMost`. Assumes nothing.
+-- Laws of the token list: the parts of an operand lie in order; the lines show the bytes of the program, every byte once and in order;
+-- written one by one they are the list; and none is longer than `lineMost`. Assumes nothing.
 use Prim.Native.Nat.{ℕ, zero, suc, _+_, _*_, _-_, _≤_, _<_}
 use native.Mathlib.Decide.{decLt}
 use native.Mathlib.Omega.{arith}
@@ -39,7 +39,8 @@ use Rattle.lines.specs.Printed.{allPrinted, quoted}
 use Rattle.lines.specs.Laws.Texts.{length-shown}
 use Rattle.lines.specs.TokenLines.{between, placeText, cuts, cutsOf, partsAt, tokenCuts, allShown}
 use Rattle.lines.specs.TokenLines.{aimRemark, branchRemark, stringRemark, rawRemark}
-use Rattle.lines.specs.TokenLines.{Line, lineText, partsJoined, lineBytes, rawLine, tokenLine, pieceLines, tokenText, OwnBytes, bytesShown}
+use Rattle.lines.specs.TokenLines.{Line, lineText, partsJoined, lineBytes, rawLine, tokenLine, pieceLines, tokenText, OwnBytes}
+use Rattle.lines.specs.TokenLines.{bytesShown}
 use Rattle.lines.specs.TokenLines.{listedAt, textIn, nextIn, wideIn, pieceText, nextOf, wideBehind, linesFrom, lineMost}
 use Rattle.lines.specs.declared.pieces.Cuts.{Cuts}
 
@@ -47,7 +48,8 @@ use Rattle.lines.specs.declared.pieces.Cuts.{Cuts}
 abbrev pub Ordered : ℕ → Cuts → ℕ → Type 0
 Ordered start c next = (start ≤ c .first) × (c .first ≤ c .second) × (c .second ≤ c .third) × (c .third ≤ next)
 
-cuts-ordered : (rom : List ℕ) (wide : Bool) (start next form : ℕ) → next ≡ behindOf rom wide start form → Ordered start (cutsOf rom start next form) next
+cuts-ordered : (rom : List ℕ) (wide : Bool) (start next form : ℕ) → next ≡ behindOf rom wide start form
+    → Ordered start (cutsOf rom start next form) next
 unfolding behindOf
 cuts-ordered rom wide start next form e =
     let b = behind-ahead rom wide start form in
@@ -123,14 +125,19 @@ between-join rom a b c h g =
     let f : b - a + (c - b) ≡ c - a = omega arith in
     rw f at (rw e at (part-join rom a (b - a) (c - b)))
 
-joined-parts : (rom : List ℕ) (start : ℕ) (c : Cuts) (next : ℕ) → Ordered start c next → partsJoined (partsAt rom start c next) ≡ between rom start next
+joined-parts : (rom : List ℕ) (start : ℕ) (c : Cuts) (next : ℕ) → Ordered start c next
+    → partsJoined (partsAt rom start c next) ≡ between rom start next
 unfolding partsJoined
 joined-parts rom start c next o =
     let h = o .0 in
     let i = o .1 in
     let j = o .2 in
     let k = o .3 in
-    rw (append-nil (between rom (c .third) next), between-join rom (c .second) (c .third) next j k, between-join rom (c .first) (c .second) next i (omega arith))
+    rw (
+      append-nil (between rom (c .third) next),
+      between-join rom (c .second) (c .third) next j k,
+      between-join rom (c .first) (c .second) next i (omega arith),
+    )
     (between-join rom start (c .first) next h (omega arith))
 
 -- the bytes of a line are those of its stretch
@@ -156,7 +163,8 @@ module _ (rom : List ℕ) where
       (λ w v q s t ss e b f on. (token-bytes rom w q s t b f, on)) k wide p
 
   -- so they show every byte once and in order, from the first place to the end
-  bytes-shown : (k : ℕ) (wide : Bool) (p : ℕ) → p ≤ endOf rom → endOf rom - p ≤ k → bytesShown rom (walkFrom k rom wide p) ≡ between rom p (endOf rom)
+  bytes-shown : (k : ℕ) (wide : Bool) (p : ℕ) → p ≤ endOf rom → endOf rom - p ≤ k
+      → bytesShown rom (walkFrom k rom wide p) ≡ between rom p (endOf rom)
   unfolding bytesShown
   bytes-shown k wide p =
       walk-holds rom (λ w q ss. bytesShown rom ss ≡ between rom q (endOf rom)) (λ w q e. nothing q e)

@@ -37,7 +37,8 @@ written-then m p xs ys =
     let r = written-reach (writtenOf m p xs) p (length xs) ys in
     (rw (length-written m p xs) at r) ∙ sym (written-append m p xs ys)
 
-pub wrote-then : {m₀ m₁ m₂ : List ℕ} {p₀ p₁ p₂ : ℕ} {xs ys : List ℕ} → Wrote m₀ m₁ p₀ p₁ xs → Wrote m₁ m₂ p₁ p₂ ys → Wrote m₀ m₂ p₀ p₂ (xs ++ ys)
+pub wrote-then : {m₀ m₁ m₂ : List ℕ} {p₀ p₁ p₂ : ℕ} {xs ys : List ℕ} → Wrote m₀ m₁ p₀ p₁ xs → Wrote m₁ m₂ p₁ p₂ ys
+    → Wrote m₀ m₂ p₀ p₂ (xs ++ ys)
 wrote-then {m₀} {p₀ = p₀} {xs = xs} {ys = ys} w v =
     record {
       text = v .text ∙ rw (w .text, w .place) (written-then m₀ p₀ xs ys);
@@ -63,7 +64,8 @@ pub record Ahead (m₀ : List ℕ) (p₀ : ℕ) (all : List ℕ) (m : List ℕ) 
 pub ahead-all : {m : List ℕ} {p : ℕ} {all : List ℕ} → Ahead m p all m p all
 ahead-all = record { text = refl; place = refl; size = refl }
 
-pub ahead-on : {m₀ m n : List ℕ} {p₀ p q : ℕ} {all : List ℕ} (xs ys : List ℕ) → Ahead m₀ p₀ all m p (xs ++ ys) → Wrote m n p q xs → Ahead m₀ p₀ all n q ys
+pub ahead-on : {m₀ m n : List ℕ} {p₀ p q : ℕ} {all : List ℕ} (xs ys : List ℕ) → Ahead m₀ p₀ all m p (xs ++ ys) → Wrote m n p q xs
+    → Ahead m₀ p₀ all n q ys
 ahead-on {m₀} {m = m} {p = p} xs ys a w =
     record {
       text = rw (w .text, w .place) (written-then m p xs ys) ∙ a .text;

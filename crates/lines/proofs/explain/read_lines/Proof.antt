@@ -20,9 +20,17 @@ read-lines-spec =
     (tie.spec
     (λ c. rw (ne-eqb _ _ (c .if1 .taken)) wrote-none)
     (λ c κs. search needs)
-    (λ c. rw (eq-eqb _ _ (c .before .before .if1 .left), sym (c .before .is-whole .ensures) ∙ not-true _ (c .if2 .taken)) wrote-none)
+    (λ c.
+    let if1 = c .before .before .if1 in
+    rw (eq-eqb _ _ (if1 .left), sym (c .before .is-whole .ensures) ∙ not-true _ (c .if2 .taken)) wrote-none)
     (λ c κs.
-    let n = whole-facts (c .before .before .before .before .before .before .args .tree) (whole (c .before)) in
+    let args = c .before .before .before .before .before .before .args in
+    let n = whole-facts (args .tree) (whole (c .before)) in
     (n .held-most, omega (arith, n .live-most)))
     (λ c. search needs)
-    (λ c. rw (eq-eqb _ _ (c .before .before .before .before .before .before .if1 .left), sym (c .before .before .before .before .before .is-whole .ensures) ∙ not-false _ (c .before .before .before .before .if2 .left)) (c .before .before .own-lines .ensures)))
+    (λ c.
+    let own-lines = c .before .before .own-lines in
+    let if2 = c .before .before .before .before .if2 in
+    let is-whole = c .before .before .before .before .before .is-whole in
+    let if1 = c .before .before .before .before .before .before .if1 in
+    rw (eq-eqb _ _ (if1 .left), sym (is-whole .ensures) ∙ not-false _ (if2 .left)) (own-lines .ensures)))

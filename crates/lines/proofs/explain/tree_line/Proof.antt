@@ -13,4 +13,7 @@ tree-line-spec =
     (λ c κs. search needs)
     (λ c κs. search needs)
     (λ c. search needs)
-    (λ c. wrote-then (c .before .before .before .before .before .before .say .ensures) (c .before .before .letter .ensures)))
+    (λ c.
+    let letter = c .before .before .letter in
+    let say = c .before .before .before .before .before .before .say in
+    wrote-then (say .ensures) (letter .ensures)))

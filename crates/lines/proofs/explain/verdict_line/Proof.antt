@@ -15,4 +15,8 @@ verdict-line-spec =
     (λ c κs. search needs)
     (λ c κs. search needs)
     (λ c. search needs)
-    (λ c. wrote-then (c .before .before .before .before .before .before .before .before .before .before .say .ensures) (wrote-then (c .before .before .before .before .before .before .verdict .ensures) (c .before .before .letter .ensures))))
+    (λ c.
+    let letter = c .before .before .letter in
+    let verdict = c .before .before .before .before .before .before .verdict in
+    let say = c .before .before .before .before .before .before .before .before .before .before .say in
+    wrote-then (say .ensures) (wrote-then (verdict .ensures) (letter .ensures))))

@@ -28,13 +28,17 @@ plain-spec =
     (λ c. search needs)
     (λ c. search needs)
     (λ c.
-    let bytes = now (c .before .before .before .before .before .before .before .before .before .before .args .bytes) in
+    let letter = c .before .before .letter in
+    let plain-byte = c .before .before .before .plain-byte in
+    let args = c .before .before .before .before .before .before .before .before .before .before .args in
+    let bytes = now (args .bytes) in
     let l = c .before .before .before .before .before .before .before .loop in
     let more = rw (each-more (λ b. plainByte b ∷ []) bytes (l .k) (search needs)) at (l .inv .1) in
-    let here = rw (c .before .before .before .plain-byte .ensures) at (c .before .before .letter .ensures) in
+    let here = rw (plain-byte .ensures) at (letter .ensures) in
     (search needs, ahead-on (plainByte (getD bytes (l .k) 0) ∷ []) (plainField (drop (l .k + 1) bytes)) more here))
     (λ c. c .before .loop .inv .1 .size)
     (λ c.
+    let args = c .before .before .before .before .args in
     let l = c .before .loop in
-    let bytes = now (c .before .before .before .before .args .bytes) in
+    let bytes = now (args .bytes) in
     ahead-none (rw (each-none (λ b. plainByte b ∷ []) bytes (l .k) (search needs)) at (l .inv .1))))

@@ -13,10 +13,14 @@ own-line-spec =
     (λ c κs. search needs)
     (λ c. search needs)
     (λ c.
+    let read-line = c .before .before .read-line in
+    let if2 = c .before .before .before .before .if2 in
     let a = c .before .before .before .before .before .before .before .before .before .args in
-    rw (eq-eqb (a .owner) (a .node) (omega arith), c .before .before .before .before .if2 .taken) (c .before .before .read-line .ensures))
+    rw (eq-eqb (a .owner) (a .node) (omega arith), if2 .taken) (read-line .ensures))
     (λ c κs. search needs)
     (λ c. search needs)
     (λ c.
+    let property-line = c .before .before .property-line in
+    let if2 = c .before .before .before .before .if2 in
     let a = c .before .before .before .before .before .before .before .before .before .args in
-    rw (eq-eqb (a .owner) (a .node) (omega arith), c .before .before .before .before .if2 .left) (c .before .before .property-line .ensures)))
+    rw (eq-eqb (a .owner) (a .node) (omega arith), if2 .left) (property-line .ensures)))

@@ -16,4 +16,8 @@ property-line-spec =
     (λ c κs. search needs)
     (λ c κs. search needs)
     (λ c. search needs)
-    (λ c. wrote-then (c .before .before .before .before .before .before .before .before .before .before .say .ensures) (wrote-then (c .before .before .before .before .before .before .shown .ensures) (c .before .before .letter .ensures))))
+    (λ c.
+    let letter = c .before .before .letter in
+    let shown = c .before .before .before .before .before .before .shown in
+    let say = c .before .before .before .before .before .before .before .before .before .before .say in
+    wrote-then (say .ensures) (wrote-then (shown .ensures) (letter .ensures))))

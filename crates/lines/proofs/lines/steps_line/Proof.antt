@@ -17,4 +17,8 @@ steps-line-spec =
     (λ c κs. search needs)
     (λ c κs. search needs)
     (λ c. search needs)
-    (λ c. wrote-then (c .before .before .before .before .before .before .before .before .before .before .say .ensures) (wrote-then (c .before .before .before .before .before .before .decimal .ensures) (c .before .before .letter .ensures))))
+    (λ c.
+    let letter = c .before .before .letter in
+    let decimal = c .before .before .before .before .before .before .decimal in
+    let say = c .before .before .before .before .before .before .before .before .before .before .say in
+    wrote-then (say .ensures) (wrote-then (decimal .ensures) (letter .ensures))))

@@ -14,4 +14,9 @@ text-read-spec =
     (λ c κs. search needs)
     (λ c κs. search needs)
     (λ c. search needs)
-    (λ c. rw (sym (c .before .before .before .before .before .before .is-text .ensures) ∙ not-on _ (c .before .before .before .before .before .if1 .left), ← c .before .before .before .text-of .ensures) (c .before .before .quoted .ensures)))
+    (λ c.
+    let quoted = c .before .before .quoted in
+    let text-of = c .before .before .before .text-of in
+    let if1 = c .before .before .before .before .before .if1 in
+    let is-text = c .before .before .before .before .before .before .is-text in
+    rw (sym (is-text .ensures) ∙ not-on _ (if1 .left), ← text-of .ensures) (quoted .ensures)))

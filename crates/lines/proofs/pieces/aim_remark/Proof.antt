@@ -18,6 +18,13 @@ aim-remark-spec =
     (λ c. search needs)
     (λ c κs. search needs)
     (λ c. search needs)
-    (λ c. rw (c .before .before .before .before .before .before .before .before .before .before .aim .given .1) (wrote-then (c .before .before .before .before .before .before .say .ensures) (c .before .before .place-digits .ensures)))
+    (λ c.
+    let place-digits = c .before .before .place-digits in
+    let say = c .before .before .before .before .before .before .say in
+    let aim = c .before .before .before .before .before .before .before .before .before .before .aim in
+    rw (aim .given .1) (wrote-then (say .ensures) (place-digits .ensures)))
     (λ c. search needs)
-    (λ c. rw (c .before .before .before .before .before .enum-told .given .1) (c .before .before .say2 .ensures)))
+    (λ c.
+    let say2 = c .before .before .say2 in
+    let enum-told = c .before .before .before .before .before .enum-told in
+    rw (enum-told .given .1) (say2 .ensures)))

@@ -27,5 +27,10 @@ parts-spec =
     (λ c κs. search needs)
     (λ c. search needs)
     (λ c.
-    wrote-then (c .before .before .before .before .before .before .before .before .before .before .before .before .before .before .before .before .before .shown .ensures)
-    (wrote-then (c .before .before .before .before .before .before .before .before .before .before .before .before .shown2 .ensures) (wrote-then (c .before .before .before .before .before .before .before .shown3 .ensures) (wrote-then (c .before .before .shown4 .ensures) wrote-none)))))
+    let shown4 = c .before .before .shown4 in
+    let shown3 = c .before .before .before .before .before .before .before .shown3 in
+    let shown2 = c .before .before .before .before .before .before .before .before .before .before .before .before .shown2 in
+    let c₁ = c .before .before .before .before .before .before .before .before .before .before .before .before in
+    let shown = c₁ .before .before .before .before .before .shown in
+    wrote-then (shown .ensures)
+    (wrote-then (shown2 .ensures) (wrote-then (shown3 .ensures) (wrote-then (shown4 .ensures) wrote-none)))))

@@ -36,5 +36,6 @@ all-printed-spec =
     let b = c .before .is-printed in
     (search needs, printed-more _ (l .k) (search needs) (sym (b .ensures) ∙ not-on (b .result) (c .if1 .left)) ∙ l .inv .1))
     (λ c.
+    let args = c .before .before .before .args in
     let l = c .before .loop in
-    sym (printed-end (now (c .before .before .before .args .bytes)) (l .k) (search needs)) ∙ l .inv .1))
+    sym (printed-end (now (args .bytes)) (l .k) (search needs)) ∙ l .inv .1))

@@ -10,10 +10,13 @@ unfolding bareSteps
 bare-steps-spec =
     tie.close
     (tie.spec
-    (λ c. rw (not-off (c .before .before .args .ran) (c .if1 .taken)) wrote-none)
+    (λ c.
+    let args = c .before .before .args in
+    rw (not-off (args .ran) (c .if1 .taken)) wrote-none)
     (λ c κs. tt)
     (λ c. search needs)
     (λ c.
+    let decimal = c .before .before .decimal in
     let t = c .before .before .before .before in
     rw (not-on (t .before .before .args .ran) (t .if1 .left))
-    (c .before .before .decimal .ensures)))
+    (decimal .ensures)))

@@ -12,7 +12,9 @@ unfolding stepsPart lettersOf
 steps-part-spec =
     tie.close
     (tie.spec
-    (λ c. rw (not-off (c .before .before .args .ran) (c .if1 .taken)) wrote-none)
+    (λ c.
+    let args = c .before .before .args in
+    rw (not-off (args .ran) (c .if1 .taken)) wrote-none)
     (λ c. refl)
     (λ c κs. tt)
     (λ c κs. tt)

@@ -16,9 +16,10 @@ verdict-spec =
     (λ c κs. tt)
     (λ c. search needs)
     (λ c.
+    let say = c .before .before .say in
     let t = c .before .before .before .before .before in
     rw (eq-eqb _ _ (t .if1 .taken))
-    (c .before .before .say .ensures))
+    (say .ensures))
     (λ c. refl)
     (λ c κs. tt)
     (λ c κs. tt)
