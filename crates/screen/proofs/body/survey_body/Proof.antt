@@ -85,8 +85,8 @@ returns-3 c =
     let w = rw (c₃ .body .ensures) at (c₂ .walk-from .ensures) in
     let k = rw entry-cell at w in
     let l = not-on (c₂ .walk-from .result .good) (c₁ .if2 .left) in
-    let low = walked-low (now (a .rom)) (now (a .kinds)) x (now (a .sums)) _ (a .entry) 65 _ _ (omega arith) (omega arith) (omega arith) w
-    l in
+    let low =
+    walked-low (now (a .rom)) (now (a .kinds)) x (now (a .sums)) _ (a .entry) 65 _ _ (omega arith) (omega arith) (omega arith) w l in
     survey-judged (now (a .rom)) (a .length) (now (a .seen)) (now (a .kinds)) (now (a .sums)) (a .stand) (a .entry) _ _ _ _ _ (s .0) g _ k
     l low (s .1 g)
     (λ b h e.

@@ -26,8 +26,8 @@ use Rattle.screen.specs.Laws.Walk.Boards.{BodyRan}
 use Rattle.screen.specs.Laws.Walk.Chains.{chain-kept}
 use Rattle.screen.specs.Laws.Accept.Cover.{start, ready, rooted}
 use Rattle.screen.specs.Laws.Accept.Roots.{body-reach}
-use Rattle.screen.specs.Laws.Accept.Spots.{inside-at, Bound, at-bound, Inside, bodyOf, body-fits}
-use Rattle.screen.specs.Laws.Found.Cell.{height-in, is-met, cellWith, heightIn, isMet, unmet, heights, entryCell}
+use Rattle.screen.specs.Laws.Accept.Spots.{inside-at, at-bound, Inside, bodyOf, body-fits}
+use Rattle.screen.specs.Laws.Found.Cell.{height-in, is-met, cellWith, heightIn, isMet, unmet, heights, entryCell, Bound}
 use Rattle.screen.specs.Laws.Found.Cell.{bodyMost}
 use Rattle.screen.specs.Laws.Found.Cell.{movedCell, entered, moved-cell}
 

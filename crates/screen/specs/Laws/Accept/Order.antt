@@ -96,7 +96,7 @@ module _ (rom : List ℕ) (fits : lengthOf rom ≤ romMost) {last : Board} (pass
   aimed-in {s} {d} {p = p} {t} {u} b h e =
       let k = inside rom fits passed (Holds.body (b .met .reach) (b .met .is) (b .colon) (b .reads)) in
       let g = one-setting (b .met) (b .colon) k in
+      let f = same-colon rom fits passed k (b .met) (b .colon) in
       let h′ = subst (λ v. Starts rom (v .wide) (t .next) p) g h in
-      let h″ = subst (λ (v : Token). Starts rom (k .board .stand .wide) (v .next) p) (same-colon rom fits passed k (b .met) (b .colon)) h′
-      in
+      let h″ = subst (λ (v : Token). Starts rom (k .board .stand .wide) (v .next) p) f h′ in
       fails (astray u) (bodyOf rom fits passed k .marked .fine h″ (subst (λ v. tokenAt rom 1 (v .wide) p ≡ Good u) g e) .0)

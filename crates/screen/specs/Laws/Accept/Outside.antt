@@ -26,9 +26,9 @@ use Rattle.screen.specs.Laws.Walk.Boards.{Advanced, advanced}
 use Rattle.screen.specs.Laws.Walk.Chains.{then, one-token}
 use Rattle.screen.specs.Laws.Accept.Roots.{known-real, start-only}
 use Rattle.screen.specs.Laws.Accept.Cover.{start, ready, rooted, round-end, leads-itself, leads-way}
-use Rattle.screen.specs.Laws.Accept.Spots.{Bound, at-bound, chain-ran, behind, Out, outside, out-cell, effect-kept, inside}
+use Rattle.screen.specs.Laws.Accept.Spots.{at-bound, chain-ran, behind, Out, outside, out-cell, effect-kept, inside}
 use Rattle.screen.specs.Laws.Accept.Heights.{heightLeft, backLeft, sumLeft, Spot}
-use Rattle.screen.specs.Laws.Found.Cell.{height-in, back-in, cellWith, heightIn, backIn, heights, height-low}
+use Rattle.screen.specs.Laws.Found.Cell.{height-in, back-in, cellWith, heightIn, backIn, heights, height-low, Bound}
 
 module _ (rom : List ℕ) (fits : lengthOf rom ≤ romMost) {last : Board} (passed : Chain rom (start rom fits) last) where
   module _ {s : Setting} {p : ℕ} {t : Token} (m : Met rom 0 s p t) where
@@ -52,16 +52,14 @@ module _ (rom : List ℕ) (fits : lengthOf rom ≤ romMost) {last : Board} (pass
     out-effect : effectOf (sumAt (out-of .board .sums)) t ≡ effectOf (sumLeft last) t
     out-effect = effect-kept rom fits passed (out-of .follows) (out-of .chain) t (out-meets .named)
 
-    pub out-bound : Bound dataMost (out-of .cell)
-    out-bound =
-        let f = ready rom fits (out-of .follows) .fair in
-        at-bound (record { height = f .height; back = f .back; is = f .is; low = f .low; few = f .few }) (out-of .at)
+    out-bound : Bound dataMost (out-of .cell)
+    out-bound = at-bound {x = outsideText (lengthOf rom) (out-of .board .stand)} (ready rom fits (out-of .follows) .fair) (out-of .at)
 
     height-out : heightLeft last 0 p ≡ out-bound .height
     height-out = ap heightIn (out-cell rom fits passed out-of ∙ out-bound .is)
         ∙ height-in (out-bound .height) (out-bound .back) (let l = out-bound .low in omega arith)
 
-    pub cell-out : getD (last .seen) p 0 ≡ out-of .cell
+    cell-out : getD (last .seen) p 0 ≡ out-of .cell
     cell-out = out-cell rom fits passed out-of
 
     -- a token that ends no round

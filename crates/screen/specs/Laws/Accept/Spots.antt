@@ -9,7 +9,7 @@ use lib.Dec.{T, T-not}
 use lib.ListN.{getD}
 use Rattle.cells.specs.Laws.Facts.{holds, fails}
 use Rattle.rom.specs.Header.{lengthOf}
-use Rattle.rom.specs.Sizes.{romMost, returnMost}
+use Rattle.rom.specs.Sizes.{romMost}
 use Rattle.tokens.specs.Family.{call}
 use Rattle.tokens.specs.Body.{unknownOf}
 use Rattle.tokens.specs.declared.decoding.Token.{Token}
@@ -27,15 +27,7 @@ use Rattle.screen.specs.Laws.Walk.Boards.{BodyRan, Advanced, advanced}
 use Rattle.screen.specs.Laws.Walk.Chains.{Steps, here, via, then, chain-kept, chain-seen, chain-steps, one-token}
 use Rattle.screen.specs.Laws.Accept.Cover.{start, Follows, ready, Before, round-on, round-end, leads-way, leads-itself, cover}
 use Rattle.screen.specs.declared.walking.Text.{Text as Scope}
-use Rattle.screen.specs.Laws.Found.Cell.{cellWith, heights, entryCell}
-
--- a cell's heights, within a cap
-pub record Bound (cap c : ℕ) : Type 0 where
-  pub height : ℕ
-  pub back : ℕ
-  pub is : c ≡ cellWith (heights height back)
-  pub low : height ≤ cap
-  pub few : back ≤ returnMost
+use Rattle.screen.specs.Laws.Found.Cell.{entryCell, Bound}
 
 -- every cell of a walk is within the cap that its first cell is within
 pub at-bound : {rom : List ℕ} {x : Scope} {kinds sums : List ℕ} {q d : ℕ} → Bound (capOf (x .within)) d → {p c : ℕ}

@@ -138,6 +138,14 @@ pub lower-cell : (cell n : ℕ) → cellWith (heights (heightIn cell - n) (backI
 unfolding cellWith heightsIn
 lower-cell cell n = omega arith
 
+-- one of heights within a cap
+pub record Bound (cap cell : ℕ) : Type 0 where
+  pub height : ℕ
+  pub back : ℕ
+  pub is : cell ≡ cellWith (heights height back)
+  pub low : height ≤ cap
+  pub few : back ≤ returnMost
+
 -- ---- a cell that is moved
 pub moved-cell : (up down : ℕ) (h : TokenHeights) → down ≤ h .height + up
     → movedCell up down (cellWith h) ≡ cellWith (heights (h .height + up - down) (h .back))

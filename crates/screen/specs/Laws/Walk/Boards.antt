@@ -33,12 +33,13 @@ use Rattle.screen.specs.Laws.Walk.Tallying.{Among, TallyIs, tally-is}
 use Rattle.screen.specs.Laws.Walk.Shifting.{Shifted, shift-is}
 use Rattle.screen.specs.Laws.Walk.Advancing.{settingOf, Did, advance-did, widens, plants, finishes, values, bodies}
 use Rattle.screen.specs.Laws.Found.Room.{has-room}
-use Rattle.screen.specs.Laws.Walk.Rounds.{ran-size, ran-above, ran, farOf, left, Fair, Ready, Ran, Next, on}
+use Rattle.screen.specs.Laws.Walk.Rounds.{ran-size, ran-above, ran, farOf, left, Ready, Ran, Next, on}
 use Rattle.screen.specs.declared.effect.Sum.{Sum}
 use Rattle.screen.specs.declared.walking.Text.{Text as Scope}
 use Rattle.screen.specs.declared.rounds.Stand.{Stand}
 use Rattle.screen.specs.Laws.Found.Model.{Tally}
 use Rattle.screen.specs.Laws.Found.Cell.{cellWith, heightIn, backIn, isMet, unmet, heights, entryCell, entered, cell-met, cell-some}
+use Rattle.screen.specs.Laws.Found.Cell.{Bound}
 use Rattle.screen.specs.Laws.Found.Cell.{bodyMost}
 use Rattle.screen.specs.Laws.Found.Sums.{packedSum, unpackedSum, SmallSum, unpacked-packed}
 
@@ -143,7 +144,7 @@ module _ (rom : List ℕ) (fits : lengthOf rom ≤ romMost) (b : Board) (y : Rea
   not-call = fixes-is (λ k. eqb k call ≡ false) t refl refl refl refl f
 
   -- the heights behind it are within the limits
-  behind : Fair (cellWith (heights (heightIn cell - takesHere t) (backIn cell)))
+  behind : Bound dataMost (cellWith (heights (heightIn cell - takesHere t) (backIn cell)))
   behind = record {
     height = heightIn cell - takesHere t;
     back = backIn cell;

@@ -10,7 +10,7 @@ use lib.Dec.{T}
 use lib.ListN.{length, getD}
 use Rattle.cells.specs.Laws.Facts.{and-first, and-second}
 use Rattle.rom.specs.Header.{lengthOf}
-use Rattle.rom.specs.Sizes.{romMost, dataMost, returnMost}
+use Rattle.rom.specs.Sizes.{romMost, dataMost}
 use Rattle.tokens.specs.Place.{readOf}
 use Rattle.tokens.specs.declared.decoding.Token.{Token}
 use Rattle.tokens.specs.declared.read.Read.the-variants.{Good}
@@ -22,15 +22,7 @@ use Rattle.screen.specs.Laws.Walk.Walking.{At, Given, Walked, at-real, w
 use Rattle.screen.specs.Laws.Walk.Apart.{Apart, apart-good}
 use Rattle.screen.specs.Laws.Found.Room.{has-room}
 use Rattle.screen.specs.declared.walking.Text.{Text as Scope}
-use Rattle.screen.specs.Laws.Found.Cell.{cellWith, heights, cell-some}
-
--- heights within the limits, as a cell
-pub record Fair (cell : ℕ) : Type 0 where
-  pub height : ℕ
-  pub back : ℕ
-  pub is : cell ≡ cellWith (heights height back)
-  pub low : height ≤ dataMost
-  pub few : back ≤ returnMost
+use Rattle.screen.specs.Laws.Found.Cell.{heights, cell-some, Bound}
 
 module _ (rom : List ℕ) where
   -- a round's walk, the highest place that it comes to, what it leaves
@@ -55,7 +47,7 @@ module _ (rom : List ℕ) where
     pub kinds : length (b .kinds) ≡ programsMost
     pub sums : length (b .sums) ≡ programsMost
     pub fresh : (p : ℕ) → b .stand .start ≤ p → getD (b .seen) p 0 ≡ 0
-    pub fair : Fair (b .stand .cell)
+    pub fair : Bound dataMost (b .stand .cell)
 
   -- a round that is good: what it walked, no overlaps, and the token at its highest place
   pub record Ran (b : Board) : Type 0 where
@@ -98,7 +90,7 @@ module _ (rom : List ℕ) where
         x : Scope
         x = outsideText (lengthOf rom) (b .stand)
 
-        fair : Fair (b .stand .cell)
+        fair : Bound dataMost (b .stand .cell)
         fair = y .fair
 
         positive : b .stand .cell ≢ 0
