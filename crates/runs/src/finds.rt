@@ -1,14 +1,14 @@
 // Lookups in what a run left, and its node table.
 ghost use Prim.Native.Nat.{_<_};
 use crate::damage::damaged;
-use crate::line::bytes_from;
-use crate::line::mark_from;
 use crate::say::say;
 use crate::say::say_bytes;
 use crate::say::say_decimal;
 use crate::say::say_number;
 use crate::say::say_one;
 use crate::show::word_at;
+use given::bytes_from;
+use given::mark_from;
 use rom::sizes::NODES_MOST;
 use state::State;
 use state::find_node_in;

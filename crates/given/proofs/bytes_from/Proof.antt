@@ -3,10 +3,10 @@ use Prim.Native.Nat.{_≤_, _-_}
 use mathlib.Core.Path.{_≡_}
 use lib.ListN.{length, length-set}
 use native.Mathlib.Omega.{arith}
-use Rattle.screens.proofs.Counted.{counted}
+use Rattle.given.proofs.Counted.{counted}
 use borrow.Author.Needs.{needs}
-use Rattle.screens.proofs.line.bytes_from.Statement.{statement}
-use Rattle.screens.proofs.line.bytes_from.Tie as tie
+use Rattle.given.proofs.bytes_from.Statement.{statement}
+use Rattle.given.proofs.bytes_from.Tie as tie
 
 abbrev Inv-loop : tie.InvT-loop
 Inv-loop text from rom₀ n₀ rom n = (n ≤ length rom) × (length rom ≡ length rom₀)

@@ -2,8 +2,8 @@
 use Prim.Native.Nat.{_-_, _≤_}
 use lib.ListN.{length}
 use borrow.Author.Needs.{needs}
-use Rattle.runs.proofs.line.mark_from.Statement.{statement}
-use Rattle.runs.proofs.line.mark_from.Tie as tie
+use Rattle.given.proofs.mark_from.Statement.{statement}
+use Rattle.given.proofs.mark_from.Tie as tie
 
 abbrev Inv-loop : tie.InvT-loop
 Inv-loop text from mark at₀ at = (from ≤ at) × (at ≤ length text)

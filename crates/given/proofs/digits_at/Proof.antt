@@ -1,8 +1,8 @@
--- Nothing is known of what is printed; the digits left fall. Assumes nothing.
+-- Nothing is known of the number; the digits left fall. Assumes nothing.
 use Prim.Native.Nat.{_-_}
 use borrow.Author.Needs.{needs}
-use Rattle.runs.proofs.line.digits_at.Statement.{statement}
-use Rattle.runs.proofs.line.digits_at.Tie as tie
+use Rattle.given.proofs.digits_at.Statement.{statement}
+use Rattle.given.proofs.digits_at.Tie as tie
 
 abbrev Inv-loop : tie.InvT-loop
 Inv-loop text from n₀ k₀ n k = Unit {0}
@@ -19,7 +19,7 @@ digits-at-spec =
     (λ c. search needs)
     (λ c. search needs)
     (λ c κs. search needs)
-    (λ c. search needs)
+    (λ c κs. search needs)
     (λ c. search needs)
     (λ c. search needs)
     (λ c κs. search needs)

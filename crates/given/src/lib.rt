@@ -1,5 +1,5 @@
-// What stands in a line.
-ghost use Prim.Native.Nat.{_+_, _<_, _≤_, _^_};
+// What the test programs are given, a line of standard input each: where a mark stands in it, and the bytes and the numbers that it holds.
+ghost use Prim.Native.Nat.{_<_, _≤_, _^_};
 ghost use lib.ListN.{length};
 ghost use Rattle.io.specs.Counts.{Counts};
 
@@ -67,14 +67,11 @@ pub fn digits_at(text: &[u8], from: usize) -> u32
     let mut n: u32 = 0;
     let mut k = 0;
     while k < 8 {
-        let c = rom::byte(text, from + k);
-        if c < 0x30 {
+        let digit = value(rom::byte(text, from + k));
+        if 10 <= digit {
             return n;
         }
-        if 0x39 < c {
-            return n;
-        }
-        n = n % 10_000_000 * 10 + wide(c - 0x30);
+        n = n % 10_000_000 * 10 + wide(digit);
         k += 1;
     }
     n
