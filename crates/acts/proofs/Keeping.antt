@@ -34,9 +34,11 @@ use Rattle.state.specs.declared.answer.Stepped.{Stepped}
 use Rattle.state.specs.declared.apart.Core.{Core}
 use Rattle.tree.specs.declared.in_place.Tail.{Tail}
 use Rattle.acts.specs.declared.acted.Acted.{Acted}
-use Rattle.acts.proofs.Cold.{open-full, open-good, close-outermost, close-good, property-bad-name, property-bad-value, property-put, title-bad, title-put}
+use Rattle.acts.proofs.Cold.{open-full, open-good, close-outermost, close-good, property-bad-name, property-bad-value, property-put}
+use Rattle.acts.proofs.Cold.{title-bad, title-put}
 use Rattle.state.specs.Laws.Done.{carried, stopped}
 use Rattle.acts.proofs.Pops.{poppedBy, cellAt, two-pops, four-pops, popped-on}
+use Rattle.rom.specs.Sizes.{dataMost, storeSize}
 
 -- ---- what a property's call in place leaves: refused, the tree as it was
 never-done : (why : ℕ) → Done ≡ NotDone why → ⊥
@@ -57,12 +59,15 @@ module _ (w : Written) (why : ℕ) (f : w .outcome ≡ NotDone why) where
 
 -- and it is what is kept of the whole state
 module _ (st taken : State) (next : ℕ) (w : Written) where
-  pub kept-done : (x : Stepped) → w .outcome ≡ Done → x ≡ stepped Going (withTree (movedTo taken next) (w .tree)) → x ≡ keptOn st taken next w
+  pub kept-done : (x : Stepped) → w .outcome ≡ Done → x ≡ stepped Going (withTree (movedTo taken next) (w .tree))
+      → x ≡ keptOn st taken next w
   kept-done x e f = f ∙ ap (λ (o : Outcome). outcomeOn st (withTree (movedTo taken next) (w .tree)) o) (sym e)
 
-  pub kept-refused : (x : Stepped) (why : ℕ) → w .outcome ≡ NotDone why → w .tree ≡ st .tree → x ≡ stepped (Refused why) (withTree st (w .tree)) → x ≡ keptOn st taken next w
+  pub kept-refused : (x : Stepped) (why : ℕ) → w .outcome ≡ NotDone why → w .tree ≡ st .tree
+      → x ≡ stepped (Refused why) (withTree st (w .tree)) → x ≡ keptOn st taken next w
   kept-refused x why e k f =
-      f ∙ ap (λ (t : Tree). stepped (Refused why) (withTree st t)) k ∙ ap (λ (o : Outcome). outcomeOn st (withTree (movedTo taken next) (w .tree)) o) (sym e)
+      f ∙ ap (λ (t : Tree). stepped (Refused why) (withTree st t)) k
+      ∙ ap (λ (o : Outcome). outcomeOn st (withTree (movedTo taken next) (w .tree)) o) (sym e)
 
 -- the same by the numbers that are handed back
 pub filed-back : (a b : Arrays) (k : Core) (taken next records : ℕ) (tail : Tail) (w : Written) (o : Outcome) (r : Acted) → w .outcome ≡ o
@@ -113,9 +118,10 @@ module _ (st : State) (next : ℕ) (w : Activated) where
     close-same e =
         same-nodes (outermost (st .first) (st .active)) (st .tree) (st .tree) (st .active) (parentOf (st .tree) (st .active)) why w f e
 
-module _ (st : State) (next : ℕ) (h : st .stack .height ≤ 64) (w : Activated) (r : Stepped) (k : r ≡ activeOn st next w) where
+module _ (st : State) (next : ℕ) (h : st .stack .height ≤ dataMost) (w : Activated) (r : Stepped) (k : r ≡ activeOn st next w) where
   given : (v : Activated) (work store : List ℕ) → w ≡ v → handedBack r work store ≡ handedBack (activeOn st next v) work store
-  given v work store e = ap (λ (x : Stepped). handedBack x work store) k ∙ ap (λ (x : Activated). handedBack (activeOn st next x) work store) e
+  given v work store e = ap (λ (x : Stepped). handedBack x work store) k
+      ∙ ap (λ (x : Activated). handedBack (activeOn st next x) work store) e
 
   refused : Activated
   refused = activated (NotDone 20) (st .tree) (st .active)
@@ -127,7 +133,8 @@ module _ (st : State) (next : ℕ) (h : st .stack .height ≤ 64) (w : Activated
       by : (b : Bool) → noRoom (st .tree) ≡ b → handedBack r work store ≡ doneOf (scene rom work store st) (tokenOf n 0x1710_0000 o next)
       by true f =
           given refused work store (e ∙ rw f)
-          ∙ sym (stopped (scene rom work store st) (tokenOf n 0x1710_0000 o next) 20 refl (open-full (scene rom work store st) n o next h f))
+          ∙ sym (stopped (scene rom work store st) (tokenOf n 0x1710_0000 o next) 20 refl
+          (open-full (scene rom work store st) n o next h f))
       by false f =
           given (activated Done (childOf (st .tree) (st .active)) (st .tree .nodes)) work store (e ∙ rw f)
           ∙ sym (carried (scene rom work store st) (tokenOf n 0x1710_0000 o next) (open-good (scene rom work store st) n o next h f))
@@ -184,11 +191,11 @@ module _ (rom work store : List ℕ) (st : State) (t : Token) (next takes : ℕ)
       ∙ put-told e f
 
 -- ---- why it is refused, of a store and a tree that are whole
-module _ (tree : Tree) (store : List ℕ) (node : ℕ) (name value : List ℕ) (l : length store ≡ 16384) (w : wholeTree tree ≡ true) where
+module _ (tree : Tree) (store : List ℕ) (node : ℕ) (name value : List ℕ) (l : length store ≡ storeSize) (w : wholeTree tree ≡ true) where
   refusal-is : putRefusal tree store node name value
       ≡ pick (badName name) 26 (pick (overfull (wouldHold tree store node name value)) 27 0)
   unfolding putRefusal
-  refusal-is = rw (eq-eqb (length store) 16384 l, w)
+  refusal-is = rw (eq-eqb (length store) storeSize l, w)
 
 -- neither device-name nor model: device-type
 pub other-title : (n : ℕ) → (Unit {0} × (n ≡ 0x201 → ⊥)) × (n ≡ 0x119 → ⊥)
@@ -196,26 +203,28 @@ pub other-title : (n : ℕ) → (Unit {0} × (n ≡ 0x201 → ⊥)) × (n ≡ 0x
 other-title n r = rw (ne-eqb n 0x201 (r .0 .1), ne-eqb n 0x119 (r .1))
 
 -- ---- property
-module _ (rom work store : List ℕ) (st : State) (next : ℕ) (h : st .stack .height ≤ 64) (l : 4 ≤ st .stack .height) (p q t u : Popped)
+module _ (rom work store : List ℕ) (st : State) (next : ℕ) (h : st .stack .height ≤ dataMost) (l : 4 ≤ st .stack .height) (p q t u : Popped)
     (e : p ≡ popOf st) (f : q ≡ popOf (p .state)) (g : t ≡ popOf (q .state)) (i : u ≡ popOf (t .state)) where
   abbrev range : ℕ → ℕ → Bool
   range address count = badRange rom work (st .length) address count
 
-  pub property-bad-name-told : (r : Stepped) → range (q .cell) (p .cell) ≡ true → r ≡ stepped (Refused 22) st → KeepsFrom rom work store store st next r
+  pub property-bad-name-told : (r : Stepped) → range (q .cell) (p .cell) ≡ true → r ≡ stepped (Refused 22) st
+      → KeepsFrom rom work store store st next r
   property-bad-name-told r b w n o =
       let c = four-pops st p q t u l e f g i in
       rw w (sym (stopped (scene rom work store st) (tokenOf n 0x1500_0040 o next) 22 refl
       (property-bad-name (scene rom work store st) n o next h l (rw (← c .0, ← c .1) b))))
 
   module _ (b : range (q .cell) (p .cell) ≡ false) where
-    pub property-bad-value-told : (r : Stepped) → range (u .cell) (t .cell) ≡ true → r ≡ stepped (Refused 22) st → KeepsFrom rom work store store st next r
+    pub property-bad-value-told : (r : Stepped) → range (u .cell) (t .cell) ≡ true → r ≡ stepped (Refused 22) st
+        → KeepsFrom rom work store store st next r
     property-bad-value-told r d w n o =
         let c = four-pops st p q t u l e f g i in
         rw w (sym (stopped (scene rom work store st) (tokenOf n 0x1500_0040 o next) 22 refl
         (property-bad-value (scene rom work store st) n o next h l (rw (← c .0, ← c .1) b) (rw (← c .2, ← c .3) d))))
 
     pub property-told : (name value then : List ℕ) (v : Written) (r : Stepped) → range (u .cell) (t .cell) ≡ false
-        → length store ≡ 16384 → wholeTree (st .tree) ≡ true
+        → length store ≡ storeSize → wholeTree (st .tree) ≡ true
         → name ≡ resolveOf rom work (st .length) (q .cell) (p .cell) → value ≡ resolveOf rom work (st .length) (u .cell) (t .cell)
         → v ≡ putOf (st .tree) store (st .active) name (valueOf value false)
         → then ≡ storeOf (st .tree) store (st .active) name (valueOf value false)
@@ -240,7 +249,7 @@ module _ (rom work store : List ℕ) (st : State) (next : ℕ) (h : st .stack .h
         ∙ ap (λ (b : List ℕ). storeOf (st .tree) store (st .active) one b) i) k
 
 -- ---- device-name, model, device-type
-module _ (rom work store : List ℕ) (st : State) (n next : ℕ) (h : st .stack .height ≤ 64) (l : 2 ≤ st .stack .height) (p q : Popped)
+module _ (rom work store : List ℕ) (st : State) (n next : ℕ) (h : st .stack .height ≤ dataMost) (l : 2 ≤ st .stack .height) (p q : Popped)
     (e : p ≡ popOf st) (f : q ≡ popOf (p .state)) where
   pub title-bad-told : (r : Stepped) → badRange rom work (st .length) (q .cell) (p .cell) ≡ true → r ≡ stepped (Refused 22) st
       → KeepsBy n rom work store store st next r
@@ -250,7 +259,7 @@ module _ (rom work store : List ℕ) (st : State) (n next : ℕ) (h : st .stack 
       (title-bad (scene rom work store st) n o next h l (rw (← c .0, ← c .1) b))))
 
   pub title-told : (value then : List ℕ) (v : Written) (r : Stepped) → badRange rom work (st .length) (q .cell) (p .cell) ≡ false
-      → length store ≡ 16384 → wholeTree (st .tree) ≡ true → value ≡ resolveOf rom work (st .length) (q .cell) (p .cell)
+      → length store ≡ storeSize → wholeTree (st .tree) ≡ true → value ≡ resolveOf rom work (st .length) (q .cell) (p .cell)
       → v ≡ putOf (st .tree) store (st .active) (titleOf n) (valueOf value true)
       → then ≡ storeOf (st .tree) store (st .active) (titleOf n) (valueOf value true)
       → r ≡ keptOn st (poppedBy st 2) next v → KeepsBy n rom work store then st next r

@@ -8,7 +8,7 @@ use borrow.Author.Tests.{ltb-true, ltb-false}
 use lib.ListN.{length, getD}
 use lib.Seq.{getD-set-same, getD-set-other}
 use Rattle.cells.specs.Choice.{pick}
-use Rattle.tokens.specs.Table.{isProgram}
+use Rattle.tokens.specs.Table.{isProgram, programsMost, firstProgram}
 use Rattle.tokens.specs.Family.{assign, call}
 use Rattle.tokens.specs.Body.{numberIn}
 use Rattle.tokens.specs.declared.decoding.Operand.{Operand}
@@ -47,11 +47,14 @@ kinds-any : (names kinds values values′ : List ℕ) (ways ways′ : List Bool)
 unfolding kindsFrom kindHeld
 kinds-any names kinds values values′ ways ways′ held zero n = refl
 kinds-any names kinds values values′ ways ways′ held (suc k) n =
-    ap (λ (l : List ℕ). kindHeld (numbersOn names kinds values ways held) n ∷ l) (kinds-any names kinds values values′ ways ways′ held k (n + 1))
+    ap (λ (l : List ℕ). kindHeld (numbersOn names kinds values ways held) n ∷ l)
+    (kinds-any names kinds values values′ ways ways′ held k (n + 1))
 
-pub tables-of : (slots known names kinds values : List ℕ) (ways : List Bool) (held : ℕ) → Tabled slots known (numbersOn names kinds values ways held)
+pub tables-of : (slots known names kinds values : List ℕ) (ways : List Bool) (held : ℕ)
+    → Tabled slots known (numbersOn names kinds values ways held)
     → Tables slots known names kinds held
-tables-of slots known names kinds values ways held t values′ ways′ = (t .0, t .1 ∙ kinds-any names kinds values values′ ways ways′ held 2048 0x800)
+tables-of slots known names kinds values ways held t values′ ways′ =
+    (t .0, t .1 ∙ kinds-any names kinds values values′ ways ways′ held programsMost firstProgram)
 
 -- one number more in both tables
 pub tabled-defined : (slots known slots' known' : List ℕ) (ns : Numbers) (n kind v : ℕ) (wide : Bool) → ns .count < length (ns .programs)
@@ -68,7 +71,8 @@ tabled-defined slots known slots' known' ns n kind v wide h l e t p q = (
       ∙ kinds-all (definedOf ns n kind v wide),
 )
 
-module _ (slots : List ℕ) (st : State) (n slot : ℕ) (e : slots ≡ slotsOf (st .numbers)) (f : slot ≡ slotIn slots n) (z : slot ≡ 0) (next : ℕ) (r : Stepped)
+module _ (slots : List ℕ) (st : State) (n slot : ℕ) (e : slots ≡ slotsOf (st .numbers)) (f : slot ≡ slotIn slots n) (z : slot ≡ 0)
+    (next : ℕ) (r : Stepped)
     (w : r ≡ stepped (Refused 12) st) where
   pub enter-unheld : QuietBy n call st next r
   enter-unheld = by (isProgram n) refl

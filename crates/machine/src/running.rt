@@ -36,6 +36,7 @@ use state::core_of;
 use state::going;
 use state::is_whole;
 use state::refused;
+use tokens::programs::PROGRAMS_MOST;
 use tree::Tree;
 use tree::tail_of;
 
@@ -123,8 +124,8 @@ fn cruise(
         (now (names .entry)) (now (kinds .entry)) (now (values .entry)) (now (ways .entry)) (now (parents .entry)) (now (owners .entry))
         (now (titles .entry)) (now (sizes .entry))) start)) ⌝ }
 {
-    let mut slots = [0u16; 2048];
-    let mut known = [0u8; 2048];
+    let mut slots = [0u16; PROGRAMS_MOST];
+    let mut known = [0u8; PROGRAMS_MOST];
     fill_tables(&mut slots, &mut known, &*names, &*kinds, start.held);
     let mut tail = tail_of(&*titles, &*sizes, start.records);
     let mut core = start;

@@ -6,7 +6,8 @@ use mathlib.Core.List.{List, [], _∷_}
 use lib.Dec.{eqb, ltb}
 use lib.ListN.{length, getD}
 use Rattle.cells.specs.Choice.{pick, find}
-use Rattle.tokens.specs.Family.{finish, text, widen, leave, fetch, store, define, assign, call, encodeInt, encodeString, join, property, titled}
+use Rattle.tokens.specs.Family.{finish, text, widen, leave, fetch, store, define, assign, call, encodeInt, encodeString, join, property}
+use Rattle.tokens.specs.Family.{titled}
 use Rattle.tokens.specs.Family.{newDevice, finishDevice}
 use Rattle.tokens.specs.Decode.{tokenOf}
 use Rattle.tokens.specs.declared.decoding.Operand.{Operand}
@@ -36,6 +37,7 @@ use Rattle.state.specs.Joints.Apart.{Arrays, joined, backOn, handed, answerOf, 
 use Rattle.state.specs.Step.{readyOf, doneOf}
 use Rattle.state.specs.Step.{tokenTurn as turnOf}
 use Rattle.state.specs.Joints.Tables.{slotsOf}
+use Rattle.rom.specs.Sizes.{dataMost, numbersMost, romMost, workSize}
 use Rattle.state.specs.declared.state.State.{State}
 use Rattle.state.specs.declared.state.Numbers.{Numbers}
 use Rattle.state.specs.declared.answer.Answer.the-variants.{Going, Refused}
@@ -48,8 +50,10 @@ use Rattle.acts.specs.declared.acted.Acted.{Acted}
 -- ---- the families whose tokens are done here, and their codes; a definition whose name is passed over has another besides
 abbrev pub coldFamilies : List (ℕ × ℕ)
 coldFamilies =
-    (finish, 0x0210_0000) ∷ (text, 0x0502_0002) ∷ (widen, 0x0610_0000) ∷ (leave, 0x0B20_0000) ∷ (fetch, 0x0C00_0011) ∷ (store, 0x0D00_0020) ∷
-    (define, 0x0E15_0000) ∷ (assign, 0x1004_0010) ∷ (call, 0x1100_0000) ∷ (encodeInt, 0x1200_0012) ∷ (encodeString, 0x1300_0022) ∷ (join, 0x1400_0042) ∷
+    (finish, 0x0210_0000) ∷ (text, 0x0502_0002) ∷ (widen, 0x0610_0000) ∷ (leave, 0x0B20_0000) ∷ (fetch, 0x0C00_0011) ∷
+    (store, 0x0D00_0020) ∷
+    (define, 0x0E15_0000) ∷ (assign, 0x1004_0010) ∷ (call, 0x1100_0000) ∷ (encodeInt, 0x1200_0012) ∷ (encodeString, 0x1300_0022) ∷
+    (join, 0x1400_0042) ∷
     (property, 0x1500_0040) ∷ (titled, 0x1600_0020) ∷ (newDevice, 0x1710_0000) ∷ (finishDevice, 0x1810_0000) ∷ []
 
 abbrev pub codeFor : ℕ → ℕ
@@ -100,7 +104,7 @@ abbrev pub Variables : ℕ → List ℕ → List ℕ → State → ℕ → Stepp
 Variables number work then st next r = (rom : List ℕ) → Defines (Definition number variable) rom work then st next r
 
 abbrev pub Fresh : Numbers → ℕ → Type 0
-Fresh ns number = (isHeld ns number ≡ false) × (ns .count + 1 ≤ 256)
+Fresh ns number = (isHeld ns number ≡ false) × (ns .count + 1 ≤ numbersMost)
 
 -- b(value) and b(constant), which take the value
 abbrev pub TakesValue : ℕ → Type 0
@@ -117,7 +121,8 @@ KeepsBy n rom work store then st next r =
 
 -- ---- the arrays that a program number's call may change or look at
 abbrev pub onProgram : List ℕ → List ℕ → List Bool → List ℕ → List ℕ → List ℕ → List ℕ → List Bool → Arrays → Arrays
-onProgram cells places wides bases names kinds values ways a = onNumbers names kinds values ways (onCalls places wides bases (onStack cells a))
+onProgram cells places wides bases names kinds values ways a =
+    onNumbers names kinds values ways (onCalls places wides bases (onStack cells a))
 
 -- the two tables by program number: where each stands, and the kinds that reading a body goes by
 abbrev pub Tabled : List ℕ → List ℕ → Numbers → Type 0
@@ -136,14 +141,16 @@ abbrev pub slotIn : List ℕ → ℕ → ℕ
 slotIn slots n = pick (isProgram n) (getD slots (n - 0x800) 0) 0
 
 -- a program number, and b(to), on the arrays that they are lent
-abbrev pub Enters : ℕ → List ℕ → List ℕ → List Bool → List ℕ → List ℕ → List ℕ → List ℕ → List Bool → Core → ℕ → Handed → List ℕ → List ℕ → List Bool
+abbrev pub Enters : ℕ → List ℕ → List ℕ → List Bool → List ℕ → List ℕ → List ℕ → List ℕ → List Bool → Core → ℕ → Handed → List ℕ → List ℕ
+    → List Bool
     → List ℕ → Type 0
 Enters number c p w b names kinds values ways k next r d q x e =
     Moves (onProgram c p w b names kinds values ways) k r (onProgram d q x e names kinds values ways) (λ s t. QuietBy number call s next t)
 
 abbrev pub Assigns : ℕ → List ℕ → List ℕ → List ℕ → List ℕ → Core → ℕ → Handed → List ℕ → Type 0
 Assigns number c names kinds values k next r then =
-    (ways : List Bool) → Moves (λ a. onNumbers names kinds values ways (onStack c a)) k r (λ a. onNumbers names kinds then ways (onStack c a))
+    (ways : List Bool) → Moves (λ a. onNumbers names kinds values ways (onStack c a)) k r
+    (λ a. onNumbers names kinds then ways (onStack c a))
     (λ s t. QuietOf assign (Number number) s next t)
 
 -- one number more: the numbers then, where the tables are of those before
@@ -154,8 +161,8 @@ ByNumber ns k number kind v r then =
 
 -- what a definition asks of them
 abbrev pub Definable : List ℕ → List ℕ → Numbers → Type 0
-Definable slots known ns = Tables slots known (ns .programs) (ns .kinds) (ns .count) × (length (ns .programs) ≡ 256)
-    × (length (ns .kinds) ≡ 256)
+Definable slots known ns = Tables slots known (ns .programs) (ns .kinds) (ns .count) × (length (ns .programs) ≡ numbersMost)
+    × (length (ns .kinds) ≡ numbersMost)
 
 -- and what it leaves, of the arrays and of the tables
 abbrev pub Adds : Numbers → Core → Handed → Numbers → List ℕ → List ℕ → (State → Stepped → Type 0) → Type 0
@@ -207,7 +214,8 @@ filedOf k taken next (NotDone why) records tail = record { told = Not why; core 
 abbrev pub onFiles : List ℕ → List ℕ → List ℕ → List ℕ → Arrays → Arrays
 onFiles cells owners titles sizes a = onRecords owners titles sizes (onStack cells a)
 
-abbrev pub Files : List ℕ → List ℕ → List ℕ → List ℕ → Core → Acted → List ℕ → List ℕ → List ℕ → List ℕ → (State → Stepped → Type 0) → Type 0
+abbrev pub Files : List ℕ → List ℕ → List ℕ → List ℕ → Core → Acted → List ℕ → List ℕ → List ℕ → List ℕ → (State → Stepped → Type 0)
+    → Type 0
 Files cells owners titles sizes k r owners′ titles′ sizes′ store P =
     ((a : Arrays) → wholeTree (joined (onFiles cells owners titles sizes a) k .tree) ≡ true
     → P (joined (onFiles cells owners titles sizes a) k) (backOn (onFiles cells owners′ titles′ sizes′ a) (handed (r .told) (r .core))))
@@ -252,17 +260,20 @@ abbrev pub Ready : List ℕ → List ℕ → List ℕ → State → Type 0
 Ready rom work store st = readyOf (scene rom work store st) ≡ Going
 
 -- ---- any token that is not hot, on every array of a state but the return stack's
-abbrev pub everyOn : List ℕ → List ℕ → List Bool → List ℕ → List ℕ → List ℕ → List ℕ → List Bool → List ℕ → List ℕ → List ℕ → List ℕ → Arrays → Arrays
+abbrev pub everyOn : List ℕ → List ℕ → List Bool → List ℕ → List ℕ → List ℕ → List ℕ → List Bool → List ℕ → List ℕ → List ℕ → List ℕ
+    → Arrays → Arrays
 everyOn cells places wides bases names kinds values ways parents owners titles sizes a =
     onNodes parents (onRecords owners titles sizes (onProgram cells places wides bases names kinds values ways a))
 
 -- heights, counts and places are in their limits
 abbrev pub Fit : List ℕ → Core → Type 0
-Fit rom k = (k .height ≤ 64) × (k .held ≤ 256) × (k .«work_place» ≤ 16384) × (k .length ≤ length rom) × (k .place ≤ 16384)
+Fit rom k = (k .height ≤ dataMost) × (k .held ≤ numbersMost) × (k .«work_place» ≤ workSize) × (k .length ≤ length rom)
+    × (k .place ≤ romMost)
 
 -- the token that was seen at the place, and may stand there
 abbrev pub GlanceSeen : List ℕ → Core → Glance → Type 0
-GlanceSeen rom k g = (glanceOf rom (k .length) (k .wide) (k .place) ≡ g) × (g .code ≡ 0 → ⊥) × (misplacedOf (g .code) (ltb 0 (k .frames)) ≡ false)
+GlanceSeen rom k g = (glanceOf rom (k .length) (k .wide) (k .place) ≡ g) × (g .code ≡ 0 → ⊥)
+    × (misplacedOf (g .code) (ltb 0 (k .frames)) ≡ false)
 
 -- what it leaves is the step's own turn, where the tree is whole
 abbrev pub Comes : List ℕ → (Arrays → Arrays) → List ℕ → List ℕ → Core → Acted → (Arrays → Arrays) → List ℕ → List ℕ → Type 0

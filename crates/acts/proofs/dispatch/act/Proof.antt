@@ -22,9 +22,12 @@ use Rattle.acts.proofs.dispatch.act.Tie as tie
 
 sub-quote : tie.Need-sub-quote
 sub-quote c =
-    let p = c .before .before .before .before .before .before .before .pre in
-    let x = c .before .before .before .before .before .before .before .args in
-    let f = sym (c .before .before .before .family-of .ensures) ∙ c .before .before .match .keys2 in
+    let match = c .before .before .match in
+    let family-of = c .before .before .before .family-of in
+    let c₁ = c .before .before .before .before .before .before .before in
+    let p = c₁ .pre in
+    let x = c₁ .args in
+    let f = sym (family-of .ensures) ∙ match .keys2 in
     let a = noArrays in
     let b = text-fits (now (x .rom)) (x .core .length) (x .core .wide) _ (x .core .place) (x .seen) (p .1 .0) (p .1 .1) (p .1 .2)
     (text-form (now (x .rom)) (now (x .work)) (now (x .store)) (joined
@@ -42,9 +45,12 @@ quote-requires c κs =
 
 leave-body-requires : tie.Need-leave-body-requires
 leave-body-requires c κs =
-    let p = c .before .before .before .before .before .before .before .before .pre in
-    let x = c .before .before .before .before .before .before .before .before .args in
-    let f = sym (c .before .before .before .before .family-of .ensures) ∙ c .before .before .before .match .keys4 in
+    let match = c .before .before .before .match in
+    let family-of = c .before .before .before .before .family-of in
+    let c₁ = c .before .before .before .before .before .before .before .before in
+    let p = c₁ .pre in
+    let x = c₁ .args in
+    let f = sym (family-of .ensures) ∙ match .keys4 in
     let a = noArrays in (
       p .0 .0,
       frames-open (now (x .rom)) (now (x .work)) (now (x .store))
@@ -55,11 +61,15 @@ leave-body-requires c κs =
 
 define-number-requires : tie.Need-define-number-requires
 define-number-requires c κs =
-    let p = c .before .before .before .before .before .before .before .before .before .before .before .before .before .pre in
-    let y = c .before .before .before .before .before .before .before .before .before .before .before .before .before .args in
+    let match = c .before .before .before .before .before .before .before .before .match in
+    let family-of = c .before .before .before .before .before .before .before .before .before .family-of in
+    let c₁ = c .before .before .before .before .before .before .before .before .before .before .before .before in
+    let c₂ = c₁ .before in
+    let p = c₂ .pre in
+    let y = c₂ .args in
     let x = y in
-    let f = sym (c .before .before .before .before .before .before .before .before .before .family-of .ensures)
-    ∙ c .before .before .before .before .before .before .before .before .match .keys7 in
+    let f = sym (family-of .ensures)
+    ∙ match .keys7 in
     let a = noArrays in
     let d = define-fits (now (x .rom)) (now (x .work)) (now (x .store))
     (joined (everyOn (now (x .cells)) (now (x .places)) (now (x .wides)) (now (x .bases)) (now (x .names)) (now (x .kinds))
@@ -82,7 +92,8 @@ assign-value-requires c κs =
 
 enter-requires : tie.Need-enter-requires
 enter-requires c κs =
-    let p = c .before .before .before .before .before .before .before .before .before .before .before .before .before .before .pre in
+    let c₁ = c .before .before .before .before .before .before .before .before .before .before .before .before in
+    let p = c₁ .before .before .pre in
     (p .0 .0, p .0 .1, p .5 .0 [] [] .0)
 
 put-named-requires : tie.Need-put-named-requires
@@ -97,9 +108,12 @@ put-titled-requires c κs =
 
 returns : tie.Need-returns
 returns c =
-    let p = c .before .before .before .before .before .before .before .pre in
-    let x = c .before .before .before .before .before .before .before .args in
-    let f = sym (c .before .before .before .family-of .ensures) ∙ c .before .before .match .keys1 in
+    let match = c .before .before .match in
+    let family-of = c .before .before .before .family-of in
+    let c₁ = c .before .before .before .before .before .before .before in
+    let p = c₁ .pre in
+    let x = c₁ .args in
+    let f = sym (family-of .ensures) ∙ match .keys1 in
     rw (c .with-tail .ensures) (plain-comes (now (x .rom)) (x .core) (x .seen) (p .1) 2 f
     (λ a. everyOn (now (x .cells)) (now (x .places)) (now (x .wides)) (now (x .bases)) (now (x .names)) (now (x .kinds))
     (now (x .values)) (now (x .ways)) (now (x .parents)) (now (x .owners)) (now (x .titles)) (now (x .sizes)) a) _ (now (x .work)) _
@@ -111,10 +125,13 @@ returns c =
 
 returns-2 : tie.Need-returns-2
 returns-2 c =
-    let p = c .before .before .before .before .before .before .before .before .before .pre in
-    let x = c .before .before .before .before .before .before .before .before .before .args in
+    let match = c .before .before .before .before .match in
+    let family-of = c .before .before .before .before .before .family-of in
+    let c₁ = c .before .before .before .before .before .before .before .before .before in
+    let p = c₁ .pre in
+    let x = c₁ .args in
     let s = p .1 in
-    let f = sym (c .before .before .before .before .before .family-of .ensures) ∙ c .before .before .before .before .match .keys2 in
+    let f = sym (family-of .ensures) ∙ match .keys2 in
     rw (c .with-tail2 .ensures) (quiet-comes (now (x .rom)) (x .core) (x .seen) s 5 f
     (λ a. everyOn (now (x .cells)) (now (x .places)) (now (x .wides)) (now (x .bases)) (now (x .names)) (now (x .kinds))
     (now (x .values)) (now (x .ways)) (now (x .parents)) (now (x .owners)) (now (x .titles)) (now (x .sizes)) a) _ (now (x .work)) _
@@ -128,9 +145,12 @@ returns-2 c =
 
 returns-3 : tie.Need-returns-3
 returns-3 c =
-    let p = c .before .before .before .before .before .before .before .pre in
-    let x = c .before .before .before .before .before .before .before .args in
-    let f = sym (c .before .before .before .family-of .ensures) ∙ c .before .before .match .keys3 in
+    let match = c .before .before .match in
+    let family-of = c .before .before .before .family-of in
+    let c₁ = c .before .before .before .before .before .before .before in
+    let p = c₁ .pre in
+    let x = c₁ .args in
+    let f = sym (family-of .ensures) ∙ match .keys3 in
     rw (c .with-tail3 .ensures) (plain-comes (now (x .rom)) (x .core) (x .seen) (p .1) 6 f
     (λ a. everyOn (now (x .cells)) (now (x .places)) (now (x .wides)) (now (x .bases)) (now (x .names)) (now (x .kinds))
     (now (x .values)) (now (x .ways)) (now (x .parents)) (now (x .owners)) (now (x .titles)) (now (x .sizes)) a) _ (now (x .work)) _
@@ -142,10 +162,13 @@ returns-3 c =
 
 returns-4 : tie.Need-returns-4
 returns-4 c =
-    let p = c .before .before .before .before .before .before .before .before .before .before .pre in
-    let x = c .before .before .before .before .before .before .before .before .before .before .args in
-    let f = sym (c .before .before .before .before .before .before .family-of .ensures)
-    ∙ c .before .before .before .before .before .match .keys4 in
+    let match = c .before .before .before .before .before .match in
+    let family-of = c .before .before .before .before .before .before .family-of in
+    let c₁ = c .before .before .before .before .before .before .before .before .before .before in
+    let p = c₁ .pre in
+    let x = c₁ .args in
+    let f = sym (family-of .ensures)
+    ∙ match .keys4 in
     rw (c .with-tail4 .ensures) (plain-comes (now (x .rom)) (x .core) (x .seen) (p .1) 11 f
     (λ a. everyOn (now (x .cells)) (now (x .places)) (now (x .wides)) (now (x .bases)) (now (x .names)) (now (x .kinds))
     (now (x .values)) (now (x .ways)) (now (x .parents)) (now (x .owners)) (now (x .titles)) (now (x .sizes)) a) _ (now (x .work)) _
@@ -157,9 +180,12 @@ returns-4 c =
 
 returns-5 : tie.Need-returns-5
 returns-5 c =
-    let p = c .before .before .before .before .before .before .before .before .before .pre in
-    let x = c .before .before .before .before .before .before .before .before .before .args in
-    let f = sym (c .before .before .before .before .before .family-of .ensures) ∙ c .before .before .before .before .match .keys5 in
+    let match = c .before .before .before .before .match in
+    let family-of = c .before .before .before .before .before .family-of in
+    let c₁ = c .before .before .before .before .before .before .before .before .before in
+    let p = c₁ .pre in
+    let x = c₁ .args in
+    let f = sym (family-of .ensures) ∙ match .keys5 in
     rw (c .with-tail5 .ensures) (plain-comes (now (x .rom)) (x .core) (x .seen) (p .1) 12 f
     (λ a. everyOn (now (x .cells)) (now (x .places)) (now (x .wides)) (now (x .bases)) (now (x .names)) (now (x .kinds))
     (now (x .values)) (now (x .ways)) (now (x .parents)) (now (x .owners)) (now (x .titles)) (now (x .sizes)) a) _ (now (x .work)) _
@@ -170,34 +196,41 @@ returns-5 c =
 
 returns-6 : tie.Need-returns-6
 returns-6 c =
-    let p = c .before .before .before .before .before .before .before .before .before .before .before .pre in
-    let y = c .before .before .before .before .before .before .before .before .before .before .before .args in
+    let store-to = c .before .before .before .store-to in
+    let match = c .before .before .before .before .before .before .match in
+    let family-of = c .before .before .before .before .before .before .before .family-of in
+    let c₁ = c .before .before .before .before .before .before .before .before .before .before .before in
+    let p = c₁ .pre in
+    let y = c₁ .args in
     let x = y in
-    let f = sym (c .before .before .before .before .before .before .before .family-of .ensures)
-    ∙ c .before .before .before .before .before .before .match .keys6 in
+    let f = sym (family-of .ensures)
+    ∙ match .keys6 in
     rw (c .with-tail6 .ensures) (plain-comes (now (x .rom)) (x .core) (x .seen) (p .1) 13 f
     (λ a. everyOn (now (x .cells)) (now (x .places)) (now (x .wides)) (now (x .bases)) (now (x .names)) (now (x .kinds))
     (now (x .values)) (now (x .ways)) (now (x .parents)) (now (x .owners)) (now (x .titles)) (now (x .sizes)) a) _ (now (x .work)) _
-    (c .before .before .before .store-to .result) (tt, tt, tt, tt, refl)
-    (λ a m. c .before .before .before .store-to .ensures (everyOn (now (x .cells)) (now (x .places)) (now (x .wides))
+    (store-to .result) (tt, tt, tt, tt, refl)
+    (λ a m. store-to .ensures (everyOn (now (x .cells)) (now (x .places)) (now (x .wides))
     (now (x .bases)) (now (x .names)) (now (x .kinds)) (now (x .values)) (now (x .ways)) (now (x .parents)) (now (x .owners))
     (now (x .titles)) (now (x .sizes)) a) Nothing _ m) (now (x .slots)) (now (x .known)) (now (x .names)) (now (x .kinds))
     (now (x .store)) (now (x .titles)) (now (x .sizes)) (x .tail) (p .5))
 
 returns-7 : tie.Need-returns-7
 returns-7 c =
-    let p = c .before .before .before .before .before .before .before .before .before .before .before .before .before .before .before
-    .before .before .pre in
-    let y = c .before .before .before .before .before .before .before .before .before .before .before .before .before .before .before
-    .before .before .args in
+    let define-number = c .before .before .before .define-number in
+    let match = c .before .before .before .before .before .before .before .before .before .before .before .before .match in
+    let c₁ = c .before .before .before .before .before .before .before .before .before .before .before .before in
+    let family-of = c₁ .before .family-of in
+    let c₂ = c₁ .before .before .before .before .before in
+    let p = c₂ .pre in
+    let y = c₂ .args in
     let x = y in
-    let f = sym (c .before .before .before .before .before .before .before .before .before .before .before .before .before .family-of
-    .ensures) ∙ c .before .before .before .before .before .before .before .before .before .before .before .before .match .keys7 in
+    let f = sym (family-of
+    .ensures) ∙ match .keys7 in
     rw (c .with-tail7 .ensures) (
       λ a w. define-turn (now (x .rom)) (now (x .work)) (now (x .store))
           (joined (everyOn (now (x .cells)) (now (x .places)) (now (x .wides)) (now (x .bases)) (now (x .names)) (now (x .kinds))
           (now (x .values)) (now (x .ways)) (now (x .parents)) (now (x .owners)) (now (x .titles)) (now (x .sizes)) a) (x .core)) (x .seen)
-          (p .1 .0) (p .1 .1) (p .1 .2) f _ (c .before .before .before .define-number .ensures .0
+          (p .1 .0) (p .1 .1) (p .1 .2) f _ (define-number .ensures .0
           (everyOn (now (x .cells)) (now (x .places)) (now (x .wides)) (now (x .bases)) (now (x .names)) (now (x .kinds)) (now (x .values))
           (now (x .ways)) (now (x .parents)) (now (x .owners)) (now (x .titles)) (now (x .sizes)) a)
           (byteOf (now (x .rom)) (x .core .place)) _),
@@ -207,11 +240,11 @@ returns-7 c =
           (x .core)) (x .seen) (p .1 .0) (p .1 .1) (p .1 .2) 14 f tt tt _ (define-turn (now (x .rom)) (now (x .work)) (now (x .store))
           (joined (everyOn (now (x .cells)) (now (x .places)) (now (x .wides)) (now (x .bases)) (now (x .names)) (now (x .kinds))
           (now (x .values)) (now (x .ways)) (now (x .parents)) (now (x .owners)) (now (x .titles)) (now (x .sizes)) a) (x .core)) (x .seen)
-          (p .1 .0) (p .1 .1) (p .1 .2) f _ (c .before .before .before .define-number .ensures .0
+          (p .1 .0) (p .1 .1) (p .1 .2) f _ (define-number .ensures .0
           (everyOn (now (x .cells)) (now (x .places)) (now (x .wides)) (now (x .bases)) (now (x .names)) (now (x .kinds)) (now (x .values))
           (now (x .ways)) (now (x .parents)) (now (x .owners)) (now (x .titles)) (now (x .sizes)) a)
           (byteOf (now (x .rom)) (x .core .place)) _)) in (
-            c .before .before .before .define-number .ensures .1,
+            define-number .ensures .1,
             subst
                 (λ (n : ℕ). Tallied (now (x .store)) (now (x .titles)) (now (x .sizes)) n (x .tail)) (sym g) (p .5 .1),
           ),
@@ -219,12 +252,15 @@ returns-7 c =
 
 returns-8 : tie.Need-returns-8
 returns-8 c =
-    let p = c .before .before .before .before .before .before .before .before .before .before .before .before .pre in
-    let y = c .before .before .before .before .before .before .before .before .before .before .before .before .args in
+    let match = c .before .before .before .before .before .before .before .match in
+    let family-of = c .before .before .before .before .before .before .before .before .family-of in
+    let c₁ = c .before .before .before .before .before .before .before .before .before .before .before .before in
+    let p = c₁ .pre in
+    let y = c₁ .args in
     let x = y in
     let s = p .1 in
-    let f = sym (c .before .before .before .before .before .before .before .before .family-of .ensures)
-    ∙ c .before .before .before .before .before .before .before .match .keys8 in
+    let f = sym (family-of .ensures)
+    ∙ match .keys8 in
     rw (c .with-tail8 .ensures) (quiet-comes (now (x .rom)) (x .core) (x .seen) s 16 f
     (λ a. everyOn (now (x .cells)) (now (x .places)) (now (x .wides)) (now (x .bases)) (now (x .names)) (now (x .kinds))
     (now (x .values)) (now (x .ways)) (now (x .parents)) (now (x .owners)) (now (x .titles)) (now (x .sizes)) a) _ (now (x .work)) _
@@ -239,13 +275,15 @@ returns-8 c =
 
 returns-9 : tie.Need-returns-9
 returns-9 c =
-    let p = c .before .before .before .before .before .before .before .before .before .before .before .before .before .before .before
-    .before .pre in
-    let y = c .before .before .before .before .before .before .before .before .before .before .before .before .before .before .before
-    .before .args in
+    let match = c .before .before .before .before .before .before .before .before .before .before .before .match in
+    let family-of = c .before .before .before .before .before .before .before .before .before .before .before .before .family-of in
+    let c₁ = c .before .before .before .before .before .before .before .before .before .before .before .before in
+    let c₂ = c₁ .before .before .before .before in
+    let p = c₂ .pre in
+    let y = c₂ .args in
     let x = y in
-    let f = sym (c .before .before .before .before .before .before .before .before .before .before .before .before .family-of .ensures)
-    ∙ c .before .before .before .before .before .before .before .before .before .before .before .match .keys9 in
+    let f = sym (family-of .ensures)
+    ∙ match .keys9 in
     rw (c .with-tail9 .ensures) (plain-comes (now (x .rom)) (x .core) (x .seen) (p .1) 17 f
     (λ a. everyOn (now (x .cells)) (now (x .places)) (now (x .wides)) (now (x .bases)) (now (x .names)) (now (x .kinds))
     (now (x .values)) (now (x .ways)) (now (x .parents)) (now (x .owners)) (now (x .titles)) (now (x .sizes)) a) _ (now (x .work)) _
@@ -256,41 +294,52 @@ returns-9 c =
 
 returns-10 : tie.Need-returns-10
 returns-10 c =
-    let p = c .before .before .before .before .before .before .before .before .before .before .before .pre in
-    let y = c .before .before .before .before .before .before .before .before .before .before .before .args in
+    let encode-int = c .before .before .before .encode-int in
+    let match = c .before .before .before .before .before .before .match in
+    let family-of = c .before .before .before .before .before .before .before .family-of in
+    let c₁ = c .before .before .before .before .before .before .before .before .before .before .before in
+    let p = c₁ .pre in
+    let y = c₁ .args in
     let x = y in
-    let f = sym (c .before .before .before .before .before .before .before .family-of .ensures)
-    ∙ c .before .before .before .before .before .before .match .keys10 in
+    let f = sym (family-of .ensures)
+    ∙ match .keys10 in
     rw (c .with-tail10 .ensures) (plain-comes (now (x .rom)) (x .core) (x .seen) (p .1) 18 f
     (λ a. everyOn (now (x .cells)) (now (x .places)) (now (x .wides)) (now (x .bases)) (now (x .names)) (now (x .kinds))
     (now (x .values)) (now (x .ways)) (now (x .parents)) (now (x .owners)) (now (x .titles)) (now (x .sizes)) a) _ (now (x .work)) _
-    (c .before .before .before .encode-int .result) (tt, tt, tt, tt, refl)
-    (λ a m. c .before .before .before .encode-int .ensures (everyOn (now (x .cells)) (now (x .places)) (now (x .wides))
+    (encode-int .result) (tt, tt, tt, tt, refl)
+    (λ a m. encode-int .ensures (everyOn (now (x .cells)) (now (x .places)) (now (x .wides))
     (now (x .bases)) (now (x .names)) (now (x .kinds)) (now (x .values)) (now (x .ways)) (now (x .parents)) (now (x .owners))
     (now (x .titles)) (now (x .sizes)) a) (x .seen .number) Nothing _ m) (now (x .slots)) (now (x .known)) (now (x .names))
     (now (x .kinds)) (now (x .store)) (now (x .titles)) (now (x .sizes)) (x .tail) (p .5))
 
 returns-11 : tie.Need-returns-11
 returns-11 c =
-    let p = c .before .before .before .before .before .before .before .before .before .before .before .pre in
-    let y = c .before .before .before .before .before .before .before .before .before .before .before .args in
+    let encode-string = c .before .before .before .encode-string in
+    let match = c .before .before .before .before .before .before .match in
+    let family-of = c .before .before .before .before .before .before .before .family-of in
+    let c₁ = c .before .before .before .before .before .before .before .before .before .before .before in
+    let p = c₁ .pre in
+    let y = c₁ .args in
     let x = y in
-    let f = sym (c .before .before .before .before .before .before .before .family-of .ensures)
-    ∙ c .before .before .before .before .before .before .match .keys11 in
+    let f = sym (family-of .ensures)
+    ∙ match .keys11 in
     rw (c .with-tail11 .ensures) (plain-comes (now (x .rom)) (x .core) (x .seen) (p .1) 19 f
     (λ a. everyOn (now (x .cells)) (now (x .places)) (now (x .wides)) (now (x .bases)) (now (x .names)) (now (x .kinds))
     (now (x .values)) (now (x .ways)) (now (x .parents)) (now (x .owners)) (now (x .titles)) (now (x .sizes)) a) _ (now (x .work)) _
-    (c .before .before .before .encode-string .result) (tt, tt, tt, tt, refl)
-    (λ a m. c .before .before .before .encode-string .ensures (everyOn (now (x .cells)) (now (x .places)) (now (x .wides))
+    (encode-string .result) (tt, tt, tt, tt, refl)
+    (λ a m. encode-string .ensures (everyOn (now (x .cells)) (now (x .places)) (now (x .wides))
     (now (x .bases)) (now (x .names)) (now (x .kinds)) (now (x .values)) (now (x .ways)) (now (x .parents)) (now (x .owners))
     (now (x .titles)) (now (x .sizes)) a) (x .seen .number) Nothing m) (now (x .slots)) (now (x .known)) (now (x .names))
     (now (x .kinds)) (now (x .store)) (now (x .titles)) (now (x .sizes)) (x .tail) (p .5))
 
 returns-12 : tie.Need-returns-12
 returns-12 c =
-    let p = c .before .before .before .before .before .before .before .before .pre in
-    let x = c .before .before .before .before .before .before .before .before .args in
-    let f = sym (c .before .before .before .before .family-of .ensures) ∙ c .before .before .before .match .keys12 in
+    let match = c .before .before .before .match in
+    let family-of = c .before .before .before .before .family-of in
+    let c₁ = c .before .before .before .before .before .before .before .before in
+    let p = c₁ .pre in
+    let x = c₁ .args in
+    let f = sym (family-of .ensures) ∙ match .keys12 in
     rw (c .with-tail12 .ensures) (plain-comes (now (x .rom)) (x .core) (x .seen) (p .1) 20 f
     (λ a. everyOn (now (x .cells)) (now (x .places)) (now (x .wides)) (now (x .bases)) (now (x .names)) (now (x .kinds))
     (now (x .values)) (now (x .ways)) (now (x .parents)) (now (x .owners)) (now (x .titles)) (now (x .sizes)) a) _ (now (x .work)) _
@@ -302,51 +351,63 @@ returns-12 c =
 
 returns-13 : tie.Need-returns-13
 returns-13 c =
-    let p = c .before .before .before .before .before .before .before .before .before .before .before .before .before .before .pre in
-    let y = c .before .before .before .before .before .before .before .before .before .before .before .before .before .before .args in
+    let put-named = c .before .before .put-named in
+    let match = c .before .before .before .before .before .before .before .before .before .match in
+    let family-of = c .before .before .before .before .before .before .before .before .before .before .family-of in
+    let c₁ = c .before .before .before .before .before .before .before .before .before .before .before .before in
+    let c₂ = c₁ .before .before in
+    let p = c₂ .pre in
+    let y = c₂ .args in
     let x = y in
-    let f = sym (c .before .before .before .before .before .before .before .before .before .before .family-of .ensures)
-    ∙ c .before .before .before .before .before .before .before .before .before .match .keys13 in (
+    let f = sym (family-of .ensures)
+    ∙ match .keys13 in (
       λ a w. plain-turn (now (x .rom)) (now (x .work)) (now (x .store)) (joined
           (everyOn (now (x .cells)) (now (x .places)) (now (x .wides)) (now (x .bases)) (now (x .names)) (now (x .kinds)) (now (x .values))
           (now (x .ways)) (now (x .parents)) (now (x .owners)) (now (x .titles)) (now (x .sizes)) a) (x .core)) (x .seen) (p .1 .0)
-          (p .1 .1) (p .1 .2) 21 f tt tt refl _ (c .before .before .put-named .ensures .0
+          (p .1 .1) (p .1 .2) 21 f tt tt refl _ (put-named .ensures .0
           (everyOn (now (x .cells)) (now (x .places)) (now (x .wides)) (now (x .bases)) (now (x .names)) (now (x .kinds)) (now (x .values))
           (now (x .ways)) (now (x .parents)) (now (x .owners)) (now (x .titles)) (now (x .sizes)) a) w (x .seen .number) Nothing),
       let h =
-          c .before .before .put-named .ensures .2 in (
+          put-named .ensures .2 in (
             subst (λ (n : ℕ). Tables (now (x .slots)) (now (x .known)) (now (x .names))
                 (now (x .kinds)) n) (sym h) (p .5 .0),
-            c .before .before .put-named .ensures .1,
+            put-named .ensures .1,
           ),
     )
 
 returns-14 : tie.Need-returns-14
 returns-14 c =
-    let p = c .before .before .before .before .before .before .before .before .before .before .before .before .before .before .pre in
-    let y = c .before .before .before .before .before .before .before .before .before .before .before .before .before .before .args in
+    let put-titled = c .before .before .put-titled in
+    let match = c .before .before .before .before .before .before .before .before .before .match in
+    let family-of = c .before .before .before .before .before .before .before .before .before .before .family-of in
+    let c₁ = c .before .before .before .before .before .before .before .before .before .before .before .before in
+    let c₂ = c₁ .before .before in
+    let p = c₂ .pre in
+    let y = c₂ .args in
     let x = y in
-    let f = sym (c .before .before .before .before .before .before .before .before .before .before .family-of .ensures)
-    ∙ c .before .before .before .before .before .before .before .before .before .match .keys14 in (
+    let f = sym (family-of .ensures)
+    ∙ match .keys14 in (
       λ a w. plain-turn (now (x .rom)) (now (x .work)) (now (x .store)) (joined
           (everyOn (now (x .cells)) (now (x .places)) (now (x .wides)) (now (x .bases)) (now (x .names)) (now (x .kinds)) (now (x .values))
           (now (x .ways)) (now (x .parents)) (now (x .owners)) (now (x .titles)) (now (x .sizes)) a) (x .core)) (x .seen) (p .1 .0)
-          (p .1 .1) (p .1 .2) 22 f tt tt refl _ (c .before .before .put-titled .ensures .0
+          (p .1 .1) (p .1 .2) 22 f tt tt refl _ (put-titled .ensures .0
           (everyOn (now (x .cells)) (now (x .places)) (now (x .wides)) (now (x .bases)) (now (x .names)) (now (x .kinds)) (now (x .values))
           (now (x .ways)) (now (x .parents)) (now (x .owners)) (now (x .titles)) (now (x .sizes)) a) w Nothing),
-      let h = c .before .before
-          .put-titled .ensures .2 in (
-            subst (λ (n : ℕ). Tables (now (x .slots)) (now (x .known)) (now (x .names)) (now (x .kinds)) n)
-                (sym h) (p .5 .0),
-            c .before .before .put-titled .ensures .1,
-          ),
+      let h = put-titled .ensures .2 in (
+        subst (λ (n : ℕ). Tables (now (x .slots)) (now (x .known)) (now (x .names)) (now (x .kinds)) n)
+            (sym h) (p .5 .0),
+        put-titled .ensures .1,
+      ),
     )
 
 returns-15 : tie.Need-returns-15
 returns-15 c =
-    let p = c .before .before .before .before .before .before .before .before .pre in
-    let x = c .before .before .before .before .before .before .before .before .args in
-    let f = sym (c .before .before .before .before .family-of .ensures) ∙ c .before .before .before .match .keys15 in
+    let match = c .before .before .before .match in
+    let family-of = c .before .before .before .before .family-of in
+    let c₁ = c .before .before .before .before .before .before .before .before in
+    let p = c₁ .pre in
+    let x = c₁ .args in
+    let f = sym (family-of .ensures) ∙ match .keys15 in
     rw (c .with-tail13 .ensures) (plain-comes (now (x .rom)) (x .core) (x .seen) (p .1) 23 f
     (λ a. everyOn (now (x .cells)) (now (x .places)) (now (x .wides)) (now (x .bases)) (now (x .names)) (now (x .kinds))
     (now (x .values)) (now (x .ways)) (now (x .parents)) (now (x .owners)) (now (x .titles)) (now (x .sizes)) a) _ (now (x .work)) _
@@ -358,9 +419,12 @@ returns-15 c =
 
 returns-16 : tie.Need-returns-16
 returns-16 c =
-    let p = c .before .before .before .before .before .before .before .before .pre in
-    let x = c .before .before .before .before .before .before .before .before .args in
-    let f = sym (c .before .before .before .before .family-of .ensures) ∙ c .before .before .before .match .keys16 in
+    let match = c .before .before .before .match in
+    let family-of = c .before .before .before .before .family-of in
+    let c₁ = c .before .before .before .before .before .before .before .before in
+    let p = c₁ .pre in
+    let x = c₁ .args in
+    let f = sym (family-of .ensures) ∙ match .keys16 in
     rw (c .with-tail14 .ensures) (plain-comes (now (x .rom)) (x .core) (x .seen) (p .1) 24 f
     (λ a. everyOn (now (x .cells)) (now (x .places)) (now (x .wides)) (now (x .bases)) (now (x .names)) (now (x .kinds))
     (now (x .values)) (now (x .ways)) (now (x .parents)) (now (x .owners)) (now (x .titles)) (now (x .sizes)) a) _ (now (x .work)) _
@@ -372,12 +436,14 @@ returns-16 c =
 
 returns-17 : tie.Need-returns-17
 returns-17 c =
-    let p = c .before .before .before .before .before .before .pre in
-    let x = c .before .before .before .before .before .before .args in
+    let family-of = c .before .before .family-of in
+    let c₁ = c .before .before .before .before .before .before in
+    let p = c₁ .pre in
+    let x = c₁ .args in
     absurd (let a = noArrays in none-other (now (x .rom)) (now (x .work)) (now (x .store))
     (joined (everyOn (now (x .cells)) (now (x .places)) (now (x .wides)) (now (x .bases)) (now (x .names)) (now (x .kinds))
     (now (x .values)) (now (x .ways)) (now (x .parents)) (now (x .owners)) (now (x .titles)) (now (x .sizes)) a) (x .core)) (x .seen)
-    (p .1 .0) (p .1 .1) (p .1 .2) (p .2) (subst (λ (x : ℕ). Rest (Unit {0}) coldFamilies x) (c .before .before .family-of .ensures)
+    (p .1 .0) (p .1 .1) (p .1 .2) (p .2) (subst (λ (x : ℕ). Rest (Unit {0}) coldFamilies x) (family-of .ensures)
     (c .before .match .rest)))
 
 pub act-spec : {M : Type 1} → statement M

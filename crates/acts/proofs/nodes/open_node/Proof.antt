@@ -15,16 +15,21 @@ open-node-spec =
     (λ c κs. search needs)
     (λ c. search needs)
     (λ c κs. search needs)
-    (λ c. rw (c .go .ensures) (λ a.
+    (λ c.
+    let open-child = c .before .before .before .open-child in
+    rw (c .go .ensures) (λ a.
     let start = c .before .before .before .before .before in
     let x = start .args in
     let st = joined (onNodes (now (x .parents)) a) (x .core) in
-    let e = c .before .before .before .open-child .ensures (st .tree) in
+    let e = open-child .ensures (st .tree) in
     open-told st (x .next) (start .pre) _ _ (active-done st (x .next) _ _ (c .before .enum-told .given .1) refl) e))
-    (λ c. rw (c .stop .ensures) (λ a.
+    (λ c.
+    let outcome = c .before .before .outcome in
+    let open-child = c .before .before .before .before .open-child in
+    rw (c .stop .ensures) (λ a.
     let start = c .before .before .before .before .before .before in
     let x = start .args in
     let st = joined (onNodes (now (x .parents)) a) (x .core) in
-    let e = c .before .before .before .before .open-child .ensures (st .tree) in
-    let f = c .before .before .outcome .given .1 in
+    let e = open-child .ensures (st .tree) in
+    let f = outcome .given .1 in
     open-told st (x .next) (start .pre) _ _ (active-refused st (x .next) _ _ _ f (open-same st (x .next) _ _ f e) refl) e)))

@@ -36,7 +36,7 @@ returns-2 c =
     let l = c .before .if2 .taken in
     let q = length-append (now (a .value)) (pick (a .null) (0 ∷ []) []) in
     rw (c .refused-with2 .ensures) (large-value (a .node) n v (now (a .store)) (now (a .owners)) (now (a .name-sizes))
-        (now (a .value-sizes))
+    (now (a .value-sizes))
     (a .held) (a .tail) p b (omega arith))
 
 add-property-requires : tie.Need-add-property-requires
@@ -71,7 +71,7 @@ mul-wide c =
     let f = find-among .result in
     let e = find-among .ensures in
     let h = among-them (a .node) n v (now (a .store)) (now (a .owners)) (now (a .name-sizes)) (now (a .value-sizes)) (a .held)
-        (a .tail) p f e
+    (a .tail) p f e
     (c .before .if3 .left) in
     let k = p .3 in
     search needs
@@ -90,7 +90,7 @@ element-copy-out-wide c =
     let f = find-among .result in
     let e = find-among .ensures in
     let h = among-them (a .node) n v (now (a .store)) (now (a .owners)) (now (a .name-sizes)) (now (a .value-sizes)) (a .held)
-        (a .tail) p f e
+    (a .tail) p f e
     (c .before .if3 .left) in
     let k = p .3 in
     omega arith
@@ -114,10 +114,10 @@ sub-live c =
     let f = find-among .result in
     let e = find-among .ensures in
     let h = among-them (a .node) n v (now (a .store)) (now (a .owners)) (now (a .name-sizes)) (now (a .value-sizes)) (a .held)
-        (a .tail) p f e
+    (a .tail) p f e
     (if3 .left) in
     let q = inside (a .node) n v (now (a .store)) (now (a .owners)) (now (a .name-sizes)) (now (a .value-sizes)) (a .held)
-        (a .tail) p b f e h in
+    (a .tail) p b f e h in
     let w = c .before .wide .ensures .0 in
     omega arith
 
@@ -141,16 +141,16 @@ returns-4 c =
     let f = find-among .result in
     let e = find-among .ensures in
     let h = among-them (a .node) n v (now (a .store)) (now (a .owners)) (now (a .name-sizes)) (now (a .value-sizes)) (a .held)
-        (a .tail) p f e
+    (a .tail) p f e
     (if3 .left) in
     let q = inside (a .node) n v (now (a .store)) (now (a .owners)) (now (a .name-sizes)) (now (a .value-sizes)) (a .held)
-        (a .tail) p b f e h in
+    (a .tail) p b f e h in
     let w = wide .ensures .0 in
     let z = length-value (now (a .value)) (a .null) in
     let y = size-of .ensures .0 in
     let l = c .before .if4 .taken in
     rw (c .refused-with3 .ensures) (value-grows (a .node) n v (now (a .store)) (now (a .owners)) (now (a .name-sizes))
-        (now (a .value-sizes))
+    (now (a .value-sizes))
     (a .held) (a .tail) p b f e h (omega arith))
 
 add-replace : tie.Need-add-replace
@@ -172,10 +172,10 @@ add-replace c =
     let f = find-among .result in
     let e = find-among .ensures in
     let h = among-them (a .node) n v (now (a .store)) (now (a .owners)) (now (a .name-sizes)) (now (a .value-sizes)) (a .held)
-        (a .tail) p f e
+    (a .tail) p f e
     (if3 .left) in
     let q = inside (a .node) n v (now (a .store)) (now (a .owners)) (now (a .name-sizes)) (now (a .value-sizes)) (a .held)
-        (a .tail) p b f e h in
+    (a .tail) p b f e h in
     let w = wide .ensures .0 in
     let k = p .0 in
     let m = p .5 in
@@ -201,10 +201,10 @@ replace-requires c κs =
     let f = find-among .result in
     let e = find-among .ensures in
     let h = among-them (a .node) n v (now (a .store)) (now (a .owners)) (now (a .name-sizes)) (now (a .value-sizes)) (a .held)
-        (a .tail) p f e
+    (a .tail) p f e
     (if3 .left) in
     let q = inside (a .node) n v (now (a .store)) (now (a .owners)) (now (a .name-sizes)) (now (a .value-sizes)) (a .held)
-        (a .tail) p b f e h in
+    (a .tail) p b f e h in
     let w = wide .ensures .0 in (
       p .0,
       p .5,
@@ -227,7 +227,7 @@ mul-values c =
     let f = find-among .result in
     let e = find-among .ensures in
     let h = among-them (a .node) n v (now (a .store)) (now (a .owners)) (now (a .name-sizes)) (now (a .value-sizes)) (a .held)
-        (a .tail) p f e
+    (a .tail) p f e
     (if3 .left) in
     let k = p .3 in
     search needs
@@ -247,7 +247,7 @@ element-write-values c =
     let f = find-among .result in
     let e = find-among .ensures in
     let h = among-them (a .node) n v (now (a .store)) (now (a .owners)) (now (a .name-sizes)) (now (a .value-sizes)) (a .held)
-        (a .tail) p f e
+    (a .tail) p f e
     (if3 .left) in
     let k = p .3 in
     omega arith
@@ -274,10 +274,10 @@ returns-5 c =
     let f = find-among .result in
     let e = find-among .ensures in
     let h = among-them (a .node) n v (now (a .store)) (now (a .owners)) (now (a .name-sizes)) (now (a .value-sizes)) (a .held)
-        (a .tail) p f e
+    (a .tail) p f e
     (if3 .left) in
     let q = inside (a .node) n v (now (a .store)) (now (a .owners)) (now (a .name-sizes)) (now (a .value-sizes)) (a .held)
-        (a .tail) p b f e h in
+    (a .tail) p b f e h in
     let w = wide .ensures .0 in
     let z = length-value (now (a .value)) (a .null) in
     let y = size-of .ensures .0 in
