@@ -1,6 +1,6 @@
-// Screens ROMs, and shows the answer and the mark buffer: a line of standard input each, by its first letter. Behind S stands a ROM in hex, behind W
-// the mark buffer's size and a ROM, behind Z a size up to which zero bytes are put behind a ROM, and the ROM, behind M how often a ROM is screened,
-// and the ROM.
+// Screens ROMs, and shows the answer and the mark buffer: a line of standard input each, by its first letter. Behind S stands a ROM in hex,
+// behind W the mark buffer's size and a ROM, behind Z a size up to which zero bytes are put behind a ROM, and the ROM, behind M how often a
+// ROM is screened, and the ROM.
 mod say;
 mod show;
 
