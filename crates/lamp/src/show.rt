@@ -1,5 +1,5 @@
-// One ROM, shown: its listing, its tokens, or all that a person may want to know of it. Each gives the exit status. Lines go into a text that is printed
-// whenever the next line may have no room behind them.
+// One ROM, shown: its listing, its tokens, or all that a person may want to know of it. Each gives the exit status. Lines go into a text
+// that is printed whenever the next line may have no room behind them.
 use crate::dump::SPACE;
 use crate::dump::read_dump;
 use crate::judge::Ended;

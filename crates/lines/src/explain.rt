@@ -1,12 +1,13 @@
-// What explain says of a ROM: its header's fields, and the tree that a run left, with paths and with values as people read them. Each call writes its lines
-// into a text from a place on and gives the place behind; what passes the text's end is left out. Every call is total.
+// What explain says of a ROM: its header's fields, and the tree that a run left, with paths and with values as people read them. Each call
+// writes its lines into a text from a place on and gives the place behind; what passes the text's end is left out. Every call is total.
 ghost use Prim.Native.Nat.{_≤_};
 ghost use mathlib.Core.Path.{_≡_};
 ghost use lib.ListN.{length};
 ghost use mathlib.Core.Bool.{_&&_, _||_};
 ghost use Rattle.rom.specs.Header.{lengthOf};
 ghost use Rattle.tree.specs.Whole.{parentOf};
-ghost use Rattle.lines.specs.Explain.{startWords, startLine, formatLine, lengthLine, badLength, sumWords, sumsShown, sumLine, sizeLine};
+ghost use Rattle.lines.specs.Explain.{startWords, startLine, formatLine, lengthLine, badLength, sumWords, sumsShown, sumLine};
+ghost use Rattle.lines.specs.Explain.{sizeLine};
 ghost use Rattle.lines.specs.Explain.{fieldLines, headerLines, isTitle, titleShown, pathTo, pathLine, readLines};
 ghost use Rattle.lines.specs.Explain.{outsideLines, tallyLines, programLines, endLine, atLine};
 ghost use Rattle.lines.specs.Explain.{endWords, runLine, verdictLine, treeLine, anywayLine};

@@ -6,7 +6,8 @@ ghost use lib.ListN.{length};
 ghost use mathlib.Core.List.{[]};
 ghost use Rattle.cells.specs.Choice.{pick};
 ghost use Rattle.tree.specs.Held.{heldOf, liveOf};
-ghost use Rattle.lines.specs.Lines.{shown as Lines·shown, nodeLine, propertyLine, lineFor, ownLines, nodeLines, stepsLine, refusedLine, closingLine};
+ghost use Rattle.lines.specs.Lines.{shown as Lines·shown, nodeLine, propertyLine, lineFor, ownLines, nodeLines, stepsLine};
+ghost use Rattle.lines.specs.Lines.{refusedLine, closingLine};
 ghost use Rattle.lines.specs.Lines.{numberRead, textRead, bytesRead, readLine};
 ghost use Rattle.lines.specs.Wrote.{Wrote};
 ghost use Rattle.rom.specs.Sizes.{nodesMost, propertiesMost};
@@ -155,7 +156,8 @@ pub fn own_lines(
 pub fn node_lines(text: &mut [u8], at: usize, store: &[u8], tree: Tree) -> usize
     requires { ⌜ (tree .nodes ≤ nodesMost) × (tree .held ≤ propertiesMost)
         × (liveOf tree ≤ length (now store)) ⌝ }
-    ensures { λ r. ⌜ Wrote (now (text .entry)) (now (text .exit)) at r (nodeLines tree (heldOf tree (now (store .entry))) (tree .nodes) 0) ⌝ }
+    ensures { λ r. ⌜ Wrote (now (text .entry)) (now (text .exit)) at r
+        (nodeLines tree (heldOf tree (now (store .entry))) (tree .nodes) 0) ⌝ }
 {
     let mut end = at;
     let mut k = 0;

@@ -34,8 +34,8 @@ pub struct Cuts {
     pub third: usize,
 }
 
-// What `piece_line` hands back: the place behind the line in the text, the place of the next piece in the ROM, and the offset width in force
-// there.
+// What `piece_line` hands back: the place behind the line in the text, the place of the next piece in the ROM, and the offset width in
+// force there.
 pub struct PieceTold {
     pub end: usize,
     pub next: u32,
@@ -67,8 +67,8 @@ fn name(text: &mut [u8], at: usize, number: u32) -> usize
     letters(text, at, name_rest(number))
 }
 
-// Where the parts meet of an operand from a place to another, by the form of the token: a string's length byte and its bytes, a number and its
-// kind, or all four.
+// Where the parts meet of an operand from a place to another, by the form of the token: a string's length byte and its bytes, a number and
+// its kind, or all four.
 fn cuts_of(rom: &[u8], start: usize, next: usize, form: u32) -> Cuts
     requires { ⌜ (start ≤ romMost) × (0 < next) ⌝ }
     ensures { λ r. ⌜ r ≡ cutsOf (now (rom .entry)) start next form ⌝ }
@@ -203,9 +203,9 @@ fn token_line(text: &mut [u8], at: usize, rom: &[u8], place: u32, start: u32, to
     letter(text, at, b'\n')
 }
 
-// The line of the piece at a place of a ROM's program, with the offset width in force there, and where the next one starts. So a program is listed
-// a line at a time, from place 8 on until the place stays. At the program's end, and for more bytes than a ROM has, nothing is written, and place and
-// width are handed back as they came. The header is not tested, since its sum would then be taken for each line.
+// The line of the piece at a place of a ROM's program, with the offset width in force there, and where the next one starts. So a program is
+// listed a line at a time, from place 8 on until the place stays. At the program's end, and for more bytes than a ROM has, nothing is
+// written, and place and width are handed back as they came. The header is not tested, since its sum would then be taken for each line.
 pub fn piece_line(text: &mut [u8], at: usize, rom: &[u8], wide: bool, place: u32) -> PieceTold
     ensures { λ r. ⌜ Wrote (now (text .entry)) (now (text .exit)) at (r .end) (pieceText (now (rom .entry)) wide place)
         × (r .next ≡ nextOf (now (rom .entry)) wide place) × (r .wide ≡ wideBehind (now (rom .entry)) wide place) ⌝ }

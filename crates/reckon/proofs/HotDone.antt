@@ -158,7 +158,19 @@ module _ (rom : List ℕ) (size : ℕ) (wide : Bool) (p n : ℕ) (f : familyIn (
                             (refl, refl),
                             (
                               (refl, refl),
-                              ((refl, refl), ((refl, refl), ((refl, refl), ((refl, refl), ((refl, refl), ((refl, refl), ((refl, refl), tt))))))),
+                              (
+                                (refl, refl),
+                                (
+                                  (refl, refl),
+                                  (
+                                    (refl, refl),
+                                    (
+                                      (refl, refl),
+                                      ((refl, refl), ((refl, refl), ((refl, refl), tt))),
+                                    ),
+                                  ),
+                                ),
+                              ),
                             ),
                           ),
                         ),

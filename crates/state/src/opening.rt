@@ -79,7 +79,8 @@ fn zero_state() -> State
 // Tests the buffers and the header in the order 6, 1, 2, 3, 4, 5, and starts the program: work memory and store are zeroed. A refused
 // opening writes nothing and hands back the all-zero state.
 pub fn open(rom: &[u8], work: &mut [u8], store: &mut [u8]) -> Stepped
-    ensures { λ r. ⌜ handedBack r (now (work .exit)) (now (store .exit)) ≡ openOf (now (rom .entry)) (now (work .entry)) (now (store .entry)) ⌝ }
+    ensures { λ r. ⌜ handedBack r (now (work .exit)) (now (store .exit))
+        ≡ openOf (now (rom .entry)) (now (work .entry)) (now (store .entry)) ⌝ }
 {
     if work.len() != WORK_SIZE {
         return refused(zero_state(), 6);

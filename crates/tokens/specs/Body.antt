@@ -19,8 +19,8 @@ use Rattle.tokens.specs.declared.read.Read.the-variants.{Refused, Good}
 use Rattle.tokens.specs.declared.body.Body.{Body}
 use Rattle.tokens.specs.declared.body.Body.the-variants.{Ends, Stops}
 
--- the kind byte of a program number, by a list that has one for each number from the first up: 0 where the number is not defined, as any other
--- number is not
+-- the kind byte of a program number, by a list that has one for each number from the first up: 0 where the number is not defined, as any
+-- other number is not
 abbrev pub kindOf : List ℕ → ℕ → ℕ
 kindOf kinds n = pick (isProgram n) (getD kinds (n - firstProgram) 0) 0
 

@@ -285,7 +285,8 @@ pub fn first_codes() -> [u32; 256]
 // byte, or a literal. Where another stands, `glance_from` goes on with what was read.
 pub fn quick_at(codes: &[u32; 256], rom: &[u8], length: u32, place: u32) -> Quick
     requires { ⌜ Codes (now codes) × (place < length) ⌝ }
-    ensures { λ r. ⌜ (r .first ≡ byteOf (now (rom .entry)) place) × (r .code ≡ firstSays (r .first)) × Quickly (now (rom .entry)) length place r ⌝ }
+    ensures { λ r. ⌜ (r .first ≡ byteOf (now (rom .entry)) place) × (r .code ≡ firstSays (r .first))
+        × Quickly (now (rom .entry)) length place r ⌝ }
 {
     let first = byte(rom, place as usize);
     let code = codes[first as usize];

@@ -80,7 +80,8 @@ fn clear_up_to(memory: &mut [u8], at: usize, end: usize)
 
 // A property more, at the live end. What is zero already is not cleared again.
 fn append(store: &mut [u8], tail: Tail, name: &[u8], value: &[u8], null: bool)
-    requires { ⌜ (length (now store) ≡ storeSize) × EndsAs (now store) tail × (length (now name) ≤ nameMost) × (length (now value) ≤ storeSize) ⌝ }
+    requires { ⌜ (length (now store) ≡ storeSize) × EndsAs (now store) tail × (length (now name) ≤ nameMost)
+        × (length (now value) ≤ storeSize) ⌝ }
     ensures { λ r. ⌜ now (store .exit)
         ≡ appendedOf (now (store .entry)) (tail .live) (now (name .entry)) (valueOf (now (value .entry)) null) ⌝ }
 {

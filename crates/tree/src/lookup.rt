@@ -6,7 +6,8 @@ ghost use lib.ListN.{length, drop};
 ghost use lib.Dec.{eqb};
 ghost use Rattle.tree.specs.Held.{liveOf};
 ghost use Rattle.tree.specs.Whole.{parentOf};
-ghost use Rattle.tree.specs.Path.{splitOf, anyEmpty, malformed as Path·malformed, lessNull, isCalled, childNamed, downFrom, namedPlace, findNodeOf, findPropertyOf, propertyValueOf};
+ghost use Rattle.tree.specs.Path.{splitOf, anyEmpty, malformed as Path·malformed, lessNull, isCalled, childNamed, downFrom};
+ghost use Rattle.tree.specs.Path.{namedPlace, findNodeOf, findPropertyOf, propertyValueOf};
 ghost use Rattle.tree.specs.Path.{ownValueOf};
 ghost use Rattle.tree.specs.Laws.Path.{partEnd, childSought};
 ghost use Rattle.rom.specs.Sizes.{nodesMost, propertiesMost};
@@ -147,7 +148,8 @@ fn child_named(store: &[u8], tree: Tree, node: u32, part: &[u8]) -> NodeSought
 
 // From the root down, a child for each part of the path from a place on.
 fn down(store: &[u8], tree: Tree, path: &[u8], from: usize) -> NodeSought
-    requires { ⌜ (tree .nodes ≤ nodesMost) × (tree .held ≤ propertiesMost) × (liveOf tree ≤ length (now store)) × (from ≤ length (now path)) ⌝ }
+    requires { ⌜ (tree .nodes ≤ nodesMost) × (tree .held ≤ propertiesMost) × (liveOf tree ≤ length (now store))
+        × (from ≤ length (now path)) ⌝ }
     ensures { λ r. ⌜ r ≡ downFrom tree (now (store .entry)) 0 (splitOf (drop from (now (path .entry)))) ⌝ }
 {
     let mut node = 0;
@@ -204,8 +206,8 @@ pub fn property_value<'a>(store: &'a [u8], tree: Tree, path: &[u8], name: &[u8])
     }
 }
 
-// The value of a node's own property, for whoever knows the node by its number: a part of the store, the oldest of that name; the empty part where there is
-// none, or where the store has another size or the tree is damaged.
+// The value of a node's own property, for whoever knows the node by its number: a part of the store, the oldest of that name; the empty
+// part where there is none, or where the store has another size or the tree is damaged.
 pub fn own_value<'a>(store: &'a [u8], tree: Tree, node: u32, name: &[u8]) -> &'a [u8]
     ensures { λ r. ⌜ now r ≡ ownValueOf tree (now (store .entry)) node (now (name .entry)) ⌝ }
 {

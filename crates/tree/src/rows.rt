@@ -94,9 +94,11 @@ fn rows_refusal(tree: Tree, size: usize) -> u32
     0
 }
 
-// The rows in a lent slice of structs: 0, or 6 and then 7 with all rows as they were. What a row holds is decided in `row_of`; this walk only stores.
+// The rows in a lent slice of structs: 0, or 6 and then 7 with all rows as they were. What a row holds is decided in `row_of`; this walk
+// only stores.
 pub fn node_rows(tree: Tree, rows: &mut [Row]) -> u32
-    ensures { λ r. ⌜ (r ≡ rowsRefusal tree (length (now (rows .entry)))) × (now (rows .exit) ≡ rowsThen r (now (rows .entry)) (rowsOf tree)) ⌝ }
+    ensures { λ r. ⌜ (r ≡ rowsRefusal tree (length (now (rows .entry))))
+        × (now (rows .exit) ≡ rowsThen r (now (rows .entry)) (rowsOf tree)) ⌝ }
 {
     let why = rows_refusal(tree, rows.len());
     if why != 0 {

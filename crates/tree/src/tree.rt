@@ -10,8 +10,8 @@ use rom::sizes::STORE_SIZE;
 
 pub const NAME_MOST: usize = 31;
 
-// Node k has the parent parents[k]. Record i says that a property of the node owners[i] has a name and a value of these lengths; their bytes lie in
-// the store, one record's behind the other's.
+// Node k has the parent parents[k]. Record i says that a property of the node owners[i] has a name and a value of these lengths; their
+// bytes lie in the store, one record's behind the other's.
 pub struct Tree {
     pub parents: [u32; NODES_MOST],
     pub nodes: usize,

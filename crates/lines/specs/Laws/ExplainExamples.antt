@@ -86,8 +86,8 @@ unfolding programLines tallyLines tallyFrom walkFrom pieceOf decodeOf tokenIfWho
 all-listed = refl
 
 some-outside : programLines (0xFD ∷ 0x08 ∷ 0x00 ∷ 0x46 ∷ 0x00 ∷ 0x00 ∷ 0x00 ∷ 0x0C ∷ 0x47 ∷ 0x15 ∷ 0x16 ∷ 0x00 ∷ [])
-    ≡ lettersOf
-    "program: 4 pieces, 2 of them no token of the list. A board that uses such a token is outside the scope of this tool, not broken. The first:\n0009 raw 15 (no token of the list: the next lines may be its operand)\n"
+    ≡ lettersOf "program: 4 pieces, 2 of them no token of the list. A board that uses such a token is outside the scope of this tool, "
+    ++ lettersOf "not broken. The first:\n0009 raw 15 (no token of the list: the next lines may be its operand)\n"
 unfolding programLines tallyLines outsideLines tallyFrom walkFrom pieceOf decodeOf tokenIfWhole behindOf operandOf aimOf codeOf rowOf table
     ends lows highs doubles lineText placeText allShown hexOf decimalFrom lettersOf
 some-outside = refl

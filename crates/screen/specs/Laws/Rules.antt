@@ -8,5 +8,5 @@ pub mod Tokens
 pub mod Ways
 -- What is in force at a place is one thing, by the rules alone: nothing here knows how heights are found.
 pub mod InForce
--- "Bytes past the length are ignored": of two ROMs that differ past their length alone the same tokens can be reached, and heights of the one are heights of the other.
+-- Of two ROMs that differ past their length alone the same tokens can be reached, and heights of the one are heights of the other.
 pub mod Past

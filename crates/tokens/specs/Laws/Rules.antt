@@ -37,7 +37,10 @@ unfolding table ends lows highs doubles
 numbers-in-range = tt
 
 -- what is reckoned is what is given
-results-given : T (everyTail (λ n r _. not (eqb (r .family) plain || eqb (r .family) divide) || (eqb (r .gives) (length (r .results)) && eqb (r .returnGives) (length (r .returnResults)))) table)
+results-given : T (everyTail
+    (λ n r _. not (eqb (r .family) plain || eqb (r .family) divide)
+    || (eqb (r .gives) (length (r .results)) && eqb (r .returnGives) (length (r .returnResults))))
+    table)
 unfolding table ends lows highs doubles
 results-given = tt
 

@@ -21,7 +21,8 @@ constant-spec =
     let pre = c₁ .pre in
     rw (c .stop .ensures) (
       λ a. value-low-told
-          (joined (onNumbers (now (args .names)) (now (args .kinds)) (now (args .values)) (now (args .ways)) (onStack (now (args .cells)) a))
+          (joined (onNumbers (now (args .names)) (now (args .kinds)) (now (args .values)) (now (args .ways))
+          (onStack (now (args .cells)) a))
           (args .core)) (args .number) (args .next) (pre .0) (pre .1) (args .kind) _ (pre .3) (c .before .if1 .taken) refl,
       pre .2 .0,
     ))
@@ -45,9 +46,11 @@ constant-spec =
     let pre = c₁ .pre in
     rw (c .go .ensures) (
       λ a. value-told
-          (joined (onNumbers (now (args .names)) (now (args .kinds)) (now (args .values)) (now (args .ways)) (onStack (now (args .cells)) a))
+          (joined (onNumbers (now (args .names)) (now (args .kinds)) (now (args .values)) (now (args .ways))
+          (onStack (now (args .cells)) a))
           (args .core)) (args .number) (args .next) (pre .0) (pre .1) (if1 .left)
-          (takenOn (onNumbers (now (args .names)) (now (args .kinds)) (now (args .values)) (now (args .ways)) (onStack (now (args .cells)) a))
+          (takenOn (onNumbers (now (args .names)) (now (args .kinds)) (now (args .values)) (now (args .ways))
+          (onStack (now (args .cells)) a))
           (pop .result))
           (pop .ensures (onNumbers (now (args .names)) (now (args .kinds)) (now (args .values)) (now (args .ways))
           (onStack (now (args .cells)) a))) (args .kind) _ _ (pre .3) (c .before .defined .ensures .0 (onStack (now (args .cells)) a)) refl,

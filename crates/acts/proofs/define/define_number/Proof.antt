@@ -26,7 +26,8 @@ define-number-spec =
     (c .before .if1 .taken) in
     rw (c .stop .ensures) (
       λ a. held-told (now (args .rom)) (now (args .work))
-          (joined (onNumbers (now (args .names)) (now (args .kinds)) (now (args .values)) (now (args .ways)) (onStack (now (args .cells)) a))
+          (joined (onNumbers (now (args .names)) (now (args .kinds)) (now (args .values)) (now (args .ways))
+          (onStack (now (args .cells)) a))
           (args .core)) (Definition (args .number) (args .kind)) (args .next) (args .number) _ refl (h .1) _ (h .2) refl,
       pre .2 .0,
     ))
@@ -39,7 +40,8 @@ define-number-spec =
     let pre = c₁ .pre in
     rw (c .stop2 .ensures) (
       λ a. most-told (now (args .rom)) (now (args .work))
-          (joined (onNumbers (now (args .names)) (now (args .kinds)) (now (args .values)) (now (args .ways)) (onStack (now (args .cells)) a))
+          (joined (onNumbers (now (args .names)) (now (args .kinds)) (now (args .values)) (now (args .ways))
+          (onStack (now (args .cells)) a))
           (args .core)) (Definition (args .number) (args .kind)) (args .next) (args .number)
           (seekOf (numbersOn (now (args .names)) (now (args .kinds)) (now (args .values)) (now (args .ways)) (args .core .held))
           (args .number)) refl refl _ (not-held (now (args .slots))
@@ -59,7 +61,8 @@ define-number-spec =
     let a = noArrays in (
       pre .0,
       fresh-told
-          (joined (onNumbers (now (args .names)) (now (args .kinds)) (now (args .values)) (now (args .ways)) (onStack (now (args .cells)) a))
+          (joined (onNumbers (now (args .names)) (now (args .kinds)) (now (args .values)) (now (args .ways))
+          (onStack (now (args .cells)) a))
           (args .core)) (args .number)
           (seekOf (numbersOn (now (args .names)) (now (args .kinds)) (now (args .values)) (now (args .ways)) (args .core .held))
           (args .number)) refl (not-held (now (args .slots))

@@ -224,7 +224,8 @@ module _ {M : Type 1} (𝓤 : URA M) (H : Heap 𝓤) (A : Atoms 𝓤) (W : Given
         unfolding afterTurn
         stores k rows X small l then =
             assigns ! (bin ! (load ! (from ! (stop !)) (look ! 14 refl)) (lit ! tt) tt) (from ! (stop !)) (init ! 8 refl (tt, tt)) $
-            rewrite ! 8 (λ (y : Bool). ‵ (fat fullShare tyBool l₇ 0 (vbool y))) (is-true (ltb k nodesMost) (lt→ltb k nodesMost small)) refl $
+            rewrite ! 8 (λ (y : Bool). ‵ (fat fullShare tyBool l₇ 0 (vbool y)))
+            (is-true (ltb k nodesMost) (lt→ltb k nodesMost small)) refl $
             stays ! (load ! (from ! (stop !)) (look ! 8 refl)) $
             use0 W (raw (RowOf 𝓤 H A mem run .pre (to-row k))) (asks-row k small held) $
             -- what row_of asks; the slice; the token; the locals
@@ -248,7 +249,8 @@ module _ {M : Type 1} (𝓤 : URA M) (H : Heap 𝓤) (A : Atoms 𝓤) (W : Given
             rewrite ! 3 (λ (y : ℕ). ‵ (fat fullShare tyPtr l₁₀ 0 (vptr b y))) (sym (place-is 8 o k)) refl $
             -- the slice is opened at row k
             move ! (1 ∷ []) $ fsplit ! $ pureL ! (at-slice R.the-row (slice rows) (s ∷ [])) (λ p. fsplit ! $ move ! (0 ∷ 1 ∷ 3 ∷ []) $
-            opens-slice ! tt R.the-row rows b o $ elem-out ! R.the-row (Is R.the-row) (shows 𝓤 H A R.the-row) (LL.vals R.the-type R′.the-laws)
+            opens-slice ! tt R.the-row rows b o $
+            elem-out ! R.the-row (Is R.the-row) (shows 𝓤 H A R.the-row) (LL.vals R.the-type R′.the-laws)
             (LL.tells R.the-type R′.the-laws) fullShare rows k r b o within (λ _.
             -- row k; what it owns; the other rows; the open borrow and its two marks; what the new row owns; the locals
             assigns ! (of-opd ! (load ! (from ! (stop !)) (look ! 11 refl))) (from ! (hop ! (look ! 7 refl) (stop !)))
@@ -284,7 +286,8 @@ module _ {M : Type 1} (𝓤 : URA M) (H : Heap 𝓤) (A : Atoms 𝓤) (W : Given
             rewrite ! 8 (λ (y : Bool). ‵ (fat fullShare tyBool l₇ 0 (vbool y))) (ap (λ (j : ℕ). ltb j nodesMost) e) refl $
             leaves-loop ! (load ! (from ! (stop !)) (look ! 8 refl)) $ exec ! C Λ En pieces.t-7 (atRet En Post) $
             assigns ! (of-opd ! (lit ! tt)) (from ! (stop !)) (init ! 22 refl (tt, record { fits = lit< tt })) $
-            returns ! (look ! 22 refl) $ forget ! 8 refl $ forget ! 10 refl $ forget ! 12 refl $ forget ! 14 refl $ forget ! 16 refl $ ends 0
+            returns ! (look ! 22 refl) $ forget ! 8 refl $ forget ! 10 refl $ forget ! 12 refl $ forget ! 14 refl $
+            forget ! 16 refl $ ends 0
             rows (lit< tt) (l ∙ sym sized) (sym taken, filled)
 
         turn : (u : Filled tree) → Sq W (I u) (runs C Λ En pieces.turn-1 (anyQ (afterTurn 𝓤 H (Below 𝓤 H A (≺ tree) I u) Left)))
