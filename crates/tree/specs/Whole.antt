@@ -9,7 +9,6 @@ use lib.ListN.{getD}
 use lib.Dec.{ltb, leb, eqb}
 use Rattle.rom.specs.Sizes.{nodesMost, propertiesMost, storeSize}
 use Rattle.tree.specs.Held.{liveOf}
-use Rattle.tree.specs.Whole.{nameMost}
 use Rattle.tree.specs.declared.tree.Tree.{Tree}
 
 -- a test of every number below a count
@@ -18,7 +17,7 @@ everyBelow zero f = true
 everyBelow (suc k) f = everyBelow k f && f k
 
 abbrev pub nameMost : ℕ
-nameMost = nameMost
+nameMost = 31
 
 -- a node's parent
 abbrev pub parentOf : Tree → ℕ → ℕ

@@ -33,7 +33,7 @@ promised-says rom before v marks (wrong-size n) =
     (λ m. refl, λ e h. absurd (n e), λ e h a. absurd (n e), λ e h a. absurd (n e))
 promised-says rom before v marks (bad-header e h) =
     (λ n. absurd (n e), λ f i. refl, λ f i a. absurd (h i), λ f i a. absurd (h i))
-promised-says rom before v marks (no-heights e h none) =
-    (λ n. absurd (n e), λ f i. absurd (i h), λ f i a. absurd (none a), λ f i a. refl)
+promised-says rom before v marks (no-heights e h lacks) =
+    (λ n. absurd (n e), λ f i. absurd (i h), λ f i a. absurd (lacks a), λ f i a. refl)
 promised-says rom before v marks (passes e h a m) =
-    (λ n. absurd (n e), λ f i. absurd (i h), λ f i b. refl, λ f i none. absurd (none a))
+    (λ n. absurd (n e), λ f i. absurd (i h), λ f i b. refl, λ f i lacks. absurd (lacks a))

@@ -66,7 +66,7 @@ passes-requires c κs =
     let x = bodyText (a .length) (a .stand .wide) (a .entry) in
     let k = rw (c₃ .body .ensures) at (c₂ .walk-from .ensures) in
     let l = not-on (c₂ .walk-from .result .good) (c₁ .if2 .left) in
-    walked-low (now (a .rom)) (now (a .kinds)) x (now (a .sums)) _ (a .entry) 65 _ _ (omega arith) (omega arith) (omega arith) k l
+    walked-low (now (a .rom)) (now (a .kinds)) x (now (a .sums)) _ (a .entry) _ _ _ (omega arith) (omega arith) (omega arith) k l
 
 returns-3 : tie.Need-returns-3
 returns-3 c =
@@ -86,12 +86,12 @@ returns-3 c =
     let k = rw entry-cell at w in
     let l = not-on (c₂ .walk-from .result .good) (c₁ .if2 .left) in
     let low =
-    walked-low (now (a .rom)) (now (a .kinds)) x (now (a .sums)) _ (a .entry) 65 _ _ (omega arith) (omega arith) (omega arith) w l in
+    walked-low (now (a .rom)) (now (a .kinds)) x (now (a .sums)) _ (a .entry) _ _ _ (omega arith) (omega arith) (omega arith) w l in
     survey-judged (now (a .rom)) (a .length) (now (a .seen)) (now (a .kinds)) (now (a .sums)) (a .stand) (a .entry) _ _ _ _ _ (s .0) g _ k
     l low (s .1 g)
     (λ b h e.
     let m = marked-bounded b h (now (a .rom)) (now (a .kinds)) (a .length) (a .stand .wide) (a .entry) (now (a .seen)) _ _ _ (s .0) e in
-    walked-kept b h (now (a .rom)) (now (a .kinds)) x (now (a .sums)) _ (a .entry) 65 _ _ (omega arith) (omega arith) (omega arith) w l
+    walked-kept b h (now (a .rom)) (now (a .kinds)) x (now (a .sums)) _ (a .entry) _ _ _ (omega arith) (omega arith) (omega arith) w l
     m .seen)
     (c .passes .ensures) refl refl
 

@@ -7,28 +7,27 @@ use mathlib.Core.Bool.{Bool, true, false, not, _&&_, _||_}
 use mathlib.Core.List.{List, [], _∷_}
 use mathlib.Core.Logic.{_≢_, _⊎_, inl, inr}
 use native.Mathlib.Omega.{arith}
-use native.Mathlib.Nat.{le-trans}
 use native.Mathlib.Decide.{decLt, ℕ-discrete}
 use lib.Dec.{T, T-not, ltb, leb, eqb, eqb→eq, ltb→lt, leb→le, nltb→le, nleb→lt}
 use lib.ListN.{length, getD, set, length-set}
 use lib.Seq.{getD-set-same, getD-set-other}
 use Rattle.cells.specs.Laws.Facts.{holds, is-true, is-false, both-hold, neither, not-both, either}
 use Rattle.cells.specs.Laws.Tests.{when-is, neqb→ne}
-use Rattle.rom.specs.Sizes.{romMost, returnMost, framesMost}
+use Rattle.rom.specs.Sizes.{romMost}
 use Rattle.tokens.specs.Place.{readOf}
 use Rattle.tokens.specs.declared.read.Read.{Read}
 use Rattle.tokens.specs.declared.read.Read.the-variants.{Refused, Good}
 use Rattle.screen.specs.Effect.{effectOf}
 use Rattle.screen.specs.Reach.{In, here, there}
-use Rattle.screen.specs.declared.effect.Effect.{Effect}
 use Rattle.screen.specs.Laws.Found.Model.{Tally}
 use Rattle.screen.specs.declared.walking.Text.{Text as Scope}
 use Rattle.screen.specs.Laws.Found.Model.{Visit}
 use Rattle.screen.specs.Laws.Found.Model.{Path, path, headIn, restIn, isSome, topped, waiting, walking, noTally, toldIn, setOut}
-use Rattle.screen.specs.Laws.Found.Model.{blankOf, capOf, heightAfter, backAfter, ownOf, sumAt, soundOf, fitsOf, tokenVisit}
+use Rattle.screen.specs.Laws.Found.Model.{blankOf, sumAt, soundOf, fitsOf, tokenVisit}
 use Rattle.screen.specs.Laws.Found.Model.{readVisit, visitOf, putVisit, putsOf, visitedOn, walkStep, walkSteps, walkAll}
-use Rattle.screen.specs.Laws.Found.Cell.{cellWith, heightIn, backIn}
+use Rattle.screen.specs.Laws.Found.Cell.{cellWith}
 use Rattle.screen.specs.Laws.Found.Cell.{TokenHeights, markIn, bodyMost, cell-mark, mark-none, mark-unmet}
+use Rattle.screen.specs.Laws.Code.Codes.{fitting}
 
 -- ---- tests and lists
 -- where some wait, the first does
@@ -94,29 +93,6 @@ blanks-set b (y ∷ ys) zero v l e n = rw (same-one b y e, same-none b v n) (ome
 blanks-set b (y ∷ ys) (suc q) v l e n = rw (← blanks-set b ys q v (omega arith) e n) (omega arith)
 
 -- ---- a good visit's cell is a height's: neither 0 nor that of a token start not met
-cap-small : (within : Bool) → capOf within ≤ bodyMost
-cap-small true = omega arith
-cap-small false = omega arith
-
--- of seven tests that hold the second holds
-second-of : (a b c d e f g : Bool) → T (a && b && c && d && e && f && g) → T b
-second-of a b c d e f g t =
-    both-hold a b
-    (both-hold (a && b) c
-    (both-hold (a && b && c) d (both-hold (a && b && c && d) e
-    (both-hold (a && b && c && d && e) f (both-hold (a && b && c && d && e && f) g t .0) .0) .0) .0) .0) .1
-
--- nor is that behind a token which fits
-fits-small : (within : Bool) (e : Effect) (cell : ℕ) → T (fitsOf within e cell) → heightAfter e cell ≤ bodyMost
-unfolding fitsOf
-fits-small within e cell t =
-    let h =
-    second-of (leb (e .takes) (heightIn cell)) (leb (heightAfter e cell) (capOf within))
-    (leb (heightIn cell - e .takes + e .rise) (capOf within))
-    (leb (e .«return_takes») (backIn cell)) (leb (backAfter e cell) returnMost) (leb (backIn cell + e .«return_rise») returnMost)
-    (leb (ownOf within + e .frames) framesMost) t in
-    le-trans (leb→le (heightAfter e cell) (capOf within) h) (cap-small within)
-
 -- a height's cell has a mark, by which it is known
 cell-real : (h : TokenHeights) → h .height ≤ bodyMost → markIn (cellWith h) ≢ 0
 cell-real h l z = let m = cell-mark h (omega arith) in omega arith
@@ -130,9 +106,8 @@ read-real x kinds sums cell (Good t) g =
     when-is (λ (v : Visit). v .good ≡ true → markIn (v .cell) ≢ 0)
     (soundOf x kinds t cell && fitsOf (x .within) (effectOf (sumAt sums) t) cell) _ _
     (λ h i.
-    cell-real _
-    (fits-small (x .within) (effectOf (sumAt sums) t) cell
-    (both-hold (soundOf x kinds t cell) (fitsOf (x .within) (effectOf (sumAt sums) t) cell) h .1)))
+    let f = both-hold (soundOf x kinds t cell) (fitsOf (x .within) (effectOf (sumAt sums) t) cell) h .1 in
+    cell-real _ (fitting (x .within) (effectOf (sumAt sums) t) cell (is-true (fitsOf (x .within) (effectOf (sumAt sums) t) cell) f) .most))
     (λ h i. absurd (holds false i)) g
 
 -- and by its place
