@@ -51,9 +51,7 @@ returns-6 c =
     (rw (← p .program-length .ensures) (c .if6 .taken))
 
 abbrev start : tie.After-differs → tie.Start
-start c =
-    let before-here = c .before .before .before .before .before .before .before .before .before .before .before .before .before in
-    before-here
+start c = c .before .before .before .before .before .before .before .before .before .before .before .before .before
 
 -- the length is good where the sum is taken
 measured : (c : tie.Else6) → 9 ≤ lengthOf
