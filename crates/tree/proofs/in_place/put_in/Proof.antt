@@ -212,8 +212,8 @@ replace-requires c κs =
       if2 .left,
     )
 
-mul-values : tie.Need-mul-values
-mul-values c =
+mul-value-sizes : tie.Need-mul-value-sizes
+mul-value-sizes c =
     let if3 = c .before .before .before .before .before .before .before .before .before .before .if3 in
     let find-among = c .before .before .before .before .before .before .before .before .before .before .before .find-among in
     let c₁ = c .before .before .before .before .before .before .before .before .before .before .before .before in
@@ -232,8 +232,8 @@ mul-values c =
     let k = p .3 in
     search needs
 
-element-write-values : tie.Need-element-write-values
-element-write-values c =
+element-write-value-sizes : tie.Need-element-write-value-sizes
+element-write-value-sizes c =
     let if3 = c .before .before .before .before .before .before .before .before .before .before .if3 in
     let find-among = c .before .before .before .before .before .before .before .before .before .before .before .find-among in
     let c₁ = c .before .before .before .before .before .before .before .before .before .before .before .before in
@@ -311,8 +311,8 @@ put-in-spec =
     add-replace
     replace-requires
     (λ c. search needs)
-    mul-values
-    element-write-values
+    mul-value-sizes
+    element-write-value-sizes
     (λ c κs. search needs)
     (λ c. search needs)
     returns-5)
