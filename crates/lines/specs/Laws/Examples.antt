@@ -13,7 +13,7 @@ use Rattle.tokens.specs.Decode.{behindOf, operandOf, tokenIfWhole, decodeOf}
 use Rattle.tokens.specs.Name.{nameOf}
 use Rattle.tokens.specs.Reader.{pieceOf, walkFrom}
 use Rattle.tree.specs.Held.{heldFrom}
-use Rattle.tree.specs.Tree.{onRecords}
+use Rattle.tree.specs.Tree.{treeOnRecords}
 use Rattle.tree.specs.Node.{freshTree}
 use Rattle.tree.specs.declared.tree.Tree.{Tree}
 use Rattle.lines.specs.Digits.{decimalFrom, decimalOf, hexOf}
@@ -43,7 +43,7 @@ empty-value = refl
 
 -- node 1 with "name", "scale" and its null, and "lanes", 00000003
 scale : Tree
-scale = onRecords freshTree (1 ∷ 1 ∷ replicate 126 0) (4 ∷ 5 ∷ replicate 126 0) (6 ∷ 4 ∷ replicate 126 0) 2
+scale = treeOnRecords freshTree (1 ∷ 1 ∷ replicate 126 0) (4 ∷ 5 ∷ replicate 126 0) (6 ∷ 4 ∷ replicate 126 0) 2
 
 store : List ℕ
 store = lettersOf "name" ++ (lettersOf "scale" ++ (0 ∷ [])) ++ (lettersOf "lanes" ++ (0 ∷ 0 ∷ 0 ∷ 3 ∷ [])) ++ replicate 8 0

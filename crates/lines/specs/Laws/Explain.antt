@@ -77,9 +77,9 @@ path-most t store k =
     pick-is (λ z. length (z ++ lineEnd) ≤ 1025) (eqb k 0) (lettersOf "/") deep (λ i. omega arith)
     (λ i. let a = length-append deep lineEnd in omega arith)
 
-read-most : (value : List ℕ) → length (textRead value) ≤ length value + 2
+text-read-most : (value : List ℕ) → length (textRead value) ≤ length value + 2
 unfolding isText quoted lettersOf
-read-most value =
+text-read-most value =
     let x = textOf value in
     let l = length-take (length value - 1) value in
     let a = length-append x (lettersOf "\"") in
@@ -110,7 +110,7 @@ read-line-most name value =
     let x = length-append n (b ++ lineEnd) in
     let y = length-append t (n ++ (b ++ lineEnd)) in
     let z = length-append name (t ++ (n ++ (b ++ lineEnd))) in
-    let i = read-most value in
+    let i = text-read-most value in
     let j = number-most value in
     let k = bytes-most value in
     omega arith

@@ -18,15 +18,22 @@ colon-spec =
     (tie.spec
     (λ c κs. search needs)
     (λ c. search needs)
-    (λ c.
-    let read-body = c .before .before .before .read-body in
-    let c₁ = c .before .before .before .before .before .before in
-    let args = c₁ .args in
-    let pre = c₁ .pre in
-    let a = noArrays in let b : c .before .at .given .0 .0 + 1 ≤ args .core .length =
-    colon-end (now (args .rom)) (joined (onNumbers (now (args .names)) (now (args .kinds)) (now (args .values)) (now (args .ways)) a)
-    (args .core)) (args .number) (args .next) (pre .0) (pre .1) (now (args .known)) (read-body .result)
-    (pre .2 .0 (now (args .values)) (now (args .ways)) .1) (read-body .ensures) _ (pre .3) (c .before .at .given .1) in search needs)
+    -- with what it walks to named, the search meets too many facts before that of the length
+    (λ c. let a = noArrays in
+    let b : c .before .at .given .0 .0 + 1 ≤ c .before .before .before .before .before .before .args .core .length =
+    colon-end (now (c .before .before .before .before .before .before .args .rom))
+    (joined (onNumbers (now (c .before .before .before .before .before .before .args .names))
+    (now (c .before .before .before .before .before .before .args .kinds))
+    (now (c .before .before .before .before .before .before .args .values))
+    (now (c .before .before .before .before .before .before .args .ways)) a)
+    (c .before .before .before .before .before .before .args .core)) (c .before .before .before .before .before .before .args .number)
+    (c .before .before .before .before .before .before .args .next) (c .before .before .before .before .before .before .pre .0)
+    (c .before .before .before .before .before .before .pre .1) (now (c .before .before .before .before .before .before .args .known))
+    (c .before .before .before .read-body .result)
+    (c .before .before .before .before .before .before .pre .2 .0
+    (now (c .before .before .before .before .before .before .args .values))
+    (now (c .before .before .before .before .before .before .args .ways)) .1) (c .before .before .before .read-body .ensures) _
+    (c .before .before .before .before .before .before .pre .3) (c .before .at .given .1) in search needs)
     (λ c κs. search needs)
     (λ c κs. search needs)
     (λ c. search needs)
