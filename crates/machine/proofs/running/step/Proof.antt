@@ -13,11 +13,8 @@ step-spec =
     (λ c κs. search needs)
     (λ c. search needs)
     (λ c κs.
-    let enum-told = c .before .before .enum-told in
-    let ready = c .before .before .before .before .ready in
-    let good′ = c .before .before .before .before .before .before .before .before .before .before .good in
-    let good = good′ .1 .1 .1 .0 in (
-      sym (ready .ensures) ∙ enum-told .given .1,
+    let good = c .before .before .before .before .before .before .before .before .before .before .good .1 .1 .1 .0 in (
+      sym (c .before .before .before .before .ready .ensures) ∙ c .before .before .enum-told .given .1,
       record {
         stack = search needs;
         back = search needs;
