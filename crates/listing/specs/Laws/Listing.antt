@@ -40,7 +40,7 @@ listOf rom marks work store budget text =
     listWith (screenedOf rom marks .verdict) (screenedOf rom marks .marks) rom marks work store budget text
 
 -- it is one, and every other one is this
-module _ {rom marks work store : List ℕ} {budget : ℕ} {text : List ℕ} {l : Listed} where
+module _ (rom marks work store : List ℕ) (budget : ℕ) (text : List ℕ) {l : Listed} where
   pub lists : l ≡ listOf rom marks work store budget text → Lists rom marks work store budget text l
   lists e = (screenedOf rom marks .verdict, screenedOf rom marks .marks, promise-kept rom marks, e)
 
@@ -191,4 +191,4 @@ module _ (rom marks work store : List ℕ) (budget : ℕ) (text : List ℕ) wher
 
   pub and-inside : {m w s t : List ℕ} {n : ℕ} → listedWith n m w s t ≡ listOf rom marks work store budget text
       → Lists rom marks work store budget text (listedWith n m w s t) × (n ≤ length t)
-  and-inside e = (lists e, subst (λ (l : Listed). l .size ≤ length (l .text)) (sym e) inside)
+  and-inside e = (lists rom marks work store budget text e, subst (λ (l : Listed). l .size ≤ length (l .text)) (sym e) inside)
