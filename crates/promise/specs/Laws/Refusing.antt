@@ -35,7 +35,7 @@ use Rattle.state.specs.Laws.Keeps.Tests.{_▸_}
 use Rattle.state.specs.Laws.Keeps.Token.{shape}
 use Rattle.state.specs.declared.state.State.{State}
 use Rattle.screen.specs.Effect
-use Rattle.screen.specs.Effect.{isA, isColon, aims, noEffect, isBranch, leadsOf, valueSum, ownEffect, effectOf}
+use Rattle.screen.specs.Effect.{isA, isColon, aims, noPlaces, isBranch, leadsOf, valueSum, ownEffect, effectOf}
 use Rattle.screen.specs.Reach.{In, Setting, tokenAt, known, reads, extends, leads, Holds, Met}
 use Rattle.screen.specs.Reach.{calls as named-call, assigns as named-assign}
 use Rattle.screen.specs.Rules.{Assignment}
@@ -69,7 +69,7 @@ not-second true b h = h
 not-second false b h = tt
 
 -- a branch that has an aim does not lead out
-leads-in : (o : Operand) → T (not (noEffect (aims o))) → T (not (leadsOut o))
+leads-in : (o : Operand) → T (not (noPlaces (aims o))) → T (not (leadsOut o))
 leads-in Nothing h = tt
 leads-in (Literal n) h = tt
 leads-in (Text start count) h = tt
@@ -335,7 +335,7 @@ module _ {rom : List ℕ} (a : Assignment rom) (work store : List ℕ) (open-cal
       (unasked family rollUp tooDeepHere (λ k. absurd (T-not (isA rollUp t) (n .1) (holds (isA rollUp t) (eq-eqb family rollUp k)))))
 
   -- ---- 19: no branch leads out
-  pub aimed-in : T (isBranch t) → T (not (noEffect (aims (t .operand))))
+  pub aimed-in : T (isBranch t) → T (not (noPlaces (aims (t .operand))))
   aimed-in b = aimed-some t b (a .aimed met)
 
   not-astray : T (not (Refusals.goesAstray s t))

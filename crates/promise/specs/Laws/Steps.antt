@@ -46,7 +46,7 @@ use Rattle.state.specs.Laws.Keeps.Token.{takesBy, givesBy, shape, no-returns}
 use Rattle.state.specs.declared.state.State.{State}
 use Rattle.state.specs.declared.answer.Answer.{Answer}
 use Rattle.state.specs.declared.answer.Answer.the-variants.{Going, Finished, Refused, Spent}
-use Rattle.screen.specs.Effect.{isA, fixes, isColon, aims, noEffect, isBranch, bothWays, leadsOf, effectOf}
+use Rattle.screen.specs.Effect.{isA, fixes, isColon, aims, noPlaces, isBranch, bothWays, leadsOf, effectOf}
 use Rattle.screen.specs.Reach.{In, here, there, inBody, tokenAt, extends, leads, Holds}
 use Rattle.screen.specs.Rules.{Assignment}
 use Rattle.screen.specs.Laws.Rules.Tokens.{heads}
@@ -96,7 +96,7 @@ nodesOf st = (st .tree, st .active, st .first)
 
 -- ---- branches
 -- a branch leads to its aim
-to-aim : (o : Operand) → T (not (noEffect (aims o))) → In (aimed o) (aims o)
+to-aim : (o : Operand) → T (not (noPlaces (aims o))) → In (aimed o) (aims o)
 to-aim Nothing h = absurd h
 to-aim (Literal n) h = absurd h
 to-aim (Text start count) h = absurd h
@@ -106,7 +106,7 @@ to-aim (Number n) h = absurd h
 to-aim (Definition n k) h = absurd h
 
 -- both ways of one that may be taken
-either-way : (next : ℕ) (o : Operand) → T (not (noEffect (aims o))) → In next (bothWays next (aims o))
+either-way : (next : ℕ) (o : Operand) → T (not (noPlaces (aims o))) → In next (bothWays next (aims o))
     × In (aimed o) (bothWays next (aims o))
 either-way next Nothing h = absurd h
 either-way next (Literal n) h = absurd h
@@ -383,10 +383,10 @@ module _ {rom : List ℕ} (a : Assignment rom) (work stored : List ℕ) (open-ca
   -- numbers stay those of the definitions carried out
   moves-on : (f : T (fixes t)) → T (not (isA define t)) → {q : ℕ} → Holds rom (leads (g .outer .wide) (g .home) t q)
       → Carried rom q (st .numbers)
-  moves-on f n {q} l = carried-on a (leads-moves a (outer f .met) l) (λ e d. noEffect d) (g .numbers)
+  moves-on f n {q} l = carried-on a (leads-moves a (outer f .met) l) (λ e d. none d) (g .numbers)
     where
       none : {e : ℕ} → Defined rom (g .home) e → ⊥
-      noEffect d = T-not (isA define t) n (subst (λ v. T (isA define v)) (defined-token d (outer f .met)) (d .defines))
+      none d = T-not (isA define t) n (subst (λ v. T (isA define v)) (defined-token d (outer f .met)) (d .defines))
 
   -- CC, 11F and 127 take nothing
   none-taken : (f : ℕ) → family ≡ f → T (not (isA define t)) → T (not (eqb f plain || eqb f kind)) → takesBy f ≡ 0

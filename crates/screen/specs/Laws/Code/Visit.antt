@@ -33,7 +33,7 @@ use Rattle.tokens.specs.declared.read.Read.the-variants.{Refused, Good}
 use Rattle.tokens.specs.declared.glance.Glance.{Glance}
 use Rattle.tokens.specs.declared.quick.Quick.{Quick}
 use Rattle.tokens.specs.Laws.Stands.{stands}
-use Rattle.screen.specs.Effect.{isA, fixes, aims, noEffect, called, ownEffect, effectOf}
+use Rattle.screen.specs.Effect.{isA, fixes, aims, noPlaces, called, ownEffect, effectOf}
 use Rattle.screen.specs.Reach.{In, here}
 use Rattle.screen.specs.Laws.Rules.Tokens.{aims-fit}
 use Rattle.screen.specs.Laws.Found.Model.{Visit, Tally, sumAt, fitsOf, badVisit, heightsAfter}
@@ -262,10 +262,10 @@ module _ (rom : List ℕ) (x : Scope) (p : ℕ) (g : Glance) (t : Token) (s : Vi
       rw o a
 
   -- a branch is astray where its aim is 0, since no branch leads to place 0
-  pub astray-aim : noEffect (aims (t .operand)) ≡ eqb (g .aim) 0
+  pub astray-aim : noPlaces (aims (t .operand)) ≡ eqb (g .aim) 0
   astray-aim = rw (← s .aim) (by (t .operand) (aims-fit rom (x .length) (x .wide) (x .within) p t (s .read)))
     where
-      by : (o : Operand) → ((q : ℕ) → In q (aims o) → (8 ≤ q) × (q < x .length)) → noEffect (aims o) ≡ eqb (aimIn o) 0
+      by : (o : Operand) → ((q : ℕ) → In q (aims o) → (8 ≤ q) × (q < x .length)) → noPlaces (aims o) ≡ eqb (aimIn o) 0
       by Nothing f = refl
       by (Literal n) f = refl
       by (Text start count) f = refl

@@ -19,7 +19,7 @@ use Rattle.tokens.specs.Laws.Tokens.{next-ahead}
 use Rattle.tokens.specs.Definition.{colon, kindIn}
 use Rattle.tokens.specs.declared.decoding.Token.{Token}
 use Rattle.tokens.specs.declared.read.Read.the-variants.{Good}
-use Rattle.screen.specs.Effect.{isA, fixes, isColon, isBranch, aims, noEffect, astray, bothWays, leadsOf, called, ownEffect, effectOf}
+use Rattle.screen.specs.Effect.{isA, fixes, isColon, isBranch, aims, noPlaces, astray, bothWays, leadsOf, called, ownEffect, effectOf}
 use Rattle.screen.specs.Effect.{names}
 use Rattle.screen.specs.Reach.{In, here, there}
 use Rattle.screen.specs.Laws.Rules.Tokens.{none-in, fixes-no-branch, fixes-no-end, fixes-no-name}
@@ -162,8 +162,8 @@ split n q (x ∷ xs) (there (there i)) = none-in i
 
 module _ (t : Token) where
   -- a branch that is not astray has an aim
-  pub aimed-some : T (isBranch t) → T (not (astray t)) → T (not (noEffect (aims (t .operand))))
-  aimed-some b a = not-both (isBranch t) (noEffect (aims (t .operand))) b a
+  pub aimed-some : T (isBranch t) → T (not (astray t)) → T (not (noPlaces (aims (t .operand))))
+  aimed-some b a = not-both (isBranch t) (noPlaces (aims (t .operand))) b a
 
   -- b(:) leads nowhere by its own bytes
   pub colon-leads : T (isColon t) → leadsOf t ≡ []

@@ -21,7 +21,7 @@ use Rattle.tokens.specs.declared.decoding.Operand.the-variants.{Nothing, Litera
 use Rattle.tokens.specs.declared.decoding.Token.{Token}
 use Rattle.tokens.specs.declared.read.Read.{Read}
 use Rattle.tokens.specs.declared.read.Read.the-variants.{Refused, Good}
-use Rattle.screen.specs.Effect.{isA, allowed, fixes, isBranch, aims, noEffect, astray, bothWays, leadsOf, effectOf}
+use Rattle.screen.specs.Effect.{isA, allowed, fixes, isBranch, aims, noPlaces, astray, bothWays, leadsOf, effectOf}
 use Rattle.screen.specs.Reach.{In, here, there}
 use Rattle.screen.specs.Laws.Code.Codes.{fits-known}
 use Rattle.screen.specs.Laws.Found.Model.{sumAt, capOf, ownOf, heightAfter, backAfter, fitsOf, soundOf, heightsAfter}
@@ -66,7 +66,7 @@ is-aim (Number k) q e n = absurd (n (sym e))
 is-aim (Definition k m) q e n = absurd (n (sym e))
 
 -- b?branch leads behind itself where it is not astray
-first-way : (n : ℕ) (xs : List ℕ) → T (not (noEffect xs)) → In n (bothWays n xs)
+first-way : (n : ℕ) (xs : List ℕ) → T (not (noPlaces xs)) → In n (bothWays n xs)
 first-way n [] h = absurd h
 first-way n (x ∷ xs) h = here
 
