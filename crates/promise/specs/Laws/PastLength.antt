@@ -77,10 +77,12 @@ module _ {rom other : List ℕ} (a : Alike rom other) (work store : List ℕ) (b
   lists-there marks text (v, after, p, e) = (v, after, promised-there a p, e ∙ same-list v after marks text)
 
 handed : Handed
-handed rom other marks work store text budget a =
-    (same-host a work store budget, λ l k p q.
-    one-listing other marks work store budget text (lists-there a work store budget marks text p)
-    ∙ sym (one-listing other marks work store budget text q))
+handed rom other marks work store text budget a = (
+  same-host a work store budget,
+  λ l k p q.
+      one-listing other marks work store budget text (lists-there a work store budget marks text p)
+      ∙ sym (one-listing other marks work store budget text q),
+)
 
 pub past-length : PastLength
 past-length = (opens, heights, screens, steps, runs, handed)

@@ -5,7 +5,7 @@ use mathlib.Core.Path.{_≡_, refl, sym, ap, subst, _∙_}
 use mathlib.Core.Logic.{inl, inr}
 use mathlib.Core.Bool.{Bool, true, false, not, _||_}
 use mathlib.Core.List.{List}
-use lib.ListN.{length, getD}
+use lib.ListN.{length, getD, take}
 use lib.Seq.{take-append-seam}
 use lib.Dec.{T, eqb, ltb}
 use borrow.Author.Tests.{eq-eqb}
@@ -85,8 +85,8 @@ module _ (rom marks work store : List ℕ) where
 first-line : FirstLine
 first-line rom marks work store text budget l e k =
     let (words, shown, size, held) = person-sees rom marks work store text budget l e k in
-    let w : written l ≡ words = rw (size, held) (take-append-seam words _) in
-    rw w (shown-judged rom marks work store budget shown)
+    let w : written l ≡ words = (λ i. take (size i) (held i)) ∙ take-append-seam words _ in
+    subst (FirstLineIs rom marks work store) (sym w) (shown-judged rom marks work store budget shown)
 
 pub received : Received
 received = (zero-exactly, none-exactly, first-line)
