@@ -1,8 +1,9 @@
 /* Celestalamp for C: an FCode ROM is checked, screened, run and listed. Numbers are those of document 01; README.md has the table.
  *
- * Any bytes, lengths and budget may be given. A call ends, touches nothing but the memory that is lent to it, and keeps nothing between calls. The one
- * thing asked of the caller is what C asks: a pointer leads to as many bytes as the length beside it says, buffers that are written to do not overlap
- * each other or the ROM, and `steps` leads to a uint32_t outside them. With the length 0 a pointer is not followed, and may be null.
+ * Any bytes, lengths and budget may be given. A call ends, touches nothing but the memory that is lent to it, and keeps nothing between
+ * calls. The one thing asked of the caller is what C asks: a pointer leads to as many bytes as the length beside it says, buffers that are
+ * written to do not overlap each other or the ROM, and `steps` leads to a uint32_t outside them. With the length 0 a pointer is not
+ * followed, and may be null.
  *
  * The library is for x86-64 Linux and calls nothing but memcpy and memset: no heap, no files. A call may take 200 KB of stack. */
 #ifndef CELESTALAMP_FCODE_H
@@ -24,15 +25,16 @@ extern "C" {
 /* The header test. 0 for a good header, else the first of 1 to 5 that applies. */
 uint32_t fcode_check(const uint8_t *rom, size_t rom_len);
 
-/* The screen. 0: the ROM passes, and `marks` has the data height plus one at the first byte of each token that can be reached, and zero elsewhere.
- * 31: stack heights cannot be assigned, and `marks` is all zero. 6 for a mark buffer of the wrong size and then 1 to 5 for the header: `marks` is as it
- * was. */
+/* The screen. 0: the ROM passes, and `marks` has the data height plus one at the first byte of each token that can be reached, and zero
+ * elsewhere. 31: stack heights cannot be assigned, and `marks` is all zero. 6 for a mark buffer of the wrong size and then 1 to 5 for the
+ * header: `marks` is as it was. */
 uint32_t fcode_screen(const uint8_t *rom, size_t rom_len, uint8_t *marks, size_t marks_len);
 
-/* Opens the ROM and runs it, without screening it. 0: finished. 28: `budget` tokens were carried out. 6 for a work or store buffer of the wrong size
- * and then 1 to 5 for the header: both buffers are as they were, and `*steps` is 0. Any other number is the refusal of a token; of a ROM that fcode_screen
- * passes it is one from 21 to 27, which depend on the program's data. After 0, 28 and a refused token `*steps` is the count of tokens carried out, `work` is
- * the program's memory then, and `store` has name and value of each property in order of creation, zeros behind them. */
+/* Opens the ROM and runs it, without screening it. 0: finished. 28: `budget` tokens were carried out. 6 for a work or store buffer of the
+ * wrong size and then 1 to 5 for the header: both buffers are as they were, and `*steps` is 0. Any other number is the refusal of a token;
+ * of a ROM that fcode_screen passes it is one from 21 to 27, which depend on the program's data. After 0, 28 and a refused token `*steps`
+ * is the count of tokens carried out, `work` is the program's memory then, and `store` has name and value of each property in order of
+ * creation, zeros behind them. */
 uint32_t fcode_run(const uint8_t *rom, size_t rom_len, uint8_t *work, size_t work_len, uint8_t *store, size_t store_len, uint32_t budget,
                    uint32_t *steps);
 

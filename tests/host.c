@@ -289,7 +289,8 @@ static void lists(void) {
     for (size_t off = 0; off <= 2; off += 2) {
         size_t size = FCODE_MARKS_SIZE - 1 + off;
         for (int which = 0; which < 3; which++) {
-            lend_all(which == 0 ? size : FCODE_MARKS_SIZE, which == 1 ? size : FCODE_WORK_SIZE, which == 2 ? size : FCODE_STORE_SIZE, FCODE_TEXT_SIZE);
+            lend_all(which == 0 ? size : FCODE_MARKS_SIZE, which == 1 ? size : FCODE_WORK_SIZE, which == 2 ? size : FCODE_STORE_SIZE,
+                     FCODE_TEXT_SIZE);
             EXPECT(prints(100000, "refused 6\n"));
             EXPECT(untouched(&marks) && untouched(&work) && untouched(&store));
         }

@@ -1,7 +1,8 @@
 #!/bin/sh
-# Runs node_rows, the node table in a lent slice of row structs. A program that lends its own rows would be proved by hand, so this one stands in no
-# crate: it is written below, put beside a copy of the crates, and run by rt try, on the interpreter and compiled three ways. It lends the first rows of
-# 33 that all hold 9, and says what node_rows answers and what all 33 hold then. What it must say is worked out here, by hand.
+# Runs node_rows, the node table in a lent slice of row structs. A program that lends its own rows would be proved by hand, so this one
+# stands in no crate: it is written below, put beside a copy of the crates, and run by rt try, on the interpreter and compiled three ways.
+# It lends the first rows of 33 that all hold 9, and says what node_rows answers and what all 33 hold then. What it must say is worked out
+# here, by hand.
 set -eu
 cd "$(dirname "$0")/.."
 room=$(mktemp -d)
@@ -50,50 +51,47 @@ fn show(name: &[u8], tree: Tree, size: usize) {
     say(b"\n");
 }
 
-// The tree with a property of the active node.
-fn put(store: &mut [u8], tree: Tree, name: &[u8], value: &[u8], null: bool) -> Tree {
+// The tree with a property of a node.
+fn put(store: &mut [u8], tree: Tree, node: u32, name: &[u8], value: &[u8], null: bool) -> Tree {
     let mut owners = tree.owners;
-    let mut names = tree.names;
-    let mut values = tree.values;
-    let tail = tail_of(&names, &values, tree.held);
+    let mut name_sizes = tree.name_sizes;
+    let mut value_sizes = tree.value_sizes;
+    let tail = tail_of(&name_sizes, &value_sizes, tree.held);
     let kept = put_in(
         store,
         &mut owners,
-        &mut names,
-        &mut values,
+        &mut name_sizes,
+        &mut value_sizes,
         tree.held,
         tail,
-        tree.active,
+        node,
         name,
         value,
         null,
     );
     let mut t = tree;
     t.owners = owners;
-    t.names = names;
-    t.values = values;
+    t.name_sizes = name_sizes;
+    t.value_sizes = value_sizes;
     t.held = kept.held;
     t
 }
 
-// The tree with a child of the active node, which is active then.
-fn open(tree: Tree) -> Tree {
+// The tree with a child of a node: the youngest node then.
+fn open(tree: Tree, node: u32) -> Tree {
     let mut parents = tree.parents;
-    let opened = open_child(&mut parents, tree.nodes, tree.active);
+    let opened = open_child(&mut parents, tree.nodes, node);
     let mut t = tree;
     t.parents = parents;
     t.nodes = opened.nodes;
-    t.active = opened.active;
     t
 }
 
-// The tree with the active node's parent active.
-fn close(tree: Tree) -> Tree {
+// The node that is active once this one is closed, in a program that started at node 1.
+fn close(tree: Tree, node: u32) -> u32 {
     let parents = tree.parents;
-    let closed = close_child(&parents, tree.active);
-    let mut t = tree;
-    t.active = closed.active;
-    t
+    let closed = close_child(&parents, 1, node);
+    closed.active
 }
 
 fn main() {
@@ -104,7 +102,7 @@ fn main() {
     show(b"fresh", fresh, 33);
 
     let mut damaged = fresh;
-    damaged.active = 2;
+    damaged.nodes = 1;
     show(b"damaged", damaged, 31);
     show(b"damaged", damaged, 32);
     show(b"damaged", damaged, 33);
@@ -116,20 +114,20 @@ fn main() {
     stale.owners[0] = 1;
     show(b"stale", stale, 32);
 
-    // node 1 with two properties, its children 2 with one and 3 with none, the later of the two active
+    // node 1 with two properties, its children 2 with one and 3 with none
     let mut store = [0u8; 16384];
-    let one = put(&mut store, fresh, b"a", b"1", false);
-    let two = put(&mut store, one, b"b", b"", true);
-    let three = put(&mut store, open(two), b"a", b"2", false);
-    let small = open(close(three));
+    let one = put(&mut store, fresh, 1, b"a", b"1", false);
+    let two = put(&mut store, one, 1, b"b", b"", true);
+    let three = put(&mut store, open(two, 1), 2, b"a", b"2", false);
+    let small = open(three, close(three, 2));
     show(b"small", small, 32);
 
     // below node 3 a child, a child's child and so on, until there are 32 nodes; the last has a property
     let mut full = small;
     while full.nodes < 32 {
-        full = open(full);
+        full = open(full, full.nodes as u32 - 1);
     }
-    let last = put(&mut store, full, b"a", b"3", false);
+    let last = put(&mut store, full, 31, b"a", b"3", false);
     show(b"full", last, 32);
     show(b"full", last, 31);
 }

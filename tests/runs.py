@@ -20,10 +20,10 @@ A case starts with 'case HEXROM BUDGET' ('-': no bytes; paths may stand behind) 
     prop NODE NAME VALUE   a line each, in store order; hex, '-' where empty
     work N SUM             the work place, CRC-32 of the 16,384 work bytes
     store SUM              CRC-32 of the 16,384 store bytes
-    find PATH N            N the refusal; or 'node K'; or 'value HEX'; the path in hex, with ':' and a property's name behind it the property
+    find PATH N            N the refusal; or 'node K'; or 'value HEX'; the path in hex, with ':' and a name behind it the property
 
-The lines screen and marks belong to calls that crates/runs does not make. Before the lookups it prints the node table, which is worked out here from the
-lines nodes and prop:
+The lines screen and marks belong to calls that crates/runs does not make. Before the lookups it prints the node table, which is worked out
+here from the lines nodes and prop:
 
     rows P:C ...           each node's parent and count of properties
 """
@@ -82,14 +82,16 @@ def bench_roms():
     yield "R FD0800000000000800 1000", ["open 4"]
     yield "Z 16385", ["open 1"]
     yield "Z 16384", ["open 2"]
-    yield f"R {SCALE.hex().upper()} 100000", left("finished", 7, 30, props=SCALE_PROPS, work_place=4, work=bytes([0, 0, 0, 3]), store=SCALE_STORE)
+    yield f"R {SCALE.hex().upper()} 100000", left(
+        "finished", 7, 30, props=SCALE_PROPS, work_place=4, work=bytes([0, 0, 0, 3]), store=SCALE_STORE
+    )
     unsummed = SCALE[:2] + bytes(2) + SCALE[4:]
     yield f"R {unsummed.hex().upper()} 100000", ["open 5"]
 
 
-# Two calls open after 14 tokens, with bases 0 and 1 and a return cell each: 8 new-device, 10 b(") "scale", 17 device-name, 19 number 800 (its body
-# from 23: 1 >r 2 drop r> drop), 30 number 801 (its body from 34: 0 >r 800 r> drop), 41 the variable 802, 45 3, 46 801, 48 drop, 49 finish-device,
-# 51 end0.
+# Two calls open after 14 tokens, with bases 0 and 1 and a return cell each: 8 new-device, 10 b(") "scale", 17 device-name, 19 number 800
+# (its body from 23: 1 >r 2 drop r> drop), 30 number 801 (its body from 34: 0 >r 800 r> drop), 41 the variable 802, 45 3, 46 801, 48 drop,
+# 49 finish-device, 51 end0.
 CALLS = with_header(
     bytes.fromhex("011F" "12057363616C65" "0201" "B50800B7A630A7463146C2" "B50801B7A53008003146C2" "B50802B9" "A8" "0801" "46" "0127" "00")
 )
@@ -109,7 +111,8 @@ def calls_open():
     yield f"R {rom} 1000", left("finished", 24, 52, nodes="1 0 0 1", **CALLS_LEFT)
 
 
-# The conditions of refusal 7 as document 01 has them, by the number under which crates/runs knows each.
+# The conditions of refusal 7 as document 01 has them, and behind them those of the first node, by the number under which crates/runs knows
+# each.
 DAMAGES = (
     "data height 65",
     "return height 33",
@@ -139,20 +142,28 @@ DAMAGES = (
     "node 1 its own parent",
     "the root's parent not 0",
     "live bytes above 16,384, each length in its limit",
+    "the first node absent",
+    "node 0 the first",
 )
 WHOLE = 99
 # The damages that the finished scale ROM, which has no calls and no numbers, can have too: a finished state is tested like any other.
-OF_A_FINISHED = (0, 1, 2, 3, 4, 5, 6, 7, 8, 9, 10, 13, 14, 21, 22, 23, 25, 26, 27)
+OF_A_FINISHED = (0, 1, 2, 3, 4, 5, 6, 7, 8, 9, 10, 13, 14, 21, 22, 23, 25, 26, 27, 28, 29)
 
 
-# Those in the tree are what a lookup, of a node and of a property, and the node table refuse too, and the table's columns are then as they were.
-IN_THE_TREE = (5, 6, 7, 8, 9, 10, 21, 22, 23, 24, 25, 26, 27)
+# A lookup of a node and of a property and the node table, by the tree's calls and by the state's. Those of the tree refuse a damage in
+# the tree, and which node is active and which the first is not in the tree; those of the state refuse every one, and the table's columns
+# are then as they were.
+IN_THE_TREE = (5, 6, 7, 8, 9, 10, 22, 24, 25, 26, 27)
 NOT_FOUND = "lookups 30 30 0"
 REFUSED_LOOKUPS = "lookups 7 7 7 kept kept"
 
 
+def lookups_of(in_the_tree, in_the_state):
+    return [REFUSED_LOOKUPS if in_the_tree else NOT_FOUND, "state " + (REFUSED_LOOKUPS if in_the_state else NOT_FOUND)]
+
+
 def refused_state(k):
-    return [REFUSED_LOOKUPS if k in IN_THE_TREE else NOT_FOUND, f"damaged {k} step refused 7 run refused 7 steps 0 unchanged"]
+    return [*lookups_of(k in IN_THE_TREE, True), f"damaged {k} step refused 7 run refused 7 steps 0 unchanged"]
 
 
 def damages():
@@ -161,12 +172,13 @@ def damages():
         yield f"D {k:02} {calls} 14", refused_state(k)
     for k in OF_A_FINISHED:
         yield f"D {k:02} {scale} 100000", refused_state(k)
-    yield f"D {WHOLE} {calls} 14", [NOT_FOUND, f"damaged {WHOLE} step going run finished steps 10 changed"]
-    yield f"D {WHOLE} {scale} 100000", [NOT_FOUND, f"damaged {WHOLE} step finished run finished steps 0 unchanged"]
+    yield f"D {WHOLE} {calls} 14", [*lookups_of(False, False), f"damaged {WHOLE} step going run finished steps 10 changed"]
+    yield f"D {WHOLE} {scale} 100000", [*lookups_of(False, False), f"damaged {WHOLE} step finished run finished steps 0 unchanged"]
 
 
-# Run for 6 tokens, this leaves 800, a colon definition (its body at 12: 1), 801, a value of 2, 802, a constant of 3, and node 2 active. The rest: 24
-# 800, 26 801, 28 1, 29 b(to) 801, 32 number 803 (its body at 36: 800), 39 803, 41 b(") "a", 44 device-name, 46 finish-device, 48 end0.
+# Run for 6 tokens, this leaves 800, a colon definition (its body at 12: 1), 801, a value of 2, 802, a constant of 3, and node 2 active. The
+# rest: 24 800, 26 801, 28 1, 29 b(to) 801, 32 number 803 (its body at 36: 800), 39 803, 41 b(") "a", 44 device-name, 46 finish-device, 48
+# end0.
 ODD = with_header(
     bytes.fromhex("B50800B7A6C2" "A7B50801B8" "A8B50802BA" "011F" "0800" "0801" "A6C30801" "B50803B70800C2" "0803" "1201610201" "0127" "00")
 )
@@ -200,8 +212,8 @@ def over_itself():
     yield f"R {rom.hex().upper()} 100", left("finished", 6, len(rom), data=(0x20000004, 7), work_place=len(work), work=work)
 
 
-# States and buffers with more than one thing wrong, in the order in which crates/runs offers them, and what the step and the run say: each of 6, 1,
-# 7, 4, finish and budget comes before all behind it.
+# States and buffers with more than one thing wrong, in the order in which crates/runs offers them, and what the step and the run say: each
+# of 6, 1, 7, 4, finish and budget comes before all behind it.
 NOT_DONE = "step refused {0} run refused {0} steps 0 unchanged"
 FINISHED = "step finished run finished steps 0 unchanged"
 ORDERS = (
@@ -226,10 +238,13 @@ OPENINGS = (
 def orders():
     lines = [f"order {k} {told}" for k, (_, told) in enumerate(ORDERS)]
     lines += [f"opening {told}" for _, told in OPENINGS]
-    # a store one byte short and one byte long, a damaged tree, a bad path, a good one: a node and a property each
+    # by the tree's calls, a store one byte short and one byte long, a damaged tree, a bad path, a good one: a node and a property each
     lines.append("lookup order 6 6 6 6 7 7 29 29 30 30")
     # 31 parents, 33 counts, a damaged tree: each column as it was
     lines.append("table order 6 kept kept 6 kept kept 7 kept kept")
+    # the same of a state whose tree is whole and whose data stack has 65 cells, with a path of good form too before the state that is whole
+    lines.append("state lookup order 6 6 6 6 7 7 7 7 29 29 30 30")
+    lines.append("state table order 6 kept kept 6 kept kept 7 kept kept")
     yield f"O {CALLS.hex().upper()} 14", lines
 
 
@@ -241,8 +256,8 @@ def device_name(name):
 
 
 # Node 1 is "a" and has the children 2 "b", 3 "b" again with a child 4 "c", 5 "d" by a name without a null, 6 "x" and two nulls, 7 with the
-# name of no bytes, 8 without a name, 9 "a/b", and 10, called by bytes that no property's name may have; node 1 has the properties "empty" and
-# "v" beside its name.
+# name of no bytes, 8 without a name, 9 "a/b", and 10, called by bytes that no property's name may have; node 1 has the properties "empty"
+# and "v" beside its name.
 FAMILY = (
     (device_name(b"a"), ("1", b"name", b"a\0")),
     (put(b"empty", b""), ("1", b"empty", b"")),
@@ -313,7 +328,8 @@ def lookups():
     asked = [path.hex().upper() + ("" if name is None else ":" + name.hex().upper()) for path, name, _ in FINDS]
     held = [made for _, made in FAMILY if made]
     props = [f"{node} {name.hex().upper()} {value.hex().upper() or '-'}" for node, name, value in held]
-    steps = 1 + sum(tokens.count(NEW) + tokens.count(FINISH) for tokens, _ in FAMILY) + sum(2 if b"\x02\x01" in tokens else 3 for tokens, made in FAMILY if made)
+    nodes = sum(tokens.count(NEW) + tokens.count(FINISH) for tokens, _ in FAMILY)
+    steps = 1 + nodes + sum(2 if b"\x02\x01" in tokens else 3 for tokens, made in FAMILY if made)
     store = b"".join(name + value for _, name, value in held)
     told = left("finished", steps, len(rom), nodes="1 0 0 1 1 3 1 1 1 1 1 1", props=props, store=store)
     told += [f"find {word} {found}" for word, (_, _, found) in zip(asked, FINDS)]

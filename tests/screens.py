@@ -1,16 +1,16 @@
 #!/usr/bin/env python3
-"""What crates/screens is run on and must print: the worked cases, the bench ROMs of documents 01 and 02, the ROMs by which
-docs/DECISIONS.md says how document 01 is read, wrong buffers and headers, and ROMs for the rules that these do not touch. The worked cases were
-worked out apart from the Rattle code, the rest by hand here.
+"""What crates/screens is run on and must print: the worked cases, the bench ROMs of documents 01 and 02, the ROMs by which docs/DECISIONS.md
+says how document 01 is read, wrong buffers and headers, and ROMs for the rules that these do not touch. The worked cases were worked out
+apart from the Rattle code, the rest by hand here.
 
     python3 tests/screens.py           writes crates/screens/stdin and crates/screens/stdout
     python3 tests/screens.py --check   compares them with what it would write, and exits 1 where they differ
 
-A line of input is 'S HEX', 'W SIZE HEX' with another mark buffer, or 'Z SIZE HEX' with zeros behind the ROM up to a size. It gives two lines: 'screen N'
-(0 passes), and behind it 'marks P:V ...', or, where N is neither 0 nor 31, whether the mark buffer was written.
+A line of input is 'S HEX', 'W SIZE HEX' with another mark buffer, or 'Z SIZE HEX' with zeros behind the ROM up to a size. It gives two
+lines: 'screen N' (0 passes), and behind it 'marks P:V ...', or, where N is neither 0 nor 31, whether the mark buffer was written.
 
-A ROM that passes is written here as its tokens, each with the data height at which it is met, '-' where it is not reached: 'A6:0 46:1 00:0'. A mark is
-this height and one. A ROM that is refused is written as bytes alone. Every ROM has its ground beside it.
+A ROM that passes is written here as its tokens, each with the data height at which it is met, '-' where it is not reached: 'A6:0 46:1
+00:0'. A mark is this height and one. A ROM that is refused is written as bytes alone. Every ROM has its ground beside it.
 """
 import pathlib
 import sys

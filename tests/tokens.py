@@ -103,8 +103,10 @@ def lines(rom):
 
 
 def roms():
-    """Every token of the list; every number of one byte, and many of two; tokens that are cut off; branches before and behind offset16; ROMs of anything."""
-    operands = {0x10: "00C0FFEE", 0x12: "057363616C65", 0x13: "7F80", 0x14: "8001", 0xC3: "0801", 0xB5: "0800B7", 0xB6: "04746172650FFFB8", 0xCA: "000800BA"}
+    """Every token of the list; every number of one byte, and many of two; tokens that are cut off; branches before and behind offset16;
+    ROMs of anything."""
+    operands = {0x10: "00C0FFEE", 0x12: "057363616C65", 0x13: "7F80", 0x14: "8001", 0xC3: "0801"}
+    operands |= {0xB5: "0800B7", 0xB6: "04746172650FFFB8", 0xCA: "000800BA"}
     every = b"".join((bytes([n]) if n < 256 else n.to_bytes(2, "big")) + bytes.fromhex(operands.get(n, "")) for n in NAMES)
     for start in (0xFD, 0xF1):
         yield with_header(every + bytes.fromhex("08000FFF0801"), start)
@@ -143,7 +145,8 @@ def loader():
     tools = kit / "on" / platform.machine() / "toolchain"
     emulator = tools / "bin" / "qemu-x86_64"
     words = [str(emulator)] if emulator.exists() else []
-    return words + [str(tools / "lib" / "ld-linux-x86-64.so.2"), "--library-path", str(tools / "lib"), str(HERE / "target" / "bin" / "lamp")]
+    loader = [str(tools / "lib" / "ld-linux-x86-64.so.2"), "--library-path", str(tools / "lib")]
+    return words + loader + [str(HERE / "target" / "bin" / "lamp")]
 
 
 def main():

@@ -1,4 +1,5 @@
-"""The input of a program that runs worked cases and what it must print: written into its crate, or with --check compared with what is there."""
+"""The input of a program that runs worked cases and what it must print: written into its crate, or with --check compared with what is
+there."""
 import sys
 
 INPUT_MOST = 131072

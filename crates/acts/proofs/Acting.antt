@@ -1,5 +1,5 @@
--- A token that was seen at the place of a state and is not hot: what its family asks for, which token it is, and that there is no other family. Assumes
--- nothing.
+-- A token that was seen at the place of a state and is not hot: what its family asks for, which token it is, and that there is no other
+-- family. Assumes nothing.
 use Prim.Native.Nat.{ℕ, _+_, _-_, _≤_}
 use mathlib.Core.Path.{_≡_, refl, sym, ap, subst, _∙_}
 use mathlib.Core.Bool.{Bool, true, false, not, _||_, _&&_}
@@ -8,8 +8,8 @@ use native.Mathlib.Omega.{arith}
 use borrow.Author.Tests.{ltb-true}
 use lib.Dec.{T, eqb, eqb→eq}
 use Rattle.cells.specs.Choice.{find}
-use Rattle.cells.specs.Tests.{find-none, Rest}
-use Rattle.cells.specs.Facts.{is-true, both-hold, follows}
+use Rattle.cells.specs.Laws.Tests.{find-none, Rest}
+use Rattle.cells.specs.Laws.Facts.{is-true, both-hold, follows}
 use Rattle.rom.specs.Bytes.{byteOf}
 use Rattle.tokens.specs.Row.{everywhere, none, string, number, head, namedHead}
 use Rattle.tokens.specs.Table.{ends, lows, highs, doubles, table, isProgram}
@@ -17,10 +17,11 @@ use Rattle.tokens.specs.Family.{text, leave, define, assign, property, titled}
 use Rattle.tokens.specs.Code.{codeOf, familyIn, outOfPlaceIn, formIn}
 use Rattle.tokens.specs.Decode.{isKind, numberOf, tokenOf}
 use Rattle.tokens.specs.Place.{misplacedOf, readOf}
-use Rattle.tokens.specs.Laws.{find-is}
-use Rattle.tokens.specs.Rows.{code-fact}
-use Rattle.tokens.specs.Glance.{glanceOf}
-use Rattle.tokens.specs.GlanceLaws.{glance-refused, glance-misplaced, glance-coded, glance-read, read-plain, read-text, read-number, read-head, read-named}
+use Rattle.tokens.specs.Laws.Tokens.{find-is}
+use Rattle.tokens.specs.Laws.Rows.{code-fact}
+use Rattle.tokens.specs.Joints.Glance.{glanceOf}
+use Rattle.tokens.specs.Laws.Glance.{glance-refused, glance-misplaced, glance-coded, glance-read, read-plain, read-text, read-number}
+use Rattle.tokens.specs.Laws.Glance.{read-head, read-named}
 use Rattle.tokens.specs.Definition.{colon, kindIn, value, variable}
 use Rattle.tokens.specs.declared.decoding.Operand.{Operand}
 use Rattle.tokens.specs.declared.decoding.Operand.the-variants.{Nothing, Text, Number, Definition}
@@ -28,18 +29,19 @@ use Rattle.tokens.specs.declared.decoding.Token.{Token}
 use Rattle.tokens.specs.declared.glance.Glance.{Glance}
 use Rattle.tokens.specs.declared.read.Read.{Read}
 use Rattle.tokens.specs.declared.read.Read.the-variants.{Refused as Unread, Good}
+use Rattle.tokens.specs.Laws.Stands.{stands}
 use Rattle.state.specs.State.{isOpen}
 use Rattle.state.specs.Scene.{Scene, Turn, scene, turn, refuse}
 use Rattle.state.specs.Refusals.{refusalOf}
 use Rattle.state.specs.Effects.{Effect, colons, values, variables, effects, actOf}
 use Rattle.state.specs.Step.{doneOf, readTurn}
-use Rattle.state.specs.Step.{tokenOf as turnOf}
-use Rattle.state.specs.Hot.{hotFamily, Cold}
-use Rattle.state.specs.KeepsToken.{stands, leave-open}
-use Rattle.state.specs.Untouched.{count-kept, records-kept}
+use Rattle.state.specs.Step.{tokenTurn as turnOf}
+use Rattle.state.specs.Joints.Hot.{hotFamily, Cold}
+use Rattle.state.specs.Laws.Keeps.Token.{leave-open}
+use Rattle.state.specs.Laws.Untouched.{count-kept, records-kept}
 use Rattle.state.specs.declared.state.State.{State}
 use Rattle.state.specs.declared.answer.Answer.the-variants.{Refused}
-use Rattle.acts.specs.Acts.{coldFamilies, codeFor, whyOf}
+use Rattle.acts.specs.Joints.Acts.{coldFamilies, codeFor, whyOf}
 
 -- ---- named-token and external-token are new-token but for a name, which is passed over
 module _ (s : Scene) (n : ℕ) (o : Operand) (next : ℕ) where
@@ -62,7 +64,8 @@ module _ (s : Scene) (n : ℕ) (o : Operand) (next : ℕ) where
       ap (λ (t : Turn). doneBy (refusalOf s (tokenOf n 0x0E15_0000 o next)) t) act-too
       ∙ ap (λ (k : ℕ). doneBy k (actOf s (tokenOf n 0x0E16_0000 o next))) refused-too
 
--- ---- the families: each has one code but a definition, which has two; every code of the list is hot, of one of these, or out of place everywhere
+-- ---- the families: each has one code but a definition, which has two; every code of the list is hot, of one of these, or out of place
+-- everywhere
 abbrev pub cold : ℕ → Bool
 cold f = not (eqb (codeFor f) 0)
 
@@ -102,20 +105,23 @@ module _ (rom work store : List ℕ) (st : State) (g : Glance) (e : glanceOf rom
   why-turn (Good t) why q = absurd (let z : _≡_ {A = ℕ} 0 1 = cc in omega arith)
 
   pub unread-turn : g .code ≡ 0
-      → turn (Refused (whyOf (readOf rom (st .length) (st .wide) (isOpen (st .calls)) (st .place)))) st work store ≡ turnOf (scene rom work store st)
+      → turn (Refused (whyOf (readOf rom (st .length) (st .wide) (isOpen (st .calls)) (st .place)))) st work store ≡ turnOf
+      (scene rom work store st)
   unfolding turnOf
   unread-turn z =
       let r = glance-refused rom (st .length) (st .wide) (isOpen (st .calls)) (st .place) g e z in
       why-turn (readOf rom (st .length) (st .wide) (isOpen (st .calls)) (st .place)) (r .0) (r .1)
 
-  pub misplaced-turn : misplacedOf (g .code) (isOpen (st .calls)) ≡ true → turn (Refused 18) st work store ≡ turnOf (scene rom work store st)
+  pub misplaced-turn : misplacedOf (g .code) (isOpen (st .calls)) ≡ true
+      → turn (Refused 18) st work store ≡ turnOf (scene rom work store st)
   unfolding turnOf
   misplaced-turn m =
       sym (ap (λ (r : Read). readTurn (scene rom work store st) r)
       (glance-misplaced rom (st .length) (st .wide) (isOpen (st .calls)) (st .place) g e m))
 
 -- ---- what was seen
-module _ (rom work store : List ℕ) (st : State) (g : Glance) (e : glanceOf rom (st .length) (st .wide) (st .place) ≡ g) (z : g .code ≡ 0 → ⊥)
+module _ (rom work store : List ℕ) (st : State) (g : Glance) (e : glanceOf rom (st .length) (st .wide) (st .place) ≡ g)
+    (z : g .code ≡ 0 → ⊥)
     (m : misplacedOf (g .code) (isOpen (st .calls)) ≡ false) where
   abbrev s : Scene
   s = scene rom work store st
@@ -174,7 +180,8 @@ module _ (rom work store : List ℕ) (st : State) (g : Glance) (e : glanceOf rom
   definition k = tokenOf (byteOf rom (st .place)) k (Definition (g .number) (g .kind)) (g .next)
 
   define-is : familyIn (g .code) ≡ define
-      → (read ≡ Good (definition (g .code))) × T (isProgram (g .number) && isKind (g .kind)) × (doneOf s (definition 0x0E15_0000) ≡ doneOf s (definition (g .code)))
+      → (read ≡ Good (definition (g .code))) × T (isProgram (g .number) && isKind (g .kind))
+      × (doneOf s (definition 0x0E15_0000) ≡ doneOf s (definition (g .code)))
   define-is k =
       let h : T (twoCodes (g .code)) = rw coded (two-codes (numberOf rom (st .place))) in
       by (eqb (g .code) 0x0E15_0000) refl (rw k at h)
@@ -187,9 +194,14 @@ module _ (rom work store : List ℕ) (st : State) (g : Glance) (e : glanceOf rom
           let r = read-head rom (st .length) (st .wide) (isOpen (st .calls)) (st .place) g e z m (ap formIn q) in
           (r .0, r .1, ap (λ (k : ℕ). doneOf s (definition k)) (sym q))
       by false a h =
-          let q : g .code ≡ 0x0E16_0000 = eqb→eq (g .code) 0x0E16_0000 (either (eqb (g .code) 0x0E15_0000) (eqb (g .code) 0x0E16_0000) h (λ t. subst T a t)) in
-          let r = read-named rom (st .length) (st .wide) (isOpen (st .calls)) (st .place) g e z m (ap formIn q) in
-          (r .0, r .1, named-too s (byteOf rom (st .place)) (Definition (g .number) (g .kind)) (g .next) ∙ ap (λ (k : ℕ). doneOf s (definition k)) (sym q))
+          let q : g .code ≡ 0x0E16_0000 = eqb→eq (g .code) 0x0E16_0000
+          (either (eqb (g .code) 0x0E15_0000) (eqb (g .code) 0x0E16_0000) h (λ t. subst T a t)) in
+          let r = read-named rom (st .length) (st .wide) (isOpen (st .calls)) (st .place) g e z m (ap formIn q) in (
+            r .0,
+            r .1,
+            named-too s (byteOf rom (st .place)) (Definition (g .number) (g .kind)) (g .next)
+                ∙ ap (λ (k : ℕ). doneOf s (definition k)) (sym q),
+          )
 
   pub define-turn : familyIn (g .code) ≡ define → (x : Turn) → x ≡ doneOf s (definition (codeFor define)) → x ≡ turnOf s
   define-turn k x d = let r = define-is k in by-read (definition (g .code)) x (r .0) (d ∙ r .2)
@@ -205,7 +217,8 @@ module _ (rom work store : List ℕ) (st : State) (g : Glance) (e : glanceOf rom
       let q = code-is leave k tt tt in
       let r = read-plain rom (st .length) (st .wide) (isOpen (st .calls)) (st .place) g e z m (ap formIn q) in
       let t = stands rom (st .length) (st .wide) (isOpen (st .calls)) (st .place) (tokenOf (g .number) (g .code) Nothing (g .next)) r in
-      ltb-true 0 (st .calls .count) (leave-open rom (st .length) (st .wide) (isOpen (st .calls)) (st .place) (tokenOf (g .number) (g .code) Nothing (g .next)) t k)
+      ltb-true 0 (st .calls .count) (leave-open rom (st .length) (st .wide) (isOpen (st .calls)) (st .place)
+      (tokenOf (g .number) (g .code) Nothing (g .next)) t k)
 
   -- no token has another family
   pub none-other : Cold rom (st .place) → Rest (Unit {0}) coldFamilies (familyIn (g .code)) → ⊥
@@ -216,7 +229,8 @@ module _ (rom work store : List ℕ) (st : State) (g : Glance) (e : glanceOf rom
       z (eqb→eq (g .code) 0
       (either (eqb (outOfPlaceIn (g .code)) everywhere) (eqb (g .code) 0)
       (either (cold (familyIn (g .code))) (eqb (outOfPlaceIn (g .code)) everywhere || eqb (g .code) 0)
-      (either (hotFamily (familyIn (g .code))) (cold (familyIn (g .code)) || (eqb (outOfPlaceIn (g .code)) everywhere || eqb (g .code) 0)) h (λ t. subst T i t))
+      (either (hotFamily (familyIn (g .code))) (cold (familyIn (g .code)) || (eqb (outOfPlaceIn (g .code)) everywhere || eqb (g .code) 0)) h
+      (λ t. subst T i t))
       (λ t. subst (λ (k : ℕ). T (not (eqb k 0))) f t))
       (nowhere (g .code) (isOpen (st .calls)) m)))
 
@@ -226,10 +240,12 @@ module _ (rom work store : List ℕ) (st : State) (g : Glance) (e : glanceOf rom
       let r = glance-read rom (st .length) (st .wide) (isOpen (st .calls)) (st .place) g e z m in
       subst Q (by-read (r .0) (doneOf s (r .0)) (r .1) refl) (f (r .0) (ap (λ (x : Glance). familyIn (x .code)) (r .2)))
 
-  pub count-still : (f : ℕ) → familyIn (g .code) ≡ f → T (not (eqb f define)) → (x : Turn) → x ≡ turnOf s → x .state .numbers .count ≡ st .numbers .count
+  pub count-still : (f : ℕ) → familyIn (g .code) ≡ f → T (not (eqb f define)) → (x : Turn) → x ≡ turnOf s
+      → x .state .numbers .count ≡ st .numbers .count
   count-still f k n x d =
       ap (λ (r : Turn). r .state .numbers .count) d
-      ∙ turn-is (λ (r : Turn). r .state .numbers .count ≡ st .numbers .count) (λ t q. count-kept s t (λ p. subst (λ (j : ℕ). T (not (eqb j define))) (sym k ∙ sym q ∙ p) n))
+      ∙ turn-is (λ (r : Turn). r .state .numbers .count ≡ st .numbers .count)
+      (λ t q. count-kept s t (λ p. subst (λ (j : ℕ). T (not (eqb j define))) (sym k ∙ sym q ∙ p) n))
 
   pub records-still : (f : ℕ) → familyIn (g .code) ≡ f → T (not (eqb f property)) → T (not (eqb f titled)) → (x : Turn) → x ≡ turnOf s
       → x .state .tree .held ≡ st .tree .held

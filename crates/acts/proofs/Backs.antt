@@ -9,11 +9,11 @@ use lib.Dec.{eqb}
 use Rattle.tokens.specs.Family.{leave}
 use Rattle.tokens.specs.Decode.{tokenOf}
 use Rattle.state.specs.State.{baseOf, moved, movedTo}
-use Rattle.state.specs.Scene.{Turn, turn, scene, told}
+use Rattle.state.specs.Scene.{Turn, turn, scene, handedBack}
 use Rattle.state.specs.Effects.{effects, actOf, gave}
-use Rattle.state.specs.Moves.{stepped, leaveOf}
-use Rattle.state.specs.Apart.{Arrays, joined, backOn, takenOn, handed, answerOf, Takes}
-use Rattle.state.specs.Done.{carried, stopped}
+use Rattle.state.specs.Joints.Moves.{stepped, leaveOf}
+use Rattle.state.specs.Joints.Apart.{Arrays, arrays, joined, backOn, takenOn, handed, answerOf, Takes}
+use Rattle.state.specs.Laws.Done.{carried, stopped}
 use Rattle.state.specs.declared.state.State.{State}
 use Rattle.state.specs.declared.apart.Core.{Core}
 use Rattle.state.specs.declared.apart.Told.{Told}
@@ -21,44 +21,32 @@ use Rattle.state.specs.declared.apart.Handed.{Handed}
 use Rattle.state.specs.declared.apart.Taken.{Taken}
 use Rattle.state.specs.declared.answer.Stepped.{Stepped}
 use Rattle.state.specs.declared.answer.Answer.the-variants.{Going}
-use Rattle.acts.specs.Acts.{Quiet}
+use Rattle.acts.specs.Joints.Acts.{Quiet}
 use Rattle.acts.proofs.Pops.{poppedBy, popped-on, first-pop}
 use Rattle.acts.proofs.Cold.{leave-unequal, leave-good}
+use Rattle.rom.specs.Sizes.{dataMost}
 
 -- some arrays, where it is only asked what numbers are like
 abbrev pub noArrays : Arrays
-noArrays =
-    record {
-      cells = [];
-      back = [];
-      places = [];
-      wides = [];
-      bases = [];
-      names = [];
-      kinds = [];
-      values = [];
-      ways = [];
-      parents = [];
-      owners = [];
-      titles = [];
-      sizes = [];
-    }
+noArrays = arrays [] [] [] [] [] [] [] [] [] [] [] [] []
 
 -- by what it is that was handed back
-pub via : (a b : Stepped) (work store : List ℕ) (t : Turn) → a ≡ b → told b work store ≡ t → told a work store ≡ t
-via a b work store t e f = ap (λ (x : Stepped). told x work store) e ∙ f
+pub via : (a b : Stepped) (work store : List ℕ) (t : Turn) → a ≡ b → handedBack b work store ≡ t → handedBack a work store ≡ t
+via a b work store t e f = ap (λ (x : Stepped). handedBack x work store) e ∙ f
 
 pub back : (a : Arrays) (r : Handed) (t : Told) (k : Core) → r ≡ handed t k → backOn a r ≡ stepped (answerOf t) (joined a k)
 back a r t k e = ap (λ (h : Handed). backOn a h) e
 
 -- so many cells gone, and on to the next token
-pub lowered-on : (s x : State) (k next : ℕ) (work store : List ℕ) (t : Turn) → x ≡ poppedBy s k → turn Going (moved s (gave s k []) next) work store ≡ t
+pub lowered-on : (s x : State) (k next : ℕ) (work store : List ℕ) (t : Turn) → x ≡ poppedBy s k
+    → turn Going (moved s (gave s k []) next) work store ≡ t
     → turn Going (movedTo x next) work store ≡ t
 lowered-on s x k next work store t e f =
     ap (λ (y : State). turn Going (movedTo y next) work store) e ∙ ap (λ (y : State). turn Going y work store) (popped-on s k next) ∙ f
 
 -- a body left
-pub leaves : (st : State) (next : ℕ) (b : Bool) → eqb (st .back .height) (baseOf (st .calls)) ≡ b → st .stack .height ≤ 64 → 1 ≤ st .calls .count
+pub leaves : (st : State) (next : ℕ) (b : Bool) → eqb (st .back .height) (baseOf (st .calls)) ≡ b → st .stack .height ≤ dataMost
+    → 1 ≤ st .calls .count
     → Quiet leave st next (leaveOf st)
 unfolding leaveOf actOf effects
 leaves st next true e h c o n rom work store =
@@ -70,4 +58,5 @@ leaves st next false e h c o n rom work store =
 
 -- a cell taken leaves the program numbers alone
 pub held-still : (on : Arrays → Arrays) (k : Core) (p : Taken) → 1 ≤ k .height → Takes on k p → p .core .held ≡ k .held
-held-still on k p h e = ap (λ (x : State). x .numbers .count) (first-pop (joined (on noArrays) k) (takenOn (on noArrays) p) h (e noArrays) .1)
+held-still on k p h e = ap (λ (x : State). x .numbers .count)
+    (first-pop (joined (on noArrays) k) (takenOn (on noArrays) p) h (e noArrays) .1)

@@ -7,14 +7,14 @@ use native.Mathlib.Omega.{arith}
 use borrow.Author.Tests.{lt-ltb, le-ltb, eq-eqb, ne-eqb, eqb-true, eqb-false, ltb-true, ltb-false}
 use lib.Dec.{eqb, ltb, leb, leb→le}
 use lib.ListN.{getD}
-use Rattle.cells.specs.Tests.{pick-is}
-use Rattle.cells.specs.Facts.{holds, both-hold}
+use Rattle.cells.specs.Laws.Tests.{pick-is}
+use Rattle.cells.specs.Laws.Facts.{holds, both-hold}
 use Rattle.tokens.specs.Family.{assign, call, define}
 use Rattle.tokens.specs.Table.{isProgram}
 use Rattle.tokens.specs.Decode.{tokenOf, decodeOf, isKind}
 use Rattle.tokens.specs.Place.{judged, misplacedOf, readOf}
-use Rattle.tokens.specs.Body.{kindOf, numberIn, unknownOf, onward, afterOf, bodyFrom, bodyOf}
-use Rattle.tokens.specs.Laws.{find-is}
+use Rattle.tokens.specs.Body.{kindOf, numberIn, unknownOf, bodyOnward, afterOf, bodyFrom, bodyOf}
+use Rattle.tokens.specs.Laws.Tokens.{find-is}
 use Rattle.tokens.specs.declared.decoding.Operand.{Operand}
 use Rattle.tokens.specs.declared.decoding.Operand.the-variants.{Definition}
 use Rattle.tokens.specs.declared.decoding.Decoded.{Decoded}
@@ -28,23 +28,25 @@ use Rattle.tokens.specs.Definition.{colon, constant, kindIn, newNumber, value, 
 use Rattle.state.specs.State.{moved, movedTo, withNumbers, withWork}
 use Rattle.state.specs.Numbers.{seekFrom, seekOf, isHeld, definedOf, assignedOf}
 use Rattle.state.specs.Numbers.{kindOfByte, kindAt, kindHeld, kindsOf}
-use Rattle.state.specs.Scene.{scene, turn, told}
+use Rattle.state.specs.Scene.{scene, turn, handedBack}
 use Rattle.state.specs.Refusals.{rounded}
 use Rattle.state.specs.Effects.{gave, behindBody, effects, actOf}
-use Rattle.state.specs.Moves.{Popped, stepped, popOf, pushOf, callOf}
+use Rattle.state.specs.Joints.Moves.{Popped, stepped, popOf, pushOf, callOf}
 use Rattle.state.specs.Step.{doneOf}
-use Rattle.acts.specs.Acts.{QuietOf, QuietBy, Defines, Colons, Variables, Fresh, TakesValue}
-use Rattle.state.specs.KeepsTests.{find-at}
-use Rattle.state.specs.KeepsToken.{behind-body}
+use Rattle.acts.specs.Joints.Acts.{QuietOf, QuietBy, Defines, Colons, Variables, Fresh, TakesValue}
+use Rattle.state.specs.Laws.Keeps.Tests.{find-at}
+use Rattle.state.specs.Laws.Keeps.Token.{behind-body}
 use Rattle.state.specs.declared.state.State.{State}
 use Rattle.state.specs.declared.state.Numbers.{Numbers}
 use Rattle.state.specs.declared.answer.Answer.the-variants.{Going, Refused}
 use Rattle.state.specs.declared.answer.Stepped.{Stepped}
 use Rattle.acts.proofs.Cold.{assign-unknown, assign-low, assign-good, call-unknown, call-high, call-value, call-deep, call-body}
-use Rattle.acts.proofs.Cold.{define-held, define-most, colon-stops, colon-good, variable-full, variable-good, value-low, value-good, constant-low, constant-good}
-use Rattle.state.specs.Done.{carried, stopped}
+use Rattle.acts.proofs.Cold.{define-held, define-most, colon-stops, colon-good, variable-full, variable-good, value-low, value-good}
+use Rattle.acts.proofs.Cold.{constant-low, constant-good}
+use Rattle.state.specs.Laws.Done.{carried, stopped}
 use Rattle.acts.proofs.Pops.{cellAt, first-pop, popped-on, still-on, pushed-here}
-use Rattle.state.specs.Seeking.{program-bounds, kind-got}
+use Rattle.state.specs.Laws.Seeking.{program-bounds, kind-got}
+use Rattle.rom.specs.Sizes.{dataMost, framesMost, numbersMost, workSize}
 
 -- ---- the kind that the numbers say
 module _ (ns : Numbers) (m : ℕ) where
@@ -71,8 +73,10 @@ kind-other k n =
     find-at (λ (v : ℕ). eqb v value ≡ false) ((colon, colon) ∷ (value, value) ∷ []) constant k ((λ e. refl), ((λ e. absurd (n e)), tt)) refl
 
 -- ---- b(to)
-module _ (st : State) (o : Operand) (next m at : ℕ) (e : m ≡ numberIn o) (f : at ≡ seekFrom (st .numbers .names) m (st .numbers .count) 0) where
-  unassigned : (k : ℕ) (r : Stepped) → kindOf (kindsOf (st .numbers)) m ≡ k → eqb k value ≡ false → r ≡ stepped (Refused 12) st → QuietOf assign o st next r
+module _ (st : State) (o : Operand) (next m at : ℕ) (e : m ≡ numberIn o)
+    (f : at ≡ seekFrom (st .numbers .programs) m (st .numbers .count) 0) where
+  unassigned : (k : ℕ) (r : Stepped) → kindOf (kindsOf (st .numbers)) m ≡ k → eqb k value ≡ false → r ≡ stepped (Refused 12) st
+      → QuietOf assign o st next r
   unfolding unknownOf
   unassigned k r g z w n rom work store =
       let u : kindOf (kindsOf (st .numbers)) (numberIn o) ≡ k = ap (λ (x : ℕ). kindOf (kindsOf (st .numbers)) x) (sym e) ∙ g in
@@ -107,22 +111,25 @@ module _ (st : State) (o : Operand) (next m at : ℕ) (e : m ≡ numberIn o) (f 
 
         pub assign-low-told : (r : Stepped) → st .stack .height < 1 → r ≡ stepped (Refused 14) st → QuietOf assign o st next r
         assign-low-told r h w n rom work store =
-            rw w (sym (stopped (scene rom work store st) (tokenOf n 0x1004_0010 o next) 14 refl (assign-low (scene rom work store st) n o next (assigned n) h)))
+            rw w (sym (stopped (scene rom work store st) (tokenOf n 0x1004_0010 o next) 14 refl
+            (assign-low (scene rom work store st) n o next (assigned n) h)))
 
-        pub assign-told : (q : Popped) (d : State) (r : Stepped) → 1 ≤ st .stack .height → st .stack .height ≤ 64 → q ≡ popOf st
-            → d ≡ withNumbers (movedTo (q .state) next) (assignedOf (q .state .numbers) at (q .cell)) → r ≡ stepped Going d → QuietOf assign o st next r
+        pub assign-told : (q : Popped) (d : State) (r : Stepped) → 1 ≤ st .stack .height → st .stack .height ≤ dataMost → q ≡ popOf st
+            → d ≡ withNumbers (movedTo (q .state) next) (assignedOf (q .state .numbers) at (q .cell)) → r ≡ stepped Going d
+            → QuietOf assign o st next r
         unfolding actOf effects
         assign-told q d r h i b y w n rom work store =
             let c = first-pop st q h b in
             let here = seekOf (st .numbers) (numberIn o) in
-            let j : at ≡ here = f ∙ ap (λ (x : ℕ). seekFrom (st .numbers .names) x (st .numbers .count) 0) e in
-            ap (λ (x : Stepped). told x work store) w
+            let j : at ≡ here = f ∙ ap (λ (x : ℕ). seekFrom (st .numbers .programs) x (st .numbers .count) 0) e in
+            ap (λ (x : Stepped). handedBack x work store) w
             ∙ ap (λ (x : State). turn Going x work store) y
             ∙ ap (λ (x : State). turn Going (withNumbers (movedTo x next) (assignedOf (x .numbers) at (q .cell))) work store) (c .1)
             ∙ ap (λ (x : State). turn Going (withNumbers x (assignedOf (st .numbers) at (q .cell))) work store) (popped-on st 1 next)
             ∙ ap (λ (x : ℕ). turn Going (withNumbers (moved st (gave st 1 []) next) (assignedOf (st .numbers) x (q .cell))) work store) j
             ∙ ap (λ (x : ℕ). turn Going (withNumbers (moved st (gave st 1 []) next) (assignedOf (st .numbers) here x)) work store) (c .0)
-            ∙ sym (carried (scene rom work store st) (tokenOf n 0x1004_0010 o next) (assign-good (scene rom work store st) n o next (assigned n) h i))
+            ∙ sym (carried (scene rom work store st) (tokenOf n 0x1004_0010 o next)
+            (assign-good (scene rom work store st) n o next (assigned n) h i))
 
 -- ---- a program number
 module _ (st : State) (m next at : ℕ) (f : at ≡ seekOf (st .numbers) m) where
@@ -141,7 +148,7 @@ module _ (st : State) (m next at : ℕ) (f : at ≡ seekOf (st .numbers) m) wher
         unknown-told r (kind-none (st .numbers) m p (le-ltb _ _ (subst (λ (x : ℕ). st .numbers .count ≤ x) f l))) w
 
     module _ (l : at < st .numbers .count) (k v : ℕ) (g : k ≡ getD (st .numbers .kinds) at 0) (i : v ≡ getD (st .numbers .values) at 0)
-        (h : st .stack .height ≤ 64) where
+        (h : st .stack .height ≤ dataMost) where
       known-told : (o : Operand) → unknownOf (kindsOf (st .numbers)) (tokenOf m 0x1100_0000 o next) ≡ false
       unfolding unknownOf
       known-told o =
@@ -157,7 +164,7 @@ module _ (st : State) (m next at : ℕ) (f : at ≡ seekOf (st .numbers) m) wher
       pub enter-body : (wide : Bool) (r : Stepped) → k ≡ colon → wide ≡ getD (st .numbers .wides) at false → r ≡ callOf st v wide next
           → QuietBy m call st next r
       unfolding callOf actOf effects
-      enter-body wide r b j w o rom work store = by (ltb (st .calls .count) 16) refl
+      enter-body wide r b j w o rom work store = by (ltb (st .calls .count) framesMost) refl
         where
           body : eqb (getD (st .numbers .kinds) (seekOf (st .numbers) m) 0) colon ≡ true
           body = eq-eqb _ _ (sym kind-at ∙ b)
@@ -165,7 +172,8 @@ module _ (st : State) (m next at : ℕ) (f : at ≡ seekOf (st .numbers) m) wher
           wide-at : wide ≡ getD (st .numbers .wides) (seekOf (st .numbers) m) false
           wide-at = j ∙ ap (λ (x : ℕ). getD (st .numbers .wides) x false) f
 
-          by : (x : Bool) → ltb (st .calls .count) 16 ≡ x → told r work store ≡ doneOf (scene rom work store st) (tokenOf m 0x1100_0000 o next)
+          by : (x : Bool) → ltb (st .calls .count) framesMost ≡ x
+              → handedBack r work store ≡ doneOf (scene rom work store st) (tokenOf m 0x1100_0000 o next)
           by true c =
               rw (w, c, value-at, wide-at)
               (sym (carried (scene rom work store st) (tokenOf m 0x1100_0000 o next)
@@ -179,12 +187,12 @@ module _ (st : State) (m next at : ℕ) (f : at ≡ seekOf (st .numbers) m) wher
         no-body : eqb (getD (st .numbers .kinds) (seekOf (st .numbers) m) 0) colon ≡ false
         no-body = ne-eqb _ _ (λ z. b (kind-at ∙ z))
 
-        pub enter-high : (r : Stepped) → 64 < st .stack .height + 1 → r ≡ stepped (Refused 15) st → QuietBy m call st next r
+        pub enter-high : (r : Stepped) → dataMost < st .stack .height + 1 → r ≡ stepped (Refused 15) st → QuietBy m call st next r
         enter-high r d w o rom work store =
             rw w (sym (stopped (scene rom work store st) (tokenOf m 0x1100_0000 o next) 15 refl
             (call-high (scene rom work store st) m o next (known-told o) no-body d)))
 
-        pub enter-value : (r : Stepped) → st .stack .height + 1 ≤ 64 → r ≡ pushOf (movedTo st next) v → QuietBy m call st next r
+        pub enter-value : (r : Stepped) → st .stack .height + 1 ≤ dataMost → r ≡ pushOf (movedTo st next) v → QuietBy m call st next r
         unfolding actOf effects
         enter-value r d w o rom work store =
             rw (pushed-here st next v r (omega arith) w, value-at)
@@ -210,7 +218,7 @@ module _ (rom : List ℕ) (size : ℕ) (wide : Bool) (kinds : List ℕ) where
   unfolding readOf
   read-why within p = judged-why within (decodeOf rom size wide p)
 
-  onward-why : (ends unknown : Bool) (p q : ℕ) (go : ℕ → Body) → Why (go q) → Why (onward ends unknown p go q)
+  onward-why : (ends unknown : Bool) (p q : ℕ) (go : ℕ → Body) → Why (go q) → Why (bodyOnward ends unknown p go q)
   onward-why true unknown p q go h = tt
   onward-why false true p q go h = refl
   onward-why false false p q go h = h
@@ -222,7 +230,8 @@ module _ (rom : List ℕ) (size : ℕ) (wide : Bool) (kinds : List ℕ) where
   from-why : (k p : ℕ) → Why (bodyFrom rom size wide kinds k p)
   unfolding bodyFrom
   from-why zero p = refl
-  from-why (suc k) p = after-why p (readOf rom size wide true p) (λ q. bodyFrom rom size wide kinds k q) (read-why true p) (λ q. from-why k q)
+  from-why (suc k) p = after-why p (readOf rom size wide true p) (λ q. bodyFrom rom size wide kinds k q) (read-why true p)
+      (λ q. from-why k q)
 
   pub stops-why : (p at why : ℕ) → bodyOf rom size wide kinds p ≡ Stops at why → eqb why 0 ≡ false
   stops-why p at why e = subst Why e (from-why (size - p) p)
@@ -231,7 +240,7 @@ module _ (rom : List ℕ) (size : ℕ) (wide : Bool) (kinds : List ℕ) where
   ends-within p at l e = subst (λ (b : Body). behindBody b ≤ size) e (behind-body rom size wide kinds p l .1)
 
 -- ---- b(:)
-module _ (rom : List ℕ) (st : State) (m next : ℕ) (h : st .stack .height ≤ 64) (e : Fresh (st .numbers) m) (kinds : List ℕ) (b : Body)
+module _ (rom : List ℕ) (st : State) (m next : ℕ) (h : st .stack .height ≤ dataMost) (e : Fresh (st .numbers) m) (kinds : List ℕ) (b : Body)
     (k : kinds ≡ kindsOf (st .numbers)) (f : b ≡ bodyOf rom (st .length) (st .wide) kinds next) where
   body-is : (x : Body) → b ≡ x → bodyOf rom (st .length) (st .wide) (kindsOf (st .numbers)) next ≡ x
   body-is x g = ap (λ (l : List ℕ). bodyOf rom (st .length) (st .wide) l next) (sym k) ∙ sym f ∙ g
@@ -247,13 +256,14 @@ module _ (rom : List ℕ) (st : State) (m next : ℕ) (h : st .stack .height ≤
   unfolding actOf effects
   colon-told at r g w work n store =
       rw w (sym (carried (scene rom work store st) (tokenOf n 0x0E15_0000 (Definition m colon) next)
-      (colon-good (scene rom work store st) n (Definition m colon) next m (e .0) (e .1) h at (body-is (Ends at) g)) ∙ rw (body-is (Ends at) g)))
+      (colon-good (scene rom work store st) n (Definition m colon) next m (e .0) (e .1) h at (body-is (Ends at) g))
+      ∙ rw (body-is (Ends at) g)))
 
   pub colon-end : (at : ℕ) → next ≤ st .length → b ≡ Ends at → at + 1 ≤ st .length
   colon-end at l g = ends-within rom (st .length) (st .wide) (kindsOf (st .numbers)) next at l (body-is (Ends at) g)
 
 -- ---- b(value), b(constant)
-module _ (st : State) (m next : ℕ) (h : st .stack .height ≤ 64) (e : Fresh (st .numbers) m) where
+module _ (st : State) (m next : ℕ) (h : st .stack .height ≤ dataMost) (e : Fresh (st .numbers) m) where
   by-kind : (k : ℕ) (P : ℕ → Type 0) → TakesValue k → P value → P constant → P k
   by-kind k P t v c = by (eqb k constant) refl
     where
@@ -264,15 +274,15 @@ module _ (st : State) (m next : ℕ) (h : st .stack .height ≤ 64) (e : Fresh (
   pub value-low-told : (k : ℕ) (r : Stepped) → TakesValue k → st .stack .height < 1 → r ≡ stepped (Refused 14) st
       → QuietOf define (Definition m k) st next r
   value-low-told k r t l w n rom work store =
-      by-kind k (λ (x : ℕ). told r work store ≡ doneOf (scene rom work store st) (tokenOf n 0x0E15_0000 (Definition m x) next)) t
+      by-kind k (λ (x : ℕ). handedBack r work store ≡ doneOf (scene rom work store st) (tokenOf n 0x0E15_0000 (Definition m x) next)) t
       (rw w (sym (stopped (scene rom work store st) (tokenOf n 0x0E15_0000 (Definition m value) next) 14 refl
       (value-low (scene rom work store st) n (Definition m value) next m (e .0) (e .1) h l))))
       (rw w (sym (stopped (scene rom work store st) (tokenOf n 0x0E15_0000 (Definition m constant) next) 14 refl
       (constant-low (scene rom work store st) n (Definition m constant) next m (e .0) (e .1) h l))))
 
   module _ (l : 1 ≤ st .stack .height) (p : Popped) (f : p ≡ popOf st) where
-    pub value-room : p .state .numbers .count + 1 ≤ 256
-    value-room = let c = first-pop st p l f in subst (λ (x : State). x .numbers .count + 1 ≤ 256) (sym (c .1)) (e .1)
+    pub value-room : p .state .numbers .count + 1 ≤ numbersMost
+    value-room = let c = first-pop st p l f in subst (λ (x : State). x .numbers .count + 1 ≤ numbersMost) (sym (c .1)) (e .1)
 
     pub value-told : (k : ℕ) (d : State) (r : Stepped) → TakesValue k
         → d ≡ withNumbers (movedTo (p .state) next) (definedOf (p .state .numbers) m k (p .cell) (p .state .wide)) → r ≡ stepped Going d
@@ -280,12 +290,15 @@ module _ (st : State) (m next : ℕ) (h : st .stack .height ≤ 64) (e : Fresh (
     unfolding actOf effects
     value-told k d r t g w n rom work store =
         let c = first-pop st p l f in
-        ap (λ (x : Stepped). told x work store) w
+        ap (λ (x : Stepped). handedBack x work store) w
         ∙ ap (λ (x : State). turn Going x work store) g
         ∙ ap (λ (x : State). turn Going (withNumbers (movedTo x next) (definedOf (x .numbers) m k (p .cell) (x .wide))) work store) (c .1)
         ∙ ap (λ (x : State). turn Going (withNumbers x (definedOf (st .numbers) m k (p .cell) (st .wide))) work store) (popped-on st 1 next)
-        ∙ ap (λ (x : ℕ). turn Going (withNumbers (moved st (gave st 1 []) next) (definedOf (st .numbers) m k x (st .wide))) work store) (c .0)
-        ∙ by-kind k (λ (x : ℕ). turn Going (withNumbers (moved st (gave st 1 []) next) (definedOf (st .numbers) m x (cellAt st 0) (st .wide))) work store
+        ∙ ap (λ (x : ℕ). turn Going (withNumbers (moved st (gave st 1 []) next) (definedOf (st .numbers) m k x (st .wide))) work store)
+        (c .0)
+        ∙ by-kind k
+        (λ (x : ℕ). turn Going (withNumbers (moved st (gave st 1 []) next) (definedOf (st .numbers) m x (cellAt st 0) (st .wide))) work
+        store
         ≡ doneOf (scene rom work store st) (tokenOf n 0x0E15_0000 (Definition m x) next)) t
         (sym (carried (scene rom work store st) (tokenOf n 0x0E15_0000 (Definition m value) next)
         (value-good (scene rom work store st) n (Definition m value) next m (e .0) (e .1) h l)))
@@ -293,30 +306,32 @@ module _ (st : State) (m next : ℕ) (h : st .stack .height ≤ 64) (e : Fresh (
         (constant-good (scene rom work store st) n (Definition m constant) next m (e .0) (e .1) h l)))
 
 -- ---- b(variable)
-module _ (st : State) (m next at : ℕ) (h : st .stack .height ≤ 64) (e : Fresh (st .numbers) m) (i : at ≡ rounded (st .«work_place»)) where
+module _ (st : State) (m next at : ℕ) (h : st .stack .height ≤ dataMost) (e : Fresh (st .numbers) m)
+    (i : at ≡ rounded (st .«work_place»)) where
   abbrev cells : ℕ
   cells = rounded (st .«work_place»)
 
   abbrev numbered : ℕ → Numbers
   numbered x = definedOf (st .numbers) m variable (0x2000_0000 + x) (st .wide)
 
-  pub variable-full-told : (work : List ℕ) (r : Stepped) → 16384 < at + 4 → r ≡ stepped (Refused 24) st → Variables m work work st next r
+  pub variable-full-told : (work : List ℕ) (r : Stepped) → workSize < at + 4 → r ≡ stepped (Refused 24) st → Variables m work work st next r
   variable-full-told work r l w rom n store =
       rw w (sym (stopped (scene rom work store st) (tokenOf n 0x0E15_0000 (Definition m variable) next) 24 refl
-      (variable-full (scene rom work store st) n (Definition m variable) next m (e .0) (e .1) h (subst (λ (x : ℕ). 16384 < x + 4) i l))))
+      (variable-full (scene rom work store st) n (Definition m variable) next m (e .0) (e .1) h (subst (λ (x : ℕ). workSize < x + 4) i l))))
 
-  pub variable-told : (work then : List ℕ) (d : State) (r : Stepped) → at + 4 ≤ 16384 → then ≡ writtenOf work at (bytesOf 0)
+  pub variable-told : (work then : List ℕ) (d : State) (r : Stepped) → at + 4 ≤ workSize → then ≡ writtenOf work at (bytesOf 0)
       → d ≡ withNumbers st (numbered at) → r ≡ stepped Going (withWork (movedTo d next) (at + 4))
       → Variables m work then st next r
   unfolding actOf effects
   variable-told work then d r l a g w rom n store =
-      ap (λ (x : Stepped). told x then store) w
+      ap (λ (x : Stepped). handedBack x then store) w
       ∙ ap (λ (x : State). turn Going (withWork (movedTo x next) (at + 4)) then store) g
       ∙ ap (λ (x : List ℕ). turn Going (withWork (movedTo (withNumbers st (numbered at)) next) (at + 4)) x store) a
       ∙ ap (λ (x : ℕ). turn Going (withWork (movedTo (withNumbers st (numbered x)) next) (x + 4)) (writtenOf work x (bytesOf 0)) store) i
-      ∙ ap (λ (x : State). turn Going (withWork (withNumbers x (numbered cells)) (cells + 4)) (writtenOf work cells (bytesOf 0)) store) (still-on st next)
+      ∙ ap (λ (x : State). turn Going (withWork (withNumbers x (numbered cells)) (cells + 4)) (writtenOf work cells (bytesOf 0)) store)
+      (still-on st next)
       ∙ sym (carried (scene rom work store st) (tokenOf n 0x0E15_0000 (Definition m variable) next)
-      (variable-good (scene rom work store st) n (Definition m variable) next m (e .0) (e .1) h (subst (λ (x : ℕ). x + 4 ≤ 16384) i l)))
+      (variable-good (scene rom work store st) n (Definition m variable) next m (e .0) (e .1) h (subst (λ (x : ℕ). x + 4 ≤ workSize) i l)))
 
 -- ---- a definition, by its kind
 pub value-kinds : TakesValue value × TakesValue constant
@@ -339,7 +354,8 @@ constant-left k e n =
         absurd (omega arith)
 
 -- ---- 13, and a number that is new
-pub fresh-told : (st : State) (m at : ℕ) → at ≡ seekOf (st .numbers) m → st .numbers .count ≤ at → st .numbers .count < 256 → Fresh (st .numbers) m
+pub fresh-told : (st : State) (m at : ℕ) → at ≡ seekOf (st .numbers) m → st .numbers .count ≤ at → st .numbers .count < numbersMost
+    → Fresh (st .numbers) m
 fresh-told st m at f l h = (le-ltb _ _ (subst (λ (x : ℕ). st .numbers .count ≤ x) f l), omega arith)
 
 module _ (rom work : List ℕ) (st : State) (o : Operand) (next m at : ℕ) (e : m ≡ newNumber o) (f : at ≡ seekOf (st .numbers) m) where
@@ -349,13 +365,15 @@ module _ (rom work : List ℕ) (st : State) (o : Operand) (next m at : ℕ) (e :
       (define-held (scene rom work store st) n o next
       (ap (λ (x : ℕ). isHeld (st .numbers) x) (sym e) ∙ lt-ltb _ _ (subst (λ (x : ℕ). x < st .numbers .count) f l)))))
 
-  pub most-told : (r : Stepped) → st .numbers .count ≤ at → 256 ≤ st .numbers .count → r ≡ stepped (Refused 13) st → Defines o rom work work st next r
+  pub most-told : (r : Stepped) → st .numbers .count ≤ at → numbersMost ≤ st .numbers .count → r ≡ stepped (Refused 13) st
+      → Defines o rom work work st next r
   most-told r l h w n store =
       rw w (sym (stopped (scene rom work store st) (tokenOf n 0x0E15_0000 o next) 13 refl
       (define-most (scene rom work store st) n o next
       (ap (λ (x : ℕ). isHeld (st .numbers) x) (sym e) ∙ le-ltb _ _ (subst (λ (x : ℕ). st .numbers .count ≤ x) f l)) h)))
 
 pub defined-told : (rom work : List ℕ) (st : State) (o : Operand) (next m k : ℕ) (then : List ℕ) → m ≡ newNumber o → k ≡ kindIn o
-    → o ≡ Definition (newNumber o) (kindIn o) → (r : Stepped) → Defines (Definition m k) rom work then st next r → Defines o rom work then st next r
+    → o ≡ Definition (newNumber o) (kindIn o) → (r : Stepped) → Defines (Definition m k) rom work then st next r
+    → Defines o rom work then st next r
 defined-told rom work st o next m k then e f g r d =
     subst (λ (x : Operand). Defines x rom work then st next r) (sym (g ∙ sym (rw (e, f)))) d

@@ -10,25 +10,28 @@ use Rattle.tokens.specs.Family.{encodeInt, encodeString, join}
 use Rattle.tokens.specs.Decode.{tokenOf}
 use Rattle.memory.specs.Window.{badRange, rangeOf, windowOf, partOf, resolveOf}
 use Rattle.memory.specs.Writing.{writtenOf, bytesOf}
-use Rattle.memory.specs.Laws.{written-append, written-more, written-none, length-resolved, range-rom, resolved-rom, resolved-work, resolved-none}
+use Rattle.memory.specs.Laws.Memory.{written-append, written-more, written-none, length-resolved, range-rom, resolved-rom, resolved-work}
+use Rattle.memory.specs.Laws.Memory.{resolved-none}
 use Rattle.memory.specs.declared.window.Window.{Window}
 use Rattle.memory.specs.declared.window.Window.the-variants.{Rom, Work, Nowhere}
 use Rattle.state.specs.State.{withWork, moved}
-use Rattle.state.specs.Scene.{scene, turn, told}
+use Rattle.state.specs.Scene.{scene, turn, handedBack}
 use Rattle.state.specs.Effects.{gave, effects, actOf}
-use Rattle.state.specs.Moves.{Popped, stepped, popOf}
-use Rattle.acts.specs.Acts.{Quiet, Writes, WritesFrom, pairOn, encodedOn}
+use Rattle.state.specs.Joints.Moves.{Popped, stepped, popOf}
+use Rattle.acts.specs.Joints.Acts.{Quiet, Writes, WritesFrom, pairOn, encodedOn}
 use Rattle.state.specs.declared.state.State.{State}
 use Rattle.state.specs.declared.answer.Answer.the-variants.{Going, Refused}
 use Rattle.state.specs.declared.answer.Stepped.{Stepped}
 use Rattle.acts.proofs.Cold.{join-apart, join-good, int-good, string-bad, string-full, string-good}
-use Rattle.state.specs.Done.{carried, stopped}
+use Rattle.state.specs.Laws.Done.{carried, stopped}
 use Rattle.acts.proofs.Pops.{poppedBy, cellAt, first-pop, two-pops, four-pops, lowered, paired-on}
+use Rattle.rom.specs.Sizes.{dataMost, workSize}
 
 -- ---- encode+
-module _ (st : State) (next : ℕ) (h : st .stack .height ≤ 64) (l : 4 ≤ st .stack .height) (p q t u : Popped)
+module _ (st : State) (next : ℕ) (h : st .stack .height ≤ dataMost) (l : 4 ≤ st .stack .height) (p q t u : Popped)
     (e : p ≡ popOf st) (f : q ≡ popOf (p .state)) (g : t ≡ popOf (q .state)) (i : u ≡ popOf (t .state)) where
-  pub apart-told : (x : ℕ) (r : Stepped) → x ≡ (u .cell + t .cell) % 2 ^ 32 → (x ≡ q .cell → ⊥) → r ≡ stepped (Refused 25) st → Quiet join st next r
+  pub apart-told : (x : ℕ) (r : Stepped) → x ≡ (u .cell + t .cell) % 2 ^ 32 → (x ≡ q .cell → ⊥) → r ≡ stepped (Refused 25) st
+      → Quiet join st next r
   apart-told x r a n w o k rom work store =
       let c = four-pops st p q t u l e f g i in
       rw w (sym (stopped (scene rom work store st) (tokenOf k 0x1400_0042 o next) 25 refl
@@ -41,9 +44,10 @@ module _ (st : State) (next : ℕ) (h : st .stack .height ≤ 64) (l : 4 ≤ st 
       let c = four-pops st p q t u l e f g i in
       let z : (cellAt st 3 + cellAt st 2) % 2 ^ 32 ≡ cellAt st 1 = rw (← c .2, ← c .3, ← c .1) (sym a ∙ b) in
       rw (w, d, c .4, c .3, c .2, c .0, paired-on st 4 next (cellAt st 3) ((cellAt st 2 + cellAt st 0) % 2 ^ 32))
-      (sym (carried (scene rom work store st) (tokenOf k 0x1400_0042 o next) (join-good (scene rom work store st) k o next h l (eq-eqb _ _ z))))
+      (sym (carried (scene rom work store st) (tokenOf k 0x1400_0042 o next)
+      (join-good (scene rom work store st) k o next h l (eq-eqb _ _ z))))
 
-  pub joined-room : u .state .stack .height + 2 ≤ 64
+  pub joined-room : u .state .stack .height + 2 ≤ dataMost
   joined-room = let c = four-pops st p q t u l e f g i in let d = lowered st 4 (u .state) (c .4) in omega arith
 
 -- ---- the bytes given, after so many pops
@@ -51,15 +55,17 @@ abbrev encodedBy : State → ℕ → ℕ → ℕ → State
 encodedBy st k next count =
     withWork (moved st (gave st k ((0x2000_0000 + st .«work_place») ∷ count ∷ [])) next) (st .«work_place» + count)
 
-encoded-told : (st : State) (k next count : ℕ) (s : State) (r : Stepped) (then store : List ℕ) → s ≡ poppedBy st k → r ≡ stepped Going (encodedOn s next count)
-    → told r then store ≡ turn Going (encodedBy st k next count) then store
+encoded-told : (st : State) (k next count : ℕ) (s : State) (r : Stepped) (then store : List ℕ) → s ≡ poppedBy st k
+    → r ≡ stepped Going (encodedOn s next count)
+    → handedBack r then store ≡ turn Going (encodedBy st k next count) then store
 encoded-told st k next count s r then store e w =
-    ap (λ (x : Stepped). told x then store) w
+    ap (λ (x : Stepped). handedBack x then store) w
     ∙ ap (λ (x : State). turn Going (encodedOn x next count) then store) e
-    ∙ ap (λ (x : State). turn Going (withWork x (st .«work_place» + count)) then store) (paired-on st k next (0x2000_0000 + st .«work_place») count)
+    ∙ ap (λ (x : State). turn Going (withWork x (st .«work_place» + count)) then store)
+    (paired-on st k next (0x2000_0000 + st .«work_place») count)
 
 -- ---- encode-int
-module _ (st : State) (next : ℕ) (l : 1 ≤ st .stack .height) (h : st .stack .height + 1 ≤ 64) (m : st .«work_place» + 4 ≤ 16384)
+module _ (st : State) (next : ℕ) (l : 1 ≤ st .stack .height) (h : st .stack .height + 1 ≤ dataMost) (m : st .«work_place» + 4 ≤ workSize)
     (p : Popped) (e : p ≡ popOf st) where
   pub int-told : (work then : List ℕ) (r : Stepped) → then ≡ writtenOf work (st .«work_place») (bytesOf (p .cell))
       → r ≡ stepped Going (encodedOn (p .state) next 4) → Writes encodeInt work then st next r
@@ -67,10 +73,11 @@ module _ (st : State) (next : ℕ) (l : 1 ≤ st .stack .height) (h : st .stack 
   int-told work then r a w n o rom store =
       let c = first-pop st p l e in
       encoded-told st 1 next 4 (p .state) r then store (c .1) w
-      ∙ ap (λ (x : List ℕ). turn Going (encodedBy st 1 next 4) x store) (a ∙ ap (λ (x : ℕ). writtenOf work (st .«work_place») (bytesOf x)) (c .0))
+      ∙ ap (λ (x : List ℕ). turn Going (encodedBy st 1 next 4) x store)
+      (a ∙ ap (λ (x : ℕ). writtenOf work (st .«work_place») (bytesOf x)) (c .0))
       ∙ sym (carried (scene rom work store st) (tokenOf n 0x1200_0012 o next) (int-good (scene rom work store st) n o next l h m))
 
-  pub int-room : (p .state .stack .height + 2 ≤ 64) × (p .state .«work_place» + 4 ≤ 16384)
+  pub int-room : (p .state .stack .height + 2 ≤ dataMost) × (p .state .«work_place» + 4 ≤ workSize)
   int-room =
       let c = first-pop st p l e in
       let d = lowered st 1 (p .state) (c .1) in
@@ -78,10 +85,12 @@ module _ (st : State) (next : ℕ) (l : 1 ≤ st .stack .height) (h : st .stack 
       (omega arith, omega arith)
 
 -- ---- encode-string
-pub range-is : (rom work : List ℕ) (size address count : ℕ) → size ≤ length rom → windowOf size (length work) address count ≡ rangeOf rom work size address count
+pub range-is : (rom work : List ℕ) (size address count : ℕ) → size ≤ length rom
+    → windowOf size (length work) address count ≡ rangeOf rom work size address count
 range-is rom work size address count h = let e : min size (length rom) ≡ size = omega arith in rw e
 
-module _ (rom work then : List ℕ) (size address count at : ℕ) (h : size ≤ length rom) (w : Window) (e : w ≡ windowOf size (length work) address count) where
+module _ (rom work then : List ℕ) (size address count at : ℕ) (h : size ≤ length rom) (w : Window)
+    (e : w ≡ windowOf size (length work) address count) where
   abbrev Laid : Type 0
   Laid = then ≡ writtenOf work at (resolveOf rom work size address count)
 
@@ -93,7 +102,8 @@ module _ (rom work then : List ℕ) (size address count at : ℕ) (h : size ≤ 
 
   -- the code counts a part by its end
   pub laid-rom : (k : ℕ) → w ≡ Rom k → then ≡ writtenOf work at (partOf rom k (k + count - k)) → Laid
-  laid-rom k f g = let i : k + count - k ≡ count = omega arith in rw (resolved-rom rom work size address count k (range-told (Rom k) f)) (rw i at g)
+  laid-rom k f g = let i : k + count - k ≡ count = omega arith in
+      rw (resolved-rom rom work size address count k (range-told (Rom k) f)) (rw i at g)
 
   pub laid-work : (k : ℕ) → w ≡ Work k → then ≡ writtenOf work at (partOf work k count) → Laid
   laid-work k f g = rw (resolved-work rom work size address count k (range-told (Work k) f)) g
@@ -101,7 +111,8 @@ module _ (rom work then : List ℕ) (size address count at : ℕ) (h : size ≤ 
   pub laid-none : w ≡ Nowhere → then ≡ work → Laid
   laid-none f g = rw (resolved-none rom work size address count (range-told Nowhere f), g) (sym (written-none work at))
 
-module _ (st : State) (next : ℕ) (h : st .stack .height ≤ 64) (l : 2 ≤ st .stack .height) (p q : Popped) (e : p ≡ popOf st) (f : q ≡ popOf (p .state))
+module _ (st : State) (next : ℕ) (h : st .stack .height ≤ dataMost) (l : 2 ≤ st .stack .height) (p q : Popped) (e : p ≡ popOf st)
+    (f : q ≡ popOf (p .state))
     (rom work : List ℕ) where
   pub string-bad-told : (r : Stepped) → badRange rom work (st .length) (q .cell) (p .cell) ≡ true → r ≡ stepped (Refused 22) st
       → WritesFrom encodeString rom work work st next r
@@ -111,14 +122,16 @@ module _ (st : State) (next : ℕ) (h : st .stack .height ≤ 64) (l : 2 ≤ st 
       (string-bad (scene rom work store st) n o next h l (rw (← c .0, ← c .1) b))))
 
   module _ (b : badRange rom work (st .length) (q .cell) (p .cell) ≡ false) where
-    pub string-full-told : (r : Stepped) → 16384 < st .«work_place» + (p .cell + 1) → r ≡ stepped (Refused 24) st → WritesFrom encodeString rom work work st next r
+    pub string-full-told : (r : Stepped) → workSize < st .«work_place» + (p .cell + 1) → r ≡ stepped (Refused 24) st
+        → WritesFrom encodeString rom work work st next r
     string-full-told r m w n o store =
         let c = two-pops st p q l e f in
         rw w (sym (stopped (scene rom work store st) (tokenOf n 0x1300_0022 o next) 24 refl
         (string-full (scene rom work store st) n o next h l (rw (← c .0, ← c .1) b) (rw (← c .0) m))))
 
-    module _ (m : st .«work_place» + (p .cell + 1) ≤ 16384) where
-      pub string-told : (then last : List ℕ) (r : Stepped) → then ≡ writtenOf work (st .«work_place») (resolveOf rom work (st .length) (q .cell) (p .cell))
+    module _ (m : st .«work_place» + (p .cell + 1) ≤ workSize) where
+      pub string-told : (then last : List ℕ) (r : Stepped)
+          → then ≡ writtenOf work (st .«work_place») (resolveOf rom work (st .length) (q .cell) (p .cell))
           → last ≡ set then (st .«work_place» + p .cell) 0 → r ≡ stepped Going (encodedOn (q .state) next (p .cell + 1))
           → WritesFrom encodeString rom work last st next r
       unfolding actOf effects
@@ -141,7 +154,7 @@ module _ (st : State) (next : ℕ) (h : st .stack .height ≤ 64) (l : 2 ≤ st 
           ∙ sym (carried (scene rom work store st) (tokenOf n 0x1300_0022 o next)
           (string-good (scene rom work store st) n o next h l v (rw (← c .0) m)))
 
-      pub string-room : (q .state .stack .height + 2 ≤ 64) × (q .state .«work_place» + (p .cell + 1) ≤ 16384)
+      pub string-room : (q .state .stack .height + 2 ≤ dataMost) × (q .state .«work_place» + (p .cell + 1) ≤ workSize)
       string-room =
           let c = two-pops st p q l e f in
           let d = lowered st 2 (q .state) (c .2) in

@@ -19,13 +19,14 @@ use Rattle.state.specs.State.{moved}
 use Rattle.state.specs.Scene.{Scene, scene, turn, refuse, goes, cellOf}
 use Rattle.state.specs.Effects.{gave, effects, actOf}
 use Rattle.state.specs.Step.{doneOf}
-use Rattle.acts.specs.Acts.{ofCell, lookOf, storeWhy, storeThen}
+use Rattle.acts.specs.Joints.Acts.{ofCell, lookOf, storeWhy, storeThen}
 use Rattle.state.specs.declared.state.State.{State}
 use Rattle.state.specs.declared.answer.Answer.the-variants.{Going, Refused}
 use Rattle.acts.proofs.Cold.{fetch-cell, fetch-byte, store-cell, store-byte}
-use Rattle.state.specs.Done.{carried, stopped}
+use Rattle.state.specs.Laws.Done.{carried, stopped}
+use Rattle.rom.specs.Sizes.{dataMost}
 
-module _ (rom work store : List ℕ) (st : State) (n : ℕ) (o : Operand) (next : ℕ) (h : st .stack .height ≤ 64) where
+module _ (rom work store : List ℕ) (st : State) (n : ℕ) (o : Operand) (next : ℕ) (h : st .stack .height ≤ dataMost) where
   abbrev s : Scene
   s = scene rom work store st
 
@@ -77,7 +78,8 @@ module _ (rom work store : List ℕ) (st : State) (n : ℕ) (o : Operand) (next 
         doneOf s put ≡ pick (eqb why 0) (turn Going (moved st (gave st 2 []) next) then store) (turn (Refused why) st then store)
 
     cell-stored : (b u : Bool) → ofCell n ≡ true → outsideWork work (cellOf s 0) 4 ≡ b → uneven (cellOf s 0) ≡ u
-        → StoreIs (pick b 22 (pick u 23 0)) (pick (eqb (pick b 22 (pick u 23 0)) 0) (writtenOf work (cellOf s 0 - workBase) (bytesOf (cellOf s 1))) work)
+        → StoreIs (pick b 22 (pick u 23 0)) (pick (eqb (pick b 22 (pick u 23 0)) 0)
+        (writtenOf work (cellOf s 0 - workBase) (bytesOf (cellOf s 1))) work)
     unfolding actOf effects
     cell-stored true u c e f = stopped s put 22 refl (store-cell s n o next h l true u c e f)
     cell-stored false true c e f = stopped s put 23 refl (store-cell s n o next h l false true c e f)
@@ -94,7 +96,8 @@ module _ (rom work store : List ℕ) (st : State) (n : ℕ) (o : Operand) (next 
     store-is true c = rw c (cell-stored (outsideWork work (cellOf s 0) 4) (uneven (cellOf s 0)) c refl refl)
     store-is false c = rw c (byte-stored (outsideWork work (cellOf s 0) 1) c refl)
 
-    module _ (why a v : ℕ) (then : List ℕ) (e : a ≡ cellOf s 0) (f : v ≡ cellOf s 1) (g : why ≡ storeWhy n work a) (i : then ≡ storeThen n work a v) where
+    module _ (why a v : ℕ) (then : List ℕ) (e : a ≡ cellOf s 0) (f : v ≡ cellOf s 1) (g : why ≡ storeWhy n work a)
+        (i : then ≡ storeThen n work a v) where
       store-told : StoreIs why then
       store-told = rw (g, i, e, f) (store-is (ofCell n) refl)
 

@@ -8,8 +8,9 @@ use lib.ListN.{getD}
 use Rattle.state.specs.Stacks.{stacks, leftOf, topOf}
 use Rattle.state.specs.State.{moved, movedTo}
 use Rattle.state.specs.Effects.{gave}
-use Rattle.state.specs.Moves.{Popped, stepped, restacked, pushOf, popOf}
-use Rattle.acts.specs.Acts.{pairOn}
+use Rattle.state.specs.Joints.Moves.{Popped, stepped, restacked, pushOf, popOf}
+use Rattle.acts.specs.Joints.Acts.{pairOn}
+use Rattle.rom.specs.Sizes.{dataMost}
 use Rattle.state.specs.declared.state.State.{State}
 use Rattle.state.specs.declared.answer.Answer.the-variants.{Going}
 use Rattle.state.specs.declared.answer.Stepped.{Stepped}
@@ -53,26 +54,29 @@ module _ (st : State) where
       let e : st .stack .height ≡ st .stack .height - 0 + 0 = omega arith in
       ap (λ (m : ℕ). moved st (stacks (st .stack .cells) m (st .back .cells) (st .back .height)) next) e
 
-  pub pushed-on : (k next v : ℕ) (s : State) (r : Stepped) → st .stack .height - k < 64 → s ≡ poppedBy k → r ≡ pushOf (movedTo s next) v
+  pub pushed-on : (k next v : ℕ) (s : State) (r : Stepped) → st .stack .height - k < dataMost → s ≡ poppedBy k
+      → r ≡ pushOf (movedTo s next) v
       → r ≡ stepped Going (moved st (gave st k (v ∷ [])) next)
   unfolding leftOf pushOf
-  pushed-on k next v s r h g e = e ∙ ap (λ (x : State). pushOf (movedTo x next) v) g ∙ rw (lt-ltb (st .stack .height - k) 64 h)
+  pushed-on k next v s r h g e = e ∙ ap (λ (x : State). pushOf (movedTo x next) v) g ∙ rw (lt-ltb (st .stack .height - k) dataMost h)
 
-  pub pushed-here : (next v : ℕ) (r : Stepped) → st .stack .height < 64 → r ≡ pushOf (movedTo st next) v → r ≡ stepped Going (moved st (gave st 0 (v ∷ [])) next)
+  pub pushed-here : (next v : ℕ) (r : Stepped) → st .stack .height < dataMost → r ≡ pushOf (movedTo st next) v
+      → r ≡ stepped Going (moved st (gave st 0 (v ∷ [])) next)
   unfolding leftOf pushOf
   pushed-here next v r h e =
       let z : st .stack .height - 0 ≡ st .stack .height = omega arith in
-      e ∙ rw (lt-ltb (st .stack .height) 64 h, z)
+      e ∙ rw (lt-ltb (st .stack .height) dataMost h, z)
 
-  pub paired : (next a b : ℕ) (one : Stepped) (r : Stepped) → st .stack .height + 2 ≤ 64 → one ≡ pushOf (movedTo st next) a → r ≡ pushOf (one .state) b
+  pub paired : (next a b : ℕ) (one : Stepped) (r : Stepped) → st .stack .height + 2 ≤ dataMost → one ≡ pushOf (movedTo st next) a
+      → r ≡ pushOf (one .state) b
       → r ≡ stepped Going (pairOn st next a b)
   unfolding leftOf pushOf
   paired next a b one r h e f =
       let z : st .stack .height - 0 ≡ st .stack .height = omega arith in
       let y : st .stack .height + 1 + 1 ≡ st .stack .height + 2 = omega arith in
-      let g = rw (lt-ltb (st .stack .height) 64 (omega arith)) at e in
+      let g = rw (lt-ltb (st .stack .height) dataMost (omega arith)) at e in
       let d = rw g at f in
-      d ∙ rw (lt-ltb (st .stack .height + 1) 64 (omega arith), z, y)
+      d ∙ rw (lt-ltb (st .stack .height + 1) dataMost (omega arith), z, y)
 
   pub paired-on : (k next a b : ℕ) → pairOn (poppedBy k) next a b ≡ moved st (gave st k (a ∷ b ∷ [])) next
   paired-on k next a b =
@@ -86,7 +90,8 @@ module _ (st : State) where
       let b = next-pop 1 (p .state) q (omega arith) (a .1) f in
       (a .0, b .0, b .1)
 
-  pub four-pops : (p q t u : Popped) → 4 ≤ st .stack .height → p ≡ popOf st → q ≡ popOf (p .state) → t ≡ popOf (q .state) → u ≡ popOf (t .state)
+  pub four-pops : (p q t u : Popped) → 4 ≤ st .stack .height → p ≡ popOf st → q ≡ popOf (p .state) → t ≡ popOf (q .state)
+      → u ≡ popOf (t .state)
       → (p .cell ≡ cellAt 0) × (q .cell ≡ cellAt 1) × (t .cell ≡ cellAt 2) × (u .cell ≡ cellAt 3) × (u .state ≡ poppedBy 4)
   four-pops p q t u h e f g i =
       let a = two-pops p q (omega arith) e f in

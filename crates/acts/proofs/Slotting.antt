@@ -8,20 +8,20 @@ use borrow.Author.Tests.{ltb-true, ltb-false}
 use lib.ListN.{length, getD}
 use lib.Seq.{getD-set-same, getD-set-other}
 use Rattle.cells.specs.Choice.{pick}
-use Rattle.tokens.specs.Table.{isProgram}
+use Rattle.tokens.specs.Table.{isProgram, programsMost, firstProgram}
 use Rattle.tokens.specs.Family.{assign, call}
 use Rattle.tokens.specs.Body.{numberIn}
 use Rattle.tokens.specs.declared.decoding.Operand.{Operand}
-use Rattle.state.specs.Numbers.{seekOf, isHeld, kindOfByte, kindAt, kindHeld, kindsFrom, putKind, definedOf}
-use Rattle.state.specs.Seeking.{slotsOf, slot-none, slot-some, tablePast, table-defined, kinds-all}
-use Rattle.state.specs.Moves.{stepped}
+use Rattle.state.specs.Numbers.{numbersOn, seekOf, isHeld, kindOfByte, kindAt, kindHeld, kindsFrom, definedOf}
+use Rattle.state.specs.Laws.Seeking.{slot-none, slot-some, table-defined, kinds-all, putKind}
+use Rattle.state.specs.Joints.Moves.{stepped}
 use Rattle.state.specs.declared.state.State.{State}
 use Rattle.state.specs.declared.state.Numbers.{Numbers}
 use Rattle.state.specs.declared.answer.Answer.the-variants.{Refused}
 use Rattle.state.specs.declared.answer.Stepped.{Stepped}
-use Rattle.state.specs.Apart.{numbersOn}
-use Rattle.acts.specs.Acts.{QuietOf, QuietBy, Tabled, Tables, slotIn}
+use Rattle.acts.specs.Joints.Acts.{QuietOf, QuietBy, Tabled, Tables, slotIn}
 use Rattle.acts.proofs.Defining.{enter-outside, enter-none, assign-outside, assign-none}
+use Rattle.state.specs.Joints.Tables.{slotsOf, tablePast}
 
 module _ (slots : List ℕ) (ns : Numbers) (n slot : ℕ) (e : slots ≡ slotsOf ns) (f : slot ≡ slotIn slots n) where
   -- it is no program's, or is not held
@@ -47,14 +47,18 @@ kinds-any : (names kinds values values′ : List ℕ) (ways ways′ : List Bool)
 unfolding kindsFrom kindHeld
 kinds-any names kinds values values′ ways ways′ held zero n = refl
 kinds-any names kinds values values′ ways ways′ held (suc k) n =
-    ap (λ (l : List ℕ). kindHeld (numbersOn names kinds values ways held) n ∷ l) (kinds-any names kinds values values′ ways ways′ held k (n + 1))
+    ap (λ (l : List ℕ). kindHeld (numbersOn names kinds values ways held) n ∷ l)
+    (kinds-any names kinds values values′ ways ways′ held k (n + 1))
 
-pub tables-of : (slots known names kinds values : List ℕ) (ways : List Bool) (held : ℕ) → Tabled slots known (numbersOn names kinds values ways held)
+pub tables-of : (slots known names kinds values : List ℕ) (ways : List Bool) (held : ℕ)
+    → Tabled slots known (numbersOn names kinds values ways held)
     → Tables slots known names kinds held
-tables-of slots known names kinds values ways held t values′ ways′ = (t .0, t .1 ∙ kinds-any names kinds values values′ ways ways′ held 2048 0x800)
+tables-of slots known names kinds values ways held t values′ ways′ =
+    (t .0, t .1 ∙ kinds-any names kinds values values′ ways ways′ held programsMost firstProgram)
 
 -- one number more in both tables
-pub tabled-defined : (slots known slots' known' : List ℕ) (ns : Numbers) (n kind v : ℕ) (wide : Bool) → ns .count < length (ns .names) → ns .count < length (ns .kinds)
+pub tabled-defined : (slots known slots' known' : List ℕ) (ns : Numbers) (n kind v : ℕ) (wide : Bool) → ns .count < length (ns .programs)
+    → ns .count < length (ns .kinds)
     → isHeld ns n ≡ false → Tabled slots known ns → slots' ≡ putKind slots n (ns .count + 1) → known' ≡ putKind known n (kindOfByte kind)
     → Tabled slots' known' (definedOf ns n kind v wide)
 tabled-defined slots known slots' known' ns n kind v wide h l e t p q = (
@@ -67,7 +71,8 @@ tabled-defined slots known slots' known' ns n kind v wide h l e t p q = (
       ∙ kinds-all (definedOf ns n kind v wide),
 )
 
-module _ (slots : List ℕ) (st : State) (n slot : ℕ) (e : slots ≡ slotsOf (st .numbers)) (f : slot ≡ slotIn slots n) (z : slot ≡ 0) (next : ℕ) (r : Stepped)
+module _ (slots : List ℕ) (st : State) (n slot : ℕ) (e : slots ≡ slotsOf (st .numbers)) (f : slot ≡ slotIn slots n) (z : slot ≡ 0)
+    (next : ℕ) (r : Stepped)
     (w : r ≡ stepped (Refused 12) st) where
   pub enter-unheld : QuietBy n call st next r
   enter-unheld = by (isProgram n) refl

@@ -1,6 +1,6 @@
 // What a token leaves: the numbers of the state with an answer, and the tail of the store.
 ghost use mathlib.Core.Path.{_≡_};
-ghost use Rattle.acts.specs.Acts.{actedOf, refusedOf};
+ghost use Rattle.acts.specs.Joints.Acts.{actedOf, refusedOf};
 use state::Core;
 use state::Handed;
 use state::Told;

@@ -7,13 +7,15 @@ ghost use Rattle.tokens.specs.Decode.{isKind};
 ghost use Rattle.tokens.specs.Table.{isProgram};
 ghost use Rattle.tokens.specs.declared.decoding.Operand.the-variants.{Definition};
 ghost use Rattle.state.specs.Refusals.{rounded as Refusals·rounded};
-ghost use Rattle.state.specs.Apart.{numbersOn};
-ghost use Rattle.acts.specs.Acts.{QuietOf, Defines, Colons, Variables, Fresh, TakesValue};
-ghost use Rattle.acts.specs.Acts.{Tables, Definable, Numbered, Adds, AddsFrom};
+ghost use Rattle.state.specs.Numbers.{numbersOn};
+ghost use Rattle.acts.specs.Joints.Acts.{QuietOf, Defines, Colons, Variables, Fresh, TakesValue};
+ghost use Rattle.acts.specs.Joints.Acts.{Tables, Definable, ByNumber, Adds, AddsFrom};
+ghost use Rattle.rom.specs.Sizes.{dataMost, numbersMost, workSize};
 use crate::tables::note;
 use crate::tables::slot_of;
 use memory::WORK_BASE;
 use memory::write_cell;
+use rom::sizes::DATA_MOST;
 use rom::sizes::NUMBERS_MOST;
 use rom::sizes::WORK_SIZE;
 use state::Core;
@@ -22,16 +24,17 @@ use state::go;
 use state::pop;
 use state::stop;
 use tokens::Body;
+use tokens::programs::PROGRAMS_MOST;
 use tokens::read_body;
 
 // One number more, defined in the width in force.
 fn defined(
-    names: &mut [u32; 256],
-    kinds: &mut [u8; 256],
-    values: &mut [u32; 256],
-    ways: &mut [bool; 256],
-    slots: &mut [u16; 2048],
-    known: &mut [u8; 2048],
+    names: &mut [u32; NUMBERS_MOST],
+    kinds: &mut [u8; NUMBERS_MOST],
+    values: &mut [u32; NUMBERS_MOST],
+    ways: &mut [bool; NUMBERS_MOST],
+    slots: &mut [u16; PROGRAMS_MOST],
+    known: &mut [u8; PROGRAMS_MOST],
     core: Core,
     number: u32,
     kind: u8,
@@ -39,7 +42,7 @@ fn defined(
 ) -> Core
     requires { ⌜ Fresh (numbersOn (now names) (now kinds) (now values) (now ways) (core .held)) number
         × Definable (now slots) (now known) (numbersOn (now names) (now kinds) (now values) (now ways) (core .held)) ⌝ }
-    ensures { λ r. ⌜ Numbered (numbersOn (now (names .entry)) (now (kinds .entry)) (now (values .entry)) (now (ways .entry)) (core .held))
+    ensures { λ r. ⌜ ByNumber (numbersOn (now (names .entry)) (now (kinds .entry)) (now (values .entry)) (now (ways .entry)) (core .held))
         core number kind value r
         (numbersOn (now (names .exit)) (now (kinds .exit)) (now (values .exit)) (now (ways .exit)) (r .held))
         × Tables (now (slots .exit)) (now (known .exit)) (now (names .exit)) (now (kinds .exit)) (r .held) ⌝ }
@@ -58,17 +61,17 @@ fn defined(
 // b(:), whose number is new: the body is read to its end.
 fn colon(
     rom: &[u8],
-    names: &mut [u32; 256],
-    kinds: &mut [u8; 256],
-    values: &mut [u32; 256],
-    ways: &mut [bool; 256],
-    slots: &mut [u16; 2048],
-    known: &mut [u8; 2048],
+    names: &mut [u32; NUMBERS_MOST],
+    kinds: &mut [u8; NUMBERS_MOST],
+    values: &mut [u32; NUMBERS_MOST],
+    ways: &mut [bool; NUMBERS_MOST],
+    slots: &mut [u16; PROGRAMS_MOST],
+    known: &mut [u8; PROGRAMS_MOST],
     core: Core,
     number: u32,
     next: u32,
 ) -> Handed
-    requires { ⌜ (core .height ≤ 64) × Fresh (numbersOn (now names) (now kinds) (now values) (now ways) (core .held)) number
+    requires { ⌜ (core .height ≤ dataMost) × Fresh (numbersOn (now names) (now kinds) (now values) (now ways) (core .held)) number
         × Definable (now slots) (now known) (numbersOn (now names) (now kinds) (now values) (now ways) (core .held))
         × (next ≤ core .length) ⌝ }
     ensures { λ r. ⌜ Adds (numbersOn (now (names .entry)) (now (kinds .entry)) (now (values .entry)) (now (ways .entry))
@@ -101,19 +104,19 @@ fn colon(
 
 // b(value), b(constant)
 fn constant(
-    cells: &[u32; 64],
-    names: &mut [u32; 256],
-    kinds: &mut [u8; 256],
-    values: &mut [u32; 256],
-    ways: &mut [bool; 256],
-    slots: &mut [u16; 2048],
-    known: &mut [u8; 2048],
+    cells: &[u32; DATA_MOST],
+    names: &mut [u32; NUMBERS_MOST],
+    kinds: &mut [u8; NUMBERS_MOST],
+    values: &mut [u32; NUMBERS_MOST],
+    ways: &mut [bool; NUMBERS_MOST],
+    slots: &mut [u16; PROGRAMS_MOST],
+    known: &mut [u8; PROGRAMS_MOST],
     core: Core,
     number: u32,
     kind: u8,
     next: u32,
 ) -> Handed
-    requires { ⌜ (core .height ≤ 64) × Fresh (numbersOn (now names) (now kinds) (now values) (now ways) (core .held)) number
+    requires { ⌜ (core .height ≤ dataMost) × Fresh (numbersOn (now names) (now kinds) (now values) (now ways) (core .held)) number
         × Definable (now slots) (now known) (numbersOn (now names) (now kinds) (now values) (now ways) (core .held)) × TakesValue kind ⌝ }
     ensures { λ r. ⌜ AddsFrom (now (cells .entry)) (numbersOn (now (names .entry)) (now (kinds .entry)) (now (values .entry))
         (now (ways .entry)) (core .held)) core r
@@ -143,8 +146,8 @@ fn constant(
 
 // The work place rounded up to a multiple of 4.
 fn rounded(at: u32) -> u32
-    requires { ⌜ at ≤ 16384 ⌝ }
-    ensures { λ r. ⌜ (r ≡ Refusals·rounded at) × (r ≤ 16384) ⌝ }
+    requires { ⌜ at ≤ workSize ⌝ }
+    ensures { λ r. ⌜ (r ≡ Refusals·rounded at) × (r ≤ workSize) ⌝ }
 {
     (at + 3) / 4 * 4
 }
@@ -152,19 +155,19 @@ fn rounded(at: u32) -> u32
 // b(variable): four zero bytes of work memory.
 fn variable(
     work: &mut [u8],
-    names: &mut [u32; 256],
-    kinds: &mut [u8; 256],
-    values: &mut [u32; 256],
-    ways: &mut [bool; 256],
-    slots: &mut [u16; 2048],
-    known: &mut [u8; 2048],
+    names: &mut [u32; NUMBERS_MOST],
+    kinds: &mut [u8; NUMBERS_MOST],
+    values: &mut [u32; NUMBERS_MOST],
+    ways: &mut [bool; NUMBERS_MOST],
+    slots: &mut [u16; PROGRAMS_MOST],
+    known: &mut [u8; PROGRAMS_MOST],
     core: Core,
     number: u32,
     next: u32,
 ) -> Handed
-    requires { ⌜ (core .height ≤ 64) × Fresh (numbersOn (now names) (now kinds) (now values) (now ways) (core .held)) number
+    requires { ⌜ (core .height ≤ dataMost) × Fresh (numbersOn (now names) (now kinds) (now values) (now ways) (core .held)) number
         × Definable (now slots) (now known) (numbersOn (now names) (now kinds) (now values) (now ways) (core .held))
-        × (core .«work_place» ≤ 16384) ⌝ }
+        × (core .«work_place» ≤ workSize) ⌝ }
     ensures { λ r. ⌜ Adds (numbersOn (now (names .entry)) (now (kinds .entry)) (now (values .entry)) (now (ways .entry))
         (core .held)) core r
         (numbersOn (now (names .exit)) (now (kinds .exit)) (now (values .exit)) (now (ways .exit)) (r .core .held)) (now (slots .exit))
@@ -197,21 +200,21 @@ fn variable(
 fn define_new(
     rom: &[u8],
     work: &mut [u8],
-    cells: &[u32; 64],
-    names: &mut [u32; 256],
-    kinds: &mut [u8; 256],
-    values: &mut [u32; 256],
-    ways: &mut [bool; 256],
-    slots: &mut [u16; 2048],
-    known: &mut [u8; 2048],
+    cells: &[u32; DATA_MOST],
+    names: &mut [u32; NUMBERS_MOST],
+    kinds: &mut [u8; NUMBERS_MOST],
+    values: &mut [u32; NUMBERS_MOST],
+    ways: &mut [bool; NUMBERS_MOST],
+    slots: &mut [u16; PROGRAMS_MOST],
+    known: &mut [u8; PROGRAMS_MOST],
     core: Core,
     number: u32,
     kind: u32,
     next: u32,
 ) -> Handed
-    requires { ⌜ (core .height ≤ 64) × Fresh (numbersOn (now names) (now kinds) (now values) (now ways) (core .held)) number
+    requires { ⌜ (core .height ≤ dataMost) × Fresh (numbersOn (now names) (now kinds) (now values) (now ways) (core .held)) number
         × Definable (now slots) (now known) (numbersOn (now names) (now kinds) (now values) (now ways) (core .held))
-        × (core .«work_place» ≤ 16384) × (next ≤ core .length) × (isKind kind ≡ true) ⌝ }
+        × (core .«work_place» ≤ workSize) × (next ≤ core .length) × (isKind kind ≡ true) ⌝ }
     ensures { λ r. ⌜ AddsFrom (now (cells .entry)) (numbersOn (now (names .entry)) (now (kinds .entry)) (now (values .entry))
         (now (ways .entry)) (core .held)) core r
         (numbersOn (now (names .exit)) (now (kinds .exit)) (now (values .exit)) (now (ways .exit)) (r .core .held)) (now (slots .exit))
@@ -276,21 +279,21 @@ fn define_new(
 pub fn define_number(
     rom: &[u8],
     work: &mut [u8],
-    cells: &[u32; 64],
-    names: &mut [u32; 256],
-    kinds: &mut [u8; 256],
-    values: &mut [u32; 256],
-    ways: &mut [bool; 256],
-    slots: &mut [u16; 2048],
-    known: &mut [u8; 2048],
+    cells: &[u32; DATA_MOST],
+    names: &mut [u32; NUMBERS_MOST],
+    kinds: &mut [u8; NUMBERS_MOST],
+    values: &mut [u32; NUMBERS_MOST],
+    ways: &mut [bool; NUMBERS_MOST],
+    slots: &mut [u16; PROGRAMS_MOST],
+    known: &mut [u8; PROGRAMS_MOST],
     core: Core,
     number: u32,
     kind: u32,
     next: u32,
 ) -> Handed
-    requires { ⌜ (core .height ≤ 64) × (core .held ≤ 256)
+    requires { ⌜ (core .height ≤ dataMost) × (core .held ≤ numbersMost)
         × Definable (now slots) (now known) (numbersOn (now names) (now kinds) (now values) (now ways) (core .held))
-        × (core .«work_place» ≤ 16384) × (next ≤ core .length) × (isKind kind ≡ true) × (isProgram number ≡ true) ⌝ }
+        × (core .«work_place» ≤ workSize) × (next ≤ core .length) × (isKind kind ≡ true) × (isProgram number ≡ true) ⌝ }
     ensures { λ r. ⌜ AddsFrom (now (cells .entry)) (numbersOn (now (names .entry)) (now (kinds .entry)) (now (values .entry))
         (now (ways .entry)) (core .held)) core r
         (numbersOn (now (names .exit)) (now (kinds .exit)) (now (values .exit)) (now (ways .exit)) (r .core .held)) (now (slots .exit))

@@ -3,8 +3,9 @@
 ghost use mathlib.Core.Path.{_≡_};
 ghost use Prim.Native.Nat.{_≤_};
 ghost use lib.ListN.{length};
-ghost use Rattle.state.specs.Hot.{Cold};
-ghost use Rattle.acts.specs.Acts.{Fit, Seen, Comes, Kept, everyOn, whyIn};
+ghost use Rattle.state.specs.Joints.Hot.{Cold};
+ghost use Rattle.acts.specs.Joints.Acts.{Fit, GlanceSeen, Comes, ActsKept, everyOn, whyIn};
+ghost use Rattle.rom.specs.Sizes.{numbersMost};
 use crate::acted::Acted;
 use crate::acted::refuse;
 use crate::acted::with_tail;
@@ -25,6 +26,11 @@ use crate::numbers::enter;
 use crate::properties::put_named;
 use crate::properties::put_titled;
 use rom::byte;
+use rom::sizes::DATA_MOST;
+use rom::sizes::FRAMES_MOST;
+use rom::sizes::NODES_MOST;
+use rom::sizes::NUMBERS_MOST;
+use rom::sizes::PROPERTIES_MOST;
 use state::Core;
 use tokens::Glance;
 use tokens::Read;
@@ -32,6 +38,7 @@ use tokens::family;
 use tokens::family_of;
 use tokens::glance_at;
 use tokens::out_of_place;
+use tokens::programs::PROGRAMS_MOST;
 use tokens::read_at;
 use tree::Tail;
 
@@ -40,27 +47,27 @@ fn act(
     rom: &[u8],
     work: &mut [u8],
     store: &mut [u8],
-    cells: &mut [u32; 64],
-    places: &mut [u32; 16],
-    wides: &mut [bool; 16],
-    bases: &mut [usize; 16],
-    names: &mut [u32; 256],
-    kinds: &mut [u8; 256],
-    values: &mut [u32; 256],
-    ways: &mut [bool; 256],
-    parents: &mut [u32; 32],
-    owners: &mut [u32; 128],
-    titles: &mut [u32; 128],
-    sizes: &mut [u32; 128],
-    slots: &mut [u16; 2048],
-    known: &mut [u8; 2048],
+    cells: &mut [u32; DATA_MOST],
+    places: &mut [u32; FRAMES_MOST],
+    wides: &mut [bool; FRAMES_MOST],
+    bases: &mut [usize; FRAMES_MOST],
+    names: &mut [u32; NUMBERS_MOST],
+    kinds: &mut [u8; NUMBERS_MOST],
+    values: &mut [u32; NUMBERS_MOST],
+    ways: &mut [bool; NUMBERS_MOST],
+    parents: &mut [u32; NODES_MOST],
+    owners: &mut [u32; PROPERTIES_MOST],
+    titles: &mut [u32; PROPERTIES_MOST],
+    sizes: &mut [u32; PROPERTIES_MOST],
+    slots: &mut [u16; PROGRAMS_MOST],
+    known: &mut [u8; PROGRAMS_MOST],
     core: Core,
     tail: Tail,
     seen: Glance,
 ) -> Acted
-    requires { ⌜ Fit (now rom) core × Seen (now rom) core seen × Cold (now rom) (core .place) × (length (now names) ≡ 256)
-        × (length (now kinds) ≡ 256)
-        × Kept (now slots) (now known) (now names) (now kinds) (now store) (now titles) (now sizes) core tail ⌝ }
+    requires { ⌜ Fit (now rom) core × GlanceSeen (now rom) core seen × Cold (now rom) (core .place) × (length (now names) ≡ numbersMost)
+        × (length (now kinds) ≡ numbersMost)
+        × ActsKept (now slots) (now known) (now names) (now kinds) (now store) (now titles) (now sizes) core tail ⌝ }
     ensures { λ r. ⌜ Comes (now (rom .entry))
         (everyOn (now (cells .entry)) (now (places .entry)) (now (wides .entry)) (now (bases .entry)) (now (names .entry))
         (now (kinds .entry)) (now (values .entry)) (now (ways .entry))
@@ -70,7 +77,7 @@ fn act(
         (now (values .exit)) (now (ways .exit))
         (now (parents .exit)) (now (owners .exit)) (now (titles .exit)) (now (sizes .exit)))
         (now (work .exit)) (now (store .exit))
-        × Kept (now (slots .exit)) (now (known .exit)) (now (names .exit)) (now (kinds .exit)) (now (store .exit)) (now (titles .exit))
+        × ActsKept (now (slots .exit)) (now (known .exit)) (now (names .exit)) (now (kinds .exit)) (now (store .exit)) (now (titles .exit))
         (now (sizes .exit)) (r .core) (r .tail) ⌝ }
 {
     let number = seen.number;
@@ -184,25 +191,25 @@ fn by_glance(
     rom: &[u8],
     work: &mut [u8],
     store: &mut [u8],
-    cells: &mut [u32; 64],
-    places: &mut [u32; 16],
-    wides: &mut [bool; 16],
-    bases: &mut [usize; 16],
-    names: &mut [u32; 256],
-    kinds: &mut [u8; 256],
-    values: &mut [u32; 256],
-    ways: &mut [bool; 256],
-    parents: &mut [u32; 32],
-    owners: &mut [u32; 128],
-    titles: &mut [u32; 128],
-    sizes: &mut [u32; 128],
-    slots: &mut [u16; 2048],
-    known: &mut [u8; 2048],
+    cells: &mut [u32; DATA_MOST],
+    places: &mut [u32; FRAMES_MOST],
+    wides: &mut [bool; FRAMES_MOST],
+    bases: &mut [usize; FRAMES_MOST],
+    names: &mut [u32; NUMBERS_MOST],
+    kinds: &mut [u8; NUMBERS_MOST],
+    values: &mut [u32; NUMBERS_MOST],
+    ways: &mut [bool; NUMBERS_MOST],
+    parents: &mut [u32; NODES_MOST],
+    owners: &mut [u32; PROPERTIES_MOST],
+    titles: &mut [u32; PROPERTIES_MOST],
+    sizes: &mut [u32; PROPERTIES_MOST],
+    slots: &mut [u16; PROGRAMS_MOST],
+    known: &mut [u8; PROGRAMS_MOST],
     core: Core,
     tail: Tail,
 ) -> Acted
-    requires { ⌜ Fit (now rom) core × Cold (now rom) (core .place) × (length (now names) ≡ 256) × (length (now kinds) ≡ 256)
-        × Kept (now slots) (now known) (now names) (now kinds) (now store) (now titles) (now sizes) core tail ⌝ }
+    requires { ⌜ Fit (now rom) core × Cold (now rom) (core .place) × (length (now names) ≡ numbersMost) × (length (now kinds) ≡ numbersMost)
+        × ActsKept (now slots) (now known) (now names) (now kinds) (now store) (now titles) (now sizes) core tail ⌝ }
     ensures { λ r. ⌜ Comes (now (rom .entry))
         (everyOn (now (cells .entry)) (now (places .entry)) (now (wides .entry)) (now (bases .entry)) (now (names .entry))
         (now (kinds .entry)) (now (values .entry)) (now (ways .entry))
@@ -212,7 +219,7 @@ fn by_glance(
         (now (values .exit)) (now (ways .exit))
         (now (parents .exit)) (now (owners .exit)) (now (titles .exit)) (now (sizes .exit)))
         (now (work .exit)) (now (store .exit))
-        × Kept (now (slots .exit)) (now (known .exit)) (now (names .exit)) (now (kinds .exit)) (now (store .exit)) (now (titles .exit))
+        × ActsKept (now (slots .exit)) (now (known .exit)) (now (names .exit)) (now (kinds .exit)) (now (store .exit)) (now (titles .exit))
         (now (sizes .exit)) (r .core) (r .tail) ⌝ }
 {
     let seen = glance_at(rom, core.length, core.wide, core.place);
@@ -252,25 +259,25 @@ pub fn cold_token(
     rom: &[u8],
     work: &mut [u8],
     store: &mut [u8],
-    cells: &mut [u32; 64],
-    places: &mut [u32; 16],
-    wides: &mut [bool; 16],
-    bases: &mut [usize; 16],
-    names: &mut [u32; 256],
-    kinds: &mut [u8; 256],
-    values: &mut [u32; 256],
-    ways: &mut [bool; 256],
-    parents: &mut [u32; 32],
-    owners: &mut [u32; 128],
-    titles: &mut [u32; 128],
-    sizes: &mut [u32; 128],
-    slots: &mut [u16; 2048],
-    known: &mut [u8; 2048],
+    cells: &mut [u32; DATA_MOST],
+    places: &mut [u32; FRAMES_MOST],
+    wides: &mut [bool; FRAMES_MOST],
+    bases: &mut [usize; FRAMES_MOST],
+    names: &mut [u32; NUMBERS_MOST],
+    kinds: &mut [u8; NUMBERS_MOST],
+    values: &mut [u32; NUMBERS_MOST],
+    ways: &mut [bool; NUMBERS_MOST],
+    parents: &mut [u32; NODES_MOST],
+    owners: &mut [u32; PROPERTIES_MOST],
+    titles: &mut [u32; PROPERTIES_MOST],
+    sizes: &mut [u32; PROPERTIES_MOST],
+    slots: &mut [u16; PROGRAMS_MOST],
+    known: &mut [u8; PROGRAMS_MOST],
     core: Core,
     tail: Tail,
 ) -> Acted
-    requires { ⌜ Fit (now rom) core × Cold (now rom) (core .place) × (length (now names) ≡ 256) × (length (now kinds) ≡ 256)
-        × Kept (now slots) (now known) (now names) (now kinds) (now store) (now titles) (now sizes) core tail ⌝ }
+    requires { ⌜ Fit (now rom) core × Cold (now rom) (core .place) × (length (now names) ≡ numbersMost) × (length (now kinds) ≡ numbersMost)
+        × ActsKept (now slots) (now known) (now names) (now kinds) (now store) (now titles) (now sizes) core tail ⌝ }
     ensures { λ r. ⌜ Comes (now (rom .entry))
         (everyOn (now (cells .entry)) (now (places .entry)) (now (wides .entry)) (now (bases .entry)) (now (names .entry))
         (now (kinds .entry)) (now (values .entry)) (now (ways .entry))
@@ -280,7 +287,7 @@ pub fn cold_token(
         (now (values .exit)) (now (ways .exit))
         (now (parents .exit)) (now (owners .exit)) (now (titles .exit)) (now (sizes .exit)))
         (now (work .exit)) (now (store .exit))
-        × Kept (now (slots .exit)) (now (known .exit)) (now (names .exit)) (now (kinds .exit)) (now (store .exit)) (now (titles .exit))
+        × ActsKept (now (slots .exit)) (now (known .exit)) (now (names .exit)) (now (kinds .exit)) (now (store .exit)) (now (titles .exit))
         (now (sizes .exit)) (r .core) (r .tail) ⌝ }
 {
     let place = core.place;

@@ -5,9 +5,10 @@ ghost use lib.ListN.{length};
 ghost use Rattle.tokens.specs.Family.{encodeInt, encodeString, join};
 ghost use Rattle.memory.specs.Window.{badRange, resolveOf};
 ghost use Rattle.memory.specs.Writing.{writtenOf};
-ghost use Rattle.state.specs.Apart.{onStack, Moves};
-ghost use Rattle.state.specs.Moves.{stepped};
-ghost use Rattle.acts.specs.Acts.{Quiet, Writes, WritesFrom, encodedOn};
+ghost use Rattle.state.specs.Joints.Apart.{onStack, Moves};
+ghost use Rattle.state.specs.Joints.Moves.{stepped};
+ghost use Rattle.acts.specs.Joints.Acts.{Quiet, Writes, WritesFrom, encodedOn};
+ghost use Rattle.rom.specs.Sizes.{dataMost, workSize};
 ghost use Rattle.state.specs.declared.answer.Answer.the-variants.{Going};
 use crate::flow::pair;
 use memory::WORK_BASE;
@@ -25,8 +26,8 @@ use state::pop;
 use state::stop;
 
 // Bytes at the work place given by their address and length; the work place moves past them.
-fn encoded(cells: &mut [u32; 64], core: Core, next: u32, count: u32) -> Handed
-    requires { ⌜ (core .height + 2 ≤ 64) × (core .«work_place» + count ≤ 16384) ⌝ }
+fn encoded(cells: &mut [u32; DATA_MOST], core: Core, next: u32, count: u32) -> Handed
+    requires { ⌜ (core .height + 2 ≤ dataMost) × (core .«work_place» + count ≤ workSize) ⌝ }
     ensures { λ r. ⌜ Moves (onStack (now (cells .entry))) core r (onStack (now (cells .exit)))
         (λ s t. t ≡ stepped Going (encodedOn s next count)) ⌝ }
 {
@@ -37,8 +38,8 @@ fn encoded(cells: &mut [u32; 64], core: Core, next: u32, count: u32) -> Handed
 }
 
 // encode+
-pub fn join_arrays(cells: &mut [u32; 64], core: Core, next: u32) -> Handed
-    requires { ⌜ core .height ≤ 64 ⌝ }
+pub fn join_arrays(cells: &mut [u32; DATA_MOST], core: Core, next: u32) -> Handed
+    requires { ⌜ core .height ≤ dataMost ⌝ }
     ensures { λ r. ⌜ Moves (onStack (now (cells .entry))) core r (onStack (now (cells .exit))) (λ s t. Quiet join s next t) ⌝ }
 {
     if core.height < 4 {
@@ -61,8 +62,8 @@ pub fn join_arrays(cells: &mut [u32; 64], core: Core, next: u32) -> Handed
 }
 
 // encode-int
-pub fn encode_int(work: &mut [u8], cells: &mut [u32; 64], core: Core, next: u32) -> Handed
-    requires { ⌜ (core .height ≤ 64) × (core .«work_place» ≤ 16384) ⌝ }
+pub fn encode_int(work: &mut [u8], cells: &mut [u32; DATA_MOST], core: Core, next: u32) -> Handed
+    requires { ⌜ (core .height ≤ dataMost) × (core .«work_place» ≤ workSize) ⌝ }
     ensures { λ r. ⌜ Moves (onStack (now (cells .entry))) core r (onStack (now (cells .exit)))
         (λ s t. Writes encodeInt (now (work .entry)) (now (work .exit)) s next t) ⌝ }
 {
@@ -120,11 +121,11 @@ fn lay_string(rom: &[u8], work: &mut [u8], size: u32, address: u32, count: u32, 
 pub fn encode_string(
     rom: &[u8],
     work: &mut [u8],
-    cells: &mut [u32; 64],
+    cells: &mut [u32; DATA_MOST],
     core: Core,
     next: u32,
 ) -> Handed
-    requires { ⌜ (core .height ≤ 64) × (core .«work_place» ≤ 16384) × (core .length ≤ length (now rom)) ⌝ }
+    requires { ⌜ (core .height ≤ dataMost) × (core .«work_place» ≤ workSize) × (core .length ≤ length (now rom)) ⌝ }
     ensures { λ r. ⌜ Moves (onStack (now (cells .entry))) core r (onStack (now (cells .exit)))
         (λ s t. WritesFrom encodeString (now (rom .entry)) (now (work .entry)) (now (work .exit)) s next t) ⌝ }
 {

@@ -3,12 +3,14 @@ ghost use mathlib.Core.Path.{_≡_};
 ghost use Prim.Native.Nat.{_≤_, _+_};
 ghost use Rattle.tokens.specs.Family.{finish, text, widen, leave as Family·leave};
 ghost use Rattle.tokens.specs.declared.decoding.Operand.the-variants.{Text};
-ghost use Rattle.state.specs.Apart.{onStack, onCalls, Moves, Looks};
-ghost use Rattle.state.specs.Moves.{stepped};
+ghost use Rattle.state.specs.Joints.Apart.{onStack, onCalls, Moves, Looks};
+ghost use Rattle.state.specs.Joints.Moves.{stepped};
 ghost use Rattle.state.specs.declared.answer.Answer.the-variants.{Going};
-ghost use Rattle.acts.specs.Acts.{Quiet, QuietOf, asTheyAre, pairOn};
+ghost use Rattle.acts.specs.Joints.Acts.{Quiet, QuietOf, asTheyAre, pairOn};
+ghost use Rattle.rom.specs.Sizes.{dataMost};
 use memory::ROM_BASE;
 use rom::sizes::DATA_MOST;
+use rom::sizes::FRAMES_MOST;
 use state::Core;
 use state::Handed;
 use state::Told;
@@ -19,7 +21,7 @@ use state::stop;
 
 // end0, end1
 pub fn end_program(core: Core, next: u32) -> Handed
-    requires { ⌜ core .height ≤ 64 ⌝ }
+    requires { ⌜ core .height ≤ dataMost ⌝ }
     ensures { λ r. ⌜ Looks asTheyAre core r (λ s t. Quiet finish s next t) ⌝ }
 {
     let mut k = core;
@@ -33,7 +35,7 @@ pub fn end_program(core: Core, next: u32) -> Handed
 
 // offset16
 pub fn widen_offsets(core: Core, next: u32) -> Handed
-    requires { ⌜ core .height ≤ 64 ⌝ }
+    requires { ⌜ core .height ≤ dataMost ⌝ }
     ensures { λ r. ⌜ Looks asTheyAre core r (λ s t. Quiet widen s next t) ⌝ }
 {
     let mut k = core;
@@ -44,13 +46,13 @@ pub fn widen_offsets(core: Core, next: u32) -> Handed
 
 // exit, b(;)
 pub fn leave_body(
-    places: &[u32; 16],
-    wides: &[bool; 16],
-    bases: &[usize; 16],
+    places: &[u32; FRAMES_MOST],
+    wides: &[bool; FRAMES_MOST],
+    bases: &[usize; FRAMES_MOST],
     core: Core,
     next: u32,
 ) -> Handed
-    requires { ⌜ (core .height ≤ 64) × (1 ≤ core .frames) ⌝ }
+    requires { ⌜ (core .height ≤ dataMost) × (1 ≤ core .frames) ⌝ }
     ensures { λ r. ⌜ Looks (onCalls (now (places .entry)) (now (wides .entry)) (now (bases .entry))) core r
         (λ s t. Quiet Family·leave s next t) ⌝ }
 {
@@ -58,8 +60,8 @@ pub fn leave_body(
 }
 
 // Two cells more, which have room, and the next token.
-pub fn pair(cells: &mut [u32; 64], core: Core, next: u32, first: u32, second: u32) -> Handed
-    requires { ⌜ core .height + 2 ≤ 64 ⌝ }
+pub fn pair(cells: &mut [u32; DATA_MOST], core: Core, next: u32, first: u32, second: u32) -> Handed
+    requires { ⌜ core .height + 2 ≤ dataMost ⌝ }
     ensures { λ r. ⌜ Moves (onStack (now (cells .entry))) core r (onStack (now (cells .exit)))
         (λ s t. t ≡ stepped Going (pairOn s next first second)) ⌝ }
 {
@@ -71,8 +73,8 @@ pub fn pair(cells: &mut [u32; 64], core: Core, next: u32, first: u32, second: u3
 }
 
 // b("): the string, which starts at a place, stays in the ROM.
-pub fn quote(cells: &mut [u32; 64], core: Core, start: u32, count: u32, next: u32) -> Handed
-    requires { ⌜ (start ≤ 65536) × (core .height ≤ 64) ⌝ }
+pub fn quote(cells: &mut [u32; DATA_MOST], core: Core, start: u32, count: u32, next: u32) -> Handed
+    requires { ⌜ (start ≤ 65536) × (core .height ≤ dataMost) ⌝ }
     ensures { λ r. ⌜ Moves (onStack (now (cells .entry))) core r (onStack (now (cells .exit)))
         (λ s t. QuietOf text (Text start count) s next t) ⌝ }
 {

@@ -2,13 +2,15 @@
 ghost use mathlib.Core.Path.{_≡_};
 ghost use Prim.Native.Nat.{_≤_};
 ghost use Rattle.tokens.specs.Family.{fetch, store};
-ghost use Rattle.state.specs.Apart.{onStack, Moves, Looks};
-ghost use Rattle.acts.specs.Acts.{ReadsBy, WritesBy, ofCell, lookOf, storeWhy, storeThen};
+ghost use Rattle.state.specs.Joints.Apart.{onStack, Moves, Looks};
+ghost use Rattle.acts.specs.Joints.Acts.{ReadsBy, WritesBy, ofCell, lookOf, storeWhy, storeThen};
+ghost use Rattle.rom.specs.Sizes.{dataMost};
 use memory::Fetched;
 use memory::fetch_byte;
 use memory::fetch_cell;
 use memory::store_byte;
 use memory::store_cell;
+use rom::sizes::DATA_MOST;
 use state::Core;
 use state::Handed;
 use state::go;
@@ -39,12 +41,12 @@ fn fetched<'a>(rom: &'a [u8], work: &'a [u8], size: u32, number: u32, address: u
 pub fn fetch_from<'a>(
     rom: &'a [u8],
     work: &'a [u8],
-    cells: &mut [u32; 64],
+    cells: &mut [u32; DATA_MOST],
     core: Core,
     number: u32,
     next: u32,
 ) -> Handed
-    requires { ⌜ core .height ≤ 64 ⌝ }
+    requires { ⌜ core .height ≤ dataMost ⌝ }
     ensures { λ r. ⌜ Moves (onStack (now (cells .entry))) core r (onStack (now (cells .exit)))
         (λ s t. ReadsBy number fetch (now (rom .entry)) (now (work .entry)) s next t) ⌝ }
 {
@@ -74,8 +76,14 @@ fn stored(work: &mut [u8], number: u32, address: u32, cell: u32) -> u32
 }
 
 // !, c!
-pub fn store_to(work: &mut [u8], cells: &[u32; 64], core: Core, number: u32, next: u32) -> Handed
-    requires { ⌜ core .height ≤ 64 ⌝ }
+pub fn store_to(
+    work: &mut [u8],
+    cells: &[u32; DATA_MOST],
+    core: Core,
+    number: u32,
+    next: u32,
+) -> Handed
+    requires { ⌜ core .height ≤ dataMost ⌝ }
     ensures { λ r. ⌜ Looks (onStack (now (cells .entry))) core r (λ s t. WritesBy number store (now (work .entry))
         (now (work .exit)) s next t) ⌝ }
 {

@@ -1,9 +1,12 @@
 // Program numbers: entered, and given another value.
 ghost use mathlib.Core.Path.{_≡_};
 ghost use Prim.Native.Nat.{_≤_};
-ghost use Rattle.acts.specs.Acts.{Assigns, Enters, Slotted};
+ghost use Rattle.acts.specs.Joints.Acts.{Assigns, Enters, Slotted};
+ghost use Rattle.rom.specs.Sizes.{dataMost, numbersMost};
 use crate::tables::slot_of;
 use rom::sizes::DATA_MOST;
+use rom::sizes::FRAMES_MOST;
+use rom::sizes::NUMBERS_MOST;
 use state::Core;
 use state::Handed;
 use state::call;
@@ -14,19 +17,20 @@ use state::pop;
 use state::push;
 use state::stop;
 use state::wide_at;
+use tokens::programs::PROGRAMS_MOST;
 
 // b(to) and a number. It is lent the stack, and all of a program number but the width.
 pub fn assign_value(
-    cells: &[u32; 64],
-    names: &[u32; 256],
-    kinds: &[u8; 256],
-    values: &mut [u32; 256],
-    slots: &[u16; 2048],
+    cells: &[u32; DATA_MOST],
+    names: &[u32; NUMBERS_MOST],
+    kinds: &[u8; NUMBERS_MOST],
+    values: &mut [u32; NUMBERS_MOST],
+    slots: &[u16; PROGRAMS_MOST],
     core: Core,
     number: u32,
     next: u32,
 ) -> Handed
-    requires { ⌜ (core .height ≤ 64) × (core .held ≤ 256) × Slotted (now slots) (now names) (core .held) ⌝ }
+    requires { ⌜ (core .height ≤ dataMost) × (core .held ≤ numbersMost) × Slotted (now slots) (now names) (core .held) ⌝ }
     ensures { λ r. ⌜ Assigns number (now (cells .entry)) (now (names .entry)) (now (kinds .entry)) (now (values .entry)) core next r
         (now (values .exit)) ⌝ }
 {
@@ -50,20 +54,20 @@ pub fn assign_value(
 
 // A program number: a body is entered, any other gives its value. It is lent the arrays of the stack, of the calls and of the numbers.
 pub fn enter(
-    cells: &mut [u32; 64],
-    places: &mut [u32; 16],
-    wides: &mut [bool; 16],
-    bases: &mut [usize; 16],
-    names: &[u32; 256],
-    kinds: &[u8; 256],
-    values: &[u32; 256],
-    ways: &[bool; 256],
-    slots: &[u16; 2048],
+    cells: &mut [u32; DATA_MOST],
+    places: &mut [u32; FRAMES_MOST],
+    wides: &mut [bool; FRAMES_MOST],
+    bases: &mut [usize; FRAMES_MOST],
+    names: &[u32; NUMBERS_MOST],
+    kinds: &[u8; NUMBERS_MOST],
+    values: &[u32; NUMBERS_MOST],
+    ways: &[bool; NUMBERS_MOST],
+    slots: &[u16; PROGRAMS_MOST],
     core: Core,
     number: u32,
     next: u32,
 ) -> Handed
-    requires { ⌜ (core .height ≤ 64) × (core .held ≤ 256) × Slotted (now slots) (now names) (core .held) ⌝ }
+    requires { ⌜ (core .height ≤ dataMost) × (core .held ≤ numbersMost) × Slotted (now slots) (now names) (core .held) ⌝ }
     ensures { λ r. ⌜ Enters number (now (cells .entry)) (now (places .entry)) (now (wides .entry)) (now (bases .entry))
         (now (names .entry)) (now (kinds .entry)) (now (values .entry)) (now (ways .entry)) core next r
         (now (cells .exit)) (now (places .exit)) (now (wides .exit)) (now (bases .exit)) ⌝ }

@@ -3,14 +3,17 @@ ghost use mathlib.Core.Path.{_≡_};
 ghost use mathlib.Core.Bool.{true, false};
 ghost use Prim.Native.Nat.{_≤_};
 ghost use lib.ListN.{length};
-ghost use Rattle.tree.specs.Apart.{Tallied, Puts};
+ghost use Rattle.tree.specs.Joints.Apart.{Tallied, Puts};
 ghost use Rattle.tree.specs.Property.{valueOf};
 ghost use Rattle.state.specs.Refusals.{titleOf};
-ghost use Rattle.acts.specs.Acts.{KeepsFrom, KeepsBy, Files, filedOf};
+ghost use Rattle.acts.specs.Joints.Acts.{KeepsFrom, KeepsBy, Files, filedOf};
+ghost use Rattle.rom.specs.Sizes.{dataMost};
 use crate::acted::Acted;
 use crate::acted::refuse;
 use crate::encode::bad_range;
 use memory::resolve;
+use rom::sizes::DATA_MOST;
+use rom::sizes::PROPERTIES_MOST;
 use state::Core;
 use state::Told;
 use state::pop;
@@ -47,15 +50,15 @@ pub fn put_named<'a>(
     rom: &'a [u8],
     work: &'a [u8],
     store: &mut [u8],
-    cells: &[u32; 64],
-    owners: &mut [u32; 128],
-    titles: &mut [u32; 128],
-    sizes: &mut [u32; 128],
+    cells: &[u32; DATA_MOST],
+    owners: &mut [u32; PROPERTIES_MOST],
+    titles: &mut [u32; PROPERTIES_MOST],
+    sizes: &mut [u32; PROPERTIES_MOST],
     core: Core,
     tail: Tail,
     next: u32,
 ) -> Acted
-    requires { ⌜ (core .height ≤ 64) × (core .length ≤ length (now rom))
+    requires { ⌜ (core .height ≤ dataMost) × (core .length ≤ length (now rom))
         × Tallied (now store) (now titles) (now sizes) (core .records) tail ⌝ }
     ensures { λ r. ⌜ Files (now (cells .entry)) (now (owners .entry)) (now (titles .entry)) (now (sizes .entry)) core r
         (now (owners .exit)) (now (titles .exit)) (now (sizes .exit)) (now (store .exit))
@@ -94,9 +97,9 @@ pub fn put_named<'a>(
 // The property that a title token writes, with a null. It is lent the store and the arrays of the records.
 fn put_title(
     store: &mut [u8],
-    owners: &mut [u32; 128],
-    titles: &mut [u32; 128],
-    sizes: &mut [u32; 128],
+    owners: &mut [u32; PROPERTIES_MOST],
+    titles: &mut [u32; PROPERTIES_MOST],
+    sizes: &mut [u32; PROPERTIES_MOST],
     records: usize,
     tail: Tail,
     active: u32,
@@ -153,16 +156,16 @@ pub fn put_titled<'a>(
     rom: &'a [u8],
     work: &'a [u8],
     store: &mut [u8],
-    cells: &[u32; 64],
-    owners: &mut [u32; 128],
-    titles: &mut [u32; 128],
-    sizes: &mut [u32; 128],
+    cells: &[u32; DATA_MOST],
+    owners: &mut [u32; PROPERTIES_MOST],
+    titles: &mut [u32; PROPERTIES_MOST],
+    sizes: &mut [u32; PROPERTIES_MOST],
     core: Core,
     tail: Tail,
     number: u32,
     next: u32,
 ) -> Acted
-    requires { ⌜ (core .height ≤ 64) × (core .length ≤ length (now rom))
+    requires { ⌜ (core .height ≤ dataMost) × (core .length ≤ length (now rom))
         × Tallied (now store) (now titles) (now sizes) (core .records) tail ⌝ }
     ensures { λ r. ⌜ Files (now (cells .entry)) (now (owners .entry)) (now (titles .entry)) (now (sizes .entry)) core r
         (now (owners .exit)) (now (titles .exit)) (now (sizes .exit)) (now (store .exit))

@@ -4,9 +4,14 @@ ghost use mathlib.Core.Path.{_≡_};
 ghost use Prim.Native.Nat.{_≤_, _<_, _+_};
 ghost use lib.ListN.{replicate};
 ghost use mathlib.Core.List.{List};
-ghost use Rattle.state.specs.Numbers.{kindOfByte, putKind};
-ghost use Rattle.acts.specs.Acts.{Tables, Tabled, slotIn};
+ghost use Rattle.state.specs.Numbers.{kindOfByte};
+ghost use Rattle.acts.specs.Joints.Acts.{Tables, Tabled, slotIn};
+ghost use Rattle.state.specs.Laws.Seeking.{putKind};
+ghost use Rattle.rom.specs.Sizes.{numbersMost};
+ghost use Rattle.tokens.specs.Table.{programsMost};
+use rom::sizes::NUMBERS_MOST;
 use tokens::is_program;
+use tokens::programs::PROGRAMS_MOST;
 
 fn wide(x: u16) -> usize
     ensures { λ r. ⌜ r ≡ x ⌝ }
@@ -26,7 +31,7 @@ fn known_kind(kind: u8) -> u8
 }
 
 // The kind of a number put down, if it is a program's.
-fn put_kind(known: &mut [u8; 2048], number: u32, kind: u8)
+fn put_kind(known: &mut [u8; PROGRAMS_MOST], number: u32, kind: u8)
     ensures { λ r. ⌜ now (known .exit) ≡ putKind (now (known .entry)) number kind ⌝ }
 {
     if is_program(number) {
@@ -36,8 +41,8 @@ fn put_kind(known: &mut [u8; 2048], number: u32, kind: u8)
 }
 
 // One more than where a number stands, so that 0 says that it is not held.
-fn put_slot(slots: &mut [u16; 2048], number: u32, at: usize)
-    requires { ⌜ at < 256 ⌝ }
+fn put_slot(slots: &mut [u16; PROGRAMS_MOST], number: u32, at: usize)
+    requires { ⌜ at < numbersMost ⌝ }
     ensures { λ r. ⌜ now (slots .exit) ≡ putKind (now (slots .entry)) number (at + 1) ⌝ }
 {
     if is_program(number) {
@@ -47,8 +52,14 @@ fn put_slot(slots: &mut [u16; 2048], number: u32, at: usize)
 }
 
 // A number that stands at a place among those that are held, put down in both tables.
-pub fn note(slots: &mut [u16; 2048], known: &mut [u8; 2048], number: u32, kind: u8, at: usize)
-    requires { ⌜ at < 256 ⌝ }
+pub fn note(
+    slots: &mut [u16; PROGRAMS_MOST],
+    known: &mut [u8; PROGRAMS_MOST],
+    number: u32,
+    kind: u8,
+    at: usize,
+)
+    requires { ⌜ at < numbersMost ⌝ }
     ensures { λ r. ⌜ (now (slots .exit) ≡ putKind (now (slots .entry)) number (at + 1))
         × (now (known .exit) ≡ putKind (now (known .entry)) number (kindOfByte kind)) ⌝ }
 {
@@ -58,13 +69,13 @@ pub fn note(slots: &mut [u16; 2048], known: &mut [u8; 2048], number: u32, kind: 
 
 // Both tables, which are all zero, filled. The youngest is put down first, so that of a number that is held twice the oldest counts.
 pub fn fill_tables(
-    slots: &mut [u16; 2048],
-    known: &mut [u8; 2048],
-    names: &[u32; 256],
-    kinds: &[u8; 256],
+    slots: &mut [u16; PROGRAMS_MOST],
+    known: &mut [u8; PROGRAMS_MOST],
+    names: &[u32; NUMBERS_MOST],
+    kinds: &[u8; NUMBERS_MOST],
     held: usize,
 )
-    requires { ⌜ (held ≤ 256) × (now slots ≡ replicate 2048 0) × (now known ≡ replicate 2048 0) ⌝ }
+    requires { ⌜ (held ≤ numbersMost) × (now slots ≡ replicate programsMost 0) × (now known ≡ replicate programsMost 0) ⌝ }
     ensures { λ r. ⌜ Tables (now (slots .exit)) (now (known .exit)) (now (names .entry)) (now (kinds .entry)) held ⌝ }
 {
     let mut i = held;
@@ -75,7 +86,7 @@ pub fn fill_tables(
 }
 
 // One more than where a number stands, and 0 where it is not held.
-pub fn slot_of(slots: &[u16; 2048], number: u32) -> usize
+pub fn slot_of(slots: &[u16; PROGRAMS_MOST], number: u32) -> usize
     ensures { λ r. ⌜ r ≡ slotIn (now (slots .entry)) number ⌝ }
 {
     if is_program(number) {

@@ -1,6 +1,7 @@
 // Runs the header test and the decoder over ROMs in hex on standard input, a line each. Behind H a ROM's header is tested; F and G
 // first fill the ROM up with its last byte, to 16,384 bytes and to one more; behind T the token at each place of its program is shown too,
 // in both offset widths, and the body that would be read from there.
+use given::bytes_from;
 use libc::STDIN_FILENO;
 use libc::STDOUT_FILENO;
 use rom::Aim;
@@ -142,42 +143,6 @@ fn show_rom(rom: &[u8], whole: bool) {
             show_places(rom);
         }
     }
-}
-
-// A hexadecimal digit's value, and 16 for any other character.
-fn value(c: u8) -> u8
-    ensures { λ r. ⌜ r ≤ 16 ⌝ }
-{
-    match c {
-        0x30..=0x39 => c - 0x30,
-        0x41..=0x46 => c - 0x41 + 10,
-        _ => 16,
-    }
-}
-
-// Puts the bytes that stand in hex from a place on at the start of a ROM, up to the first that is none, and tells how many there are.
-fn bytes_from(text: &[u8], from: usize, rom: &mut [u8]) -> usize
-    requires { ⌜ (from < 2 ^ 32) × (length (now rom) < 2 ^ 32) ⌝ }
-    ensures { λ r. ⌜ Counts r (now (rom .exit)) ⌝ }
-{
-    let mut n = 0;
-    while n < rom.len() {
-        let at = from + n + n;
-        if text.len() <= at + 1 {
-            return n;
-        }
-        let high = value(text[at]);
-        let low = value(text[at + 1]);
-        if 16 <= high {
-            return n;
-        }
-        if 16 <= low {
-            return n;
-        }
-        rom[n] = high * 16 + low;
-        n += 1;
-    }
-    n
 }
 
 // How long a ROM is made, by the letter of its line.

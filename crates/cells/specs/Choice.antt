@@ -1,7 +1,7 @@
--- A choice by a test, and a table looked up by a number: the two forms that the definitions of every crate are made of.
--- Assumes nothing.
+-- A choice by a test, a table looked up by a number, and a number sought in a list: the forms that the definitions of every crate are
+-- made of. Assumes nothing.
 use Prim.Native.Nat.{ℕ}
-use mathlib.Core.Bool.{Bool, true, false}
+use mathlib.Core.Bool.{Bool, true, false, _||_}
 use mathlib.Core.List.{List, [], _∷_}
 use lib.Dec.{eqb}
 
@@ -14,3 +14,8 @@ pick false a b = b
 abbrev pub find {ℓ} : {A : Type ℓ} → List (ℕ × A) → A → ℕ → A
 find [] d n = d
 find (x ∷ xs) d n = pick (eqb n (x .0)) (x .1) (find xs d n)
+
+-- whether a number is one of these
+abbrev pub among : ℕ → List ℕ → Bool
+among n [] = false
+among n (k ∷ ks) = eqb n k || among n ks

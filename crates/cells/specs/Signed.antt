@@ -2,7 +2,6 @@
 -- go by these. Assumes nothing.
 use Prim.Native.Nat.{ℕ, _-_, _%_, _^_}
 use mathlib.Core.Bool.{Bool, true, false, not}
-use mathlib.Core.Path.{_≡_, refl}
 use lib.IntN.{ℤ, pos, negsuc}
 use lib.Signed.{nonNeg}
 use lib.Dec.{ltb}
@@ -29,16 +28,3 @@ flag false = 0
 -- the sign of a cell
 abbrev pub negative : ℕ → Bool
 negative a = not (nonNeg (signed a))
-
--- the ends of the range
-ends-of-32 : _≡_ {A = ℤ × ℤ × ℤ × ℤ} (signed 0, signed 0x7FFF_FFFF, signed 0x8000_0000, signed 0xFFFF_FFFF) (pos 0, pos 2147483647, negsuc 2147483647, negsuc 0)
-ends-of-32 = refl
-
-ends-of-8 : _≡_ {A = ℤ × ℤ × ℤ} (signedIn 8 127, signedIn 8 128, signedIn 8 255) (pos 127, negsuc 127, negsuc 0)
-ends-of-8 = refl
-
-ends-of-16 : _≡_ {A = ℤ × ℤ × ℤ} (signedIn 16 0x7FFF, signedIn 16 0x8000, signedIn 16 0xFFFF) (pos 32767, negsuc 32767, negsuc 0)
-ends-of-16 = refl
-
-wraps : _≡_ {A = ℕ × ℕ × ℕ} (cell (negsuc 0), cell (pos 4294967296), cell (negsuc 4294967295)) (0xFFFF_FFFF, 0, 0)
-wraps = refl

@@ -7,7 +7,7 @@ ghost use Rattle.cells.specs.Comparison.{zeroEqualOf, zeroUnequalOf, zer
 ghost use Rattle.cells.specs.Comparison.{zeroGreaterOf, zeroAtLeastOf, lessOf, greaterOf, equalOf};
 ghost use Rattle.cells.specs.Comparison.{unequalOf, uGreaterOf, uAtMostOf, uLessOf, uAtLeastOf};
 ghost use Rattle.cells.specs.Comparison.{atLeastOf, atMostOf, betweenOf, withinOf};
-ghost use Rattle.cells.specs.Laws.{rankOf};
+ghost use Rattle.cells.specs.Laws.Cells.{rankOf};
 
 // The cell with its highest bit turned: signed cells stand in the order of their ranks.
 fn rank(a: u32) -> u32

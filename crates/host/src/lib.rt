@@ -1,10 +1,9 @@
-// What a C program calls: numbers and byte slices, nothing else. include/fcode.h declares it. A slice is a pointer and a count of bytes in C. Every call is
-// total; a null pointer is fine where the count is 0.
+// What a C program calls: numbers and byte slices, nothing else. include/fcode.h declares it. A slice is a pointer and a count of
+// bytes in C. Every call is total; a null pointer is fine where the count is 0.
 ghost use mathlib.Core.Path.{_≡_};
 ghost use Rattle.rom.specs.Header.{headerOf};
-ghost use Rattle.screen.specs.Screen.{screenedOf, numberOf};
-ghost use Rattle.listing.specs.Listing.{listed, listOf};
-ghost use Rattle.host.specs.Host.{hostRun, hostRunOf};
+ghost use Rattle.listing.specs.Listing.{listedWith, Lists};
+ghost use Rattle.host.specs.Host.{HostScreened, hostRun, hostRunOf};
 use listing::list;
 use machine::run;
 use rom::check_header;
@@ -24,8 +23,7 @@ pub extern "C" fn fcode_check(rom: &[u8]) -> u32
 // The screen: 0 for a ROM that passes, with its marks; else 6, 1 to 5, or 31.
 #[no_mangle]
 pub extern "C" fn fcode_screen(rom: &[u8], marks: &mut [u8]) -> u32
-    ensures { λ r. ⌜ (r ≡ numberOf (screenedOf (now (rom .entry)) (now (marks .entry)) .verdict))
-        × (now (marks .exit) ≡ screenedOf (now (rom .entry)) (now (marks .entry)) .marks) ⌝ }
+    ensures { λ r. ⌜ HostScreened (now (rom .entry)) (now (marks .entry)) r (now (marks .exit)) ⌝ }
 {
     match screen(rom, marks) {
         Verdict::Passes => 0,
@@ -33,7 +31,8 @@ pub extern "C" fn fcode_screen(rom: &[u8], marks: &mut [u8]) -> u32
     }
 }
 
-// Opens the ROM and runs it, screened or not: 0 finished, 28 for a spent budget, else the refusal. `steps` is the count of tokens carried out.
+// Opens the ROM and runs it, screened or not: 0 finished, 28 for a spent budget, else the refusal. `steps` is the count of tokens
+// carried out.
 #[no_mangle]
 pub extern "C" fn fcode_run(
     rom: &[u8],
@@ -69,8 +68,8 @@ pub extern "C" fn fcode_list(
     budget: u32,
     text: &mut [u8],
 ) -> usize
-    ensures { λ r. ⌜ listed r (now (marks .exit)) (now (work .exit)) (now (store .exit)) (now (text .exit))
-        ≡ listOf (now (rom .entry)) (now (marks .entry)) (now (work .entry)) (now (store .entry)) budget (now (text .entry)) ⌝ }
+    ensures { λ r. ⌜ Lists (now (rom .entry)) (now (marks .entry)) (now (work .entry)) (now (store .entry)) budget (now (text .entry))
+        (listedWith r (now (marks .exit)) (now (work .exit)) (now (store .exit)) (now (text .exit))) ⌝ }
 {
     list(rom, marks, work, store, budget, text)
 }

@@ -1,2 +1,4 @@
+-- A budget as a person writes it.
 pub mod Budget
-pub mod BudgetLaws
+-- What is only proved: nothing here has to be believed.
+pub mod Laws

@@ -1,5 +1,6 @@
-// The program behind ./lamp. Its first word says what is asked: list FILE BUDGET, tokens FILE, explain FILE BUDGET, scan text|csv BUDGET, numbers. A FILE of
-// a dash is standard input. Lines go to standard output, what is wrong to standard error, and the exit status, one digit, to descriptor 3.
+// The program behind ./lamp. Its first word says what is asked: list FILE BUDGET, tokens FILE, explain FILE BUDGET, scan text|csv BUDGET,
+// numbers. A FILE of a dash is standard input. Lines go to standard output, what is wrong to standard error, and the exit status, one
+// digit, to descriptor 3.
 mod budget;
 mod dump;
 mod judge;

@@ -1,11 +1,11 @@
-// What the program prints: lines that were written into a text, a sentence on standard error, and the exit status, which goes to a descriptor of its own
-// since a program returns none.
+// What the program prints: lines that were written into a text, a sentence on standard error, and the exit status, which goes to a
+// descriptor of its own since a program returns none.
 ghost use Rattle.io.specs.Counts.{Counts};
 use libc::STDERR_FILENO;
 use libc::STDOUT_FILENO;
 
-// The exit statuses, as the digits that are said: all is well; a ROM was refused; something could not be read, or was asked wrongly; the worst is a spent
-// budget.
+// The exit statuses, as the digits that are said: all is well; a ROM was refused; something could not be read, or was asked wrongly; the
+// worst is a spent budget.
 pub const WELL: u8 = b'0';
 
 pub const REFUSED: u8 = b'1';

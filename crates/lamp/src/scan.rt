@@ -1,5 +1,5 @@
-// Many dumps, a line for each, and how many of each kind there were. Their names come by a descriptor of their own, each with a null behind it, so that any
-// number of them goes.
+// Many dumps, a line for each, and how many of each kind there were. Their names come by a descriptor of their own, each with a null behind
+// it, so that any number of them goes.
 use crate::dump::SPACE;
 use crate::dump::read_dump;
 use crate::judge::Ended;

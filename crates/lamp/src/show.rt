@@ -1,5 +1,5 @@
-// One ROM, shown: its listing, its tokens, or all that a person may want to know of it. Each gives the exit status. Lines go into a text that is printed
-// whenever the next line may have no room behind them.
+// One ROM, shown: its listing, its tokens, or all that a person may want to know of it. Each gives the exit status. Lines go into a text
+// that is printed whenever the next line may have no room behind them.
 use crate::dump::SPACE;
 use crate::dump::read_dump;
 use crate::judge::Ended;
@@ -33,8 +33,11 @@ use rom::wide_start;
 use tree::Tree;
 use tree::same_bytes;
 
-// Where a text is printed before it goes on: a line of the token list has at most 2,048 bytes.
-const FULL: usize = TEXT_SIZE - 2048;
+// No line of the token list is longer (`line-short`, lines/specs/Laws/Tokens.antt).
+const LINE_MOST: usize = 1024;
+
+// Behind this a text is printed before it goes on, so that each line has room.
+const FULL: usize = TEXT_SIZE - LINE_MOST;
 
 // The status of a number: a spent budget is no fault of the ROM.
 pub fn status_of(number: u32) -> u8 {

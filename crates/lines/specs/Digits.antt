@@ -1,5 +1,5 @@
--- Numbers in the listing: counts and numbers in decimal, "steps 7", and the bytes of a value as two upper-case hexadecimal digits each, "00000003".
--- Assumes nothing.
+-- Numbers in the listing: counts and numbers in decimal, "steps 7", and the bytes of a value as two upper-case hexadecimal digits each,
+-- "00000003". Assumes nothing.
 use Prim.Native.Nat.{ℕ, zero, suc, _+_, _/_, _%_}
 use mathlib.Core.Bool.{true, false}
 use mathlib.Core.List.{List, [], _∷_, _++_}

@@ -1,5 +1,5 @@
--- What explain says of a ROM, line by line, for people: the header's fields, the tree with paths and with values as they are read. Document 01 leaves the
--- lines open. Assumes nothing.
+-- What explain says of a ROM, line by line, for people: the header's fields, the tree with paths and with values as they are read. Document
+-- 01 leaves the lines open. Assumes nothing.
 use Prim.Native.Nat.{ℕ, zero, suc}
 use mathlib.Core.Bool.{Bool, true, false, not, _&&_, _||_}
 use mathlib.Core.List.{List, [], _∷_, _++_}
@@ -19,7 +19,7 @@ use Rattle.lines.specs.Digits.{decimalOf, hexPair, hexWord}
 use Rattle.lines.specs.Printed.{textOf, isText}
 use Rattle.tokens.specs.Reader.{endOf}
 use Rattle.lines.specs.Lines.{lineEnd, ownLines}
-use Rattle.lines.specs.TokenLines.{placeOf, lineText, rawLine, pieceText}
+use Rattle.lines.specs.TokenLines.{placeText, lineText, rawLine, pieceText}
 use Rattle.lines.specs.Tally.{tallyOf}
 use Rattle.lines.specs.Verdicts.{verdictOf}
 use Rattle.lines.specs.declared.tally.Tally.{Tally}
@@ -41,7 +41,8 @@ formatLine rom = lettersOf "format: " ++ (hexPair (byteOf rom 1) ++ lineEnd)
 unfoldable pub lengthLine : List ℕ → List ℕ
 lengthLine rom = lettersOf "length: " ++ (decimalOf (lengthOf rom) ++ lineEnd)
 
--- "checksum: 0517, as the program's bytes add up"; both sums where they differ. Where the length is bad nothing says which bytes are the program's
+-- "checksum: 0517, as the program's bytes add up"; both sums where they differ. Where the length is bad nothing says which bytes are the
+-- program's
 abbrev pub badLength : List ℕ → Bool
 badLength rom = ltb (lengthOf rom) 9 || ltb (length rom) (lengthOf rom)
 
@@ -69,13 +70,13 @@ fieldLines rom = startLine rom ++ (formatLine rom ++ (lengthLine rom ++ sumLine 
 unfoldable pub headerLines : List ℕ → List ℕ
 headerLines rom = pick (ltb romMost (length rom)) overLine (sizeLine (length rom) ++ pick (ltb (length rom) romLeast) [] (fieldLines rom))
 
--- ---- the tree: a node's path, and under it its properties
--- a node is called by its "name" where that is text of 1 to 31 letters, as the standard has a node's name; another by its number, "(node 3)"
+-- ---- the tree: a node's path, and under it its properties a node is called by its "name" where that is text of 1 to 31 letters, as the
+-- standard has a node's name; another by its number, "(node 3)"
 abbrev pub isTitle : List ℕ → Bool
 isTitle value = leb 2 (length value) && (leb (length value) 32 && isText value)
 
-unfoldable pub titleOf : Tree → List ℕ → ℕ → List ℕ
-titleOf t store k =
+unfoldable pub titleShown : Tree → List ℕ → ℕ → List ℕ
+titleShown t store k =
     pick (isTitle (ownValueOf t store k (lettersOf "name"))) (textOf (ownValueOf t store k (lettersOf "name")))
     (lettersOf "(node " ++ (decimalOf k ++ lettersOf ")"))
 
@@ -83,7 +84,7 @@ titleOf t store k =
 unfoldable pub pathTo : Tree → List ℕ → ℕ → ℕ → List ℕ
 pathTo t store zero k = []
 pathTo t store (suc n) k =
-    elim (eqb k 0) [ true ↦ [] | false ↦ pathTo t store n (parentOf t k) ++ (lettersOf "/" ++ titleOf t store k) ]
+    elim (eqb k 0) [ true ↦ [] | false ↦ pathTo t store n (parentOf t k) ++ (lettersOf "/" ++ titleShown t store k) ]
 
 -- "/scale/hopper"; the root is "/"
 unfoldable pub pathLine : Tree → List ℕ → ℕ → List ℕ
@@ -113,7 +114,7 @@ programLines rom = pick (ltb romMost (length rom)) [] (tallyLines rom (tallyOf r
 
 -- ---- where a run ended: the token that was refused, or the one that is next where the budget is spent
 unfoldable pub endLine : List ℕ → ℕ → List ℕ
-endLine rom p = pick (leb (endOf rom) p) (placeOf p ++ (lettersOf " the program's end" ++ lineEnd)) []
+endLine rom p = pick (leb (endOf rom) p) (placeText p ++ (lettersOf " the program's end" ++ lineEnd)) []
 
 unfoldable pub atLine : List ℕ → Bool → ℕ → List ℕ
 atLine rom wide p = lettersOf "at: " ++ (endLine rom p ++ pieceText rom wide p)
@@ -132,6 +133,7 @@ verdictLine number = lettersOf "verdict: " ++ (verdictOf number ++ lineEnd)
 abbrev pub treeLine : List ℕ
 treeLine = lettersOf "tree:" ++ lineEnd
 
--- before the run of a ROM that the screen refused: any ROM may be run, and where it ends tells its maker more than that no heights can be assigned
+-- before the run of a ROM that the screen refused: any ROM may be run, and where it ends tells its maker more than that no heights can be
+-- assigned
 abbrev pub anywayLine : List ℕ
 anywayLine = lettersOf "It does not pass, and is run all the same to show where it leads:" ++ lineEnd

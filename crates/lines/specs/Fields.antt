@@ -16,18 +16,18 @@ eachAs f (b ∷ bs) = f b ++ eachAs f bs
 abbrev pub plainByte : ℕ → ℕ
 plainByte b = pick (ltb b 0x20 || eqb b 0x7F) 0x3F b
 
-abbrev pub plain : List ℕ → List ℕ
-plain bs = eachAs (λ b. plainByte b ∷ []) bs
+abbrev pub plainField : List ℕ → List ℕ
+plainField bs = eachAs (λ b. plainByte b ∷ []) bs
 
 -- a field of a CSV row: bytes in double quotes, each double quote among them doubled
 abbrev pub doubledByte : ℕ → List ℕ
 doubledByte b = pick (eqb b 0x22) (0x22 ∷ 0x22 ∷ []) (b ∷ [])
 
-abbrev pub doubled : List ℕ → List ℕ
-doubled bs = eachAs doubledByte bs
+abbrev pub quotesDoubled : List ℕ → List ℕ
+quotesDoubled bs = eachAs doubledByte bs
 
 unfoldable pub field : List ℕ → List ℕ
-field bs = lettersOf "\"" ++ (doubled bs ++ lettersOf "\"")
+field bs = lettersOf "\"" ++ (quotesDoubled bs ++ lettersOf "\"")
 
 -- that of a value: its text, or nothing within the quotes where it is no text
 abbrev pub textField : List ℕ → List ℕ

@@ -1,6 +1,6 @@
--- The listing's lines, each with its line end, as document 01 prints them for the scale board: a node with its parent, under it its properties in
--- store order, the steps, and "done" or "refused" with its number. "A refused run ends with "refused" and its number in place of "done"; an empty
--- value leaves the name alone on its line". Assumes nothing.
+-- The listing's lines, each with its line end, as document 01 prints them for the scale board: a node with its parent, under it its
+-- properties in store order, the steps, and "done" or "refused" with its number. "A refused run ends with "refused" and its number in place
+-- of "done"; an empty value leaves the name alone on its line". Assumes nothing.
 use Prim.Native.Nat.{ℕ, zero, suc, _+_}
 use mathlib.Core.Bool.{Bool, true, false}
 use mathlib.Core.List.{List, [], _∷_, _++_}
@@ -31,8 +31,8 @@ shown (b ∷ bs) = 0x20 ∷ hexOf (b ∷ bs)
 unfoldable pub propertyLine : List ℕ → List ℕ → List ℕ
 propertyLine name value = name ++ (shown value ++ lineEnd)
 
--- the same for people, below a path: "  lanes 3 = 00000003". The value as text where it is that, as a number where it has four bytes, and in
--- hexadecimal always; an empty value shows nothing
+-- the same for people, below a path: "  lanes 3 = 00000003". The value as text where it is that, as a number where it has four bytes, and
+-- in hexadecimal always; an empty value shows nothing
 abbrev pub numberRead : List ℕ → List ℕ
 numberRead value = pick (eqb (length value) 4) (0x20 ∷ decimalOf (word32Of value 0)) []
 

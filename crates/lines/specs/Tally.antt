@@ -1,5 +1,5 @@
--- How many pieces a program has, how many of them are no token of the list, and where the first of these stands. Document 01 leaves such a count open.
--- Assumes nothing.
+-- How many pieces a program has, how many of them are no token of the list, and where the first of these stands. Document 01 leaves such a
+-- count open. Assumes nothing.
 use Prim.Native.Nat.{ℕ, _+_}
 use mathlib.Core.List.{List, [], _∷_}
 use lib.Dec.{eqb}

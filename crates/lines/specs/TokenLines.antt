@@ -1,7 +1,7 @@
--- The token list of a ROM, a line for each piece of its program in the order of places. A token of the list: its place, its number, its name, its
--- operand in parts, and a remark for a person to read, `0008 12 b(") 05 7363616C65 "scale"`. Bytes that no token of the list covers: their place and
--- they themselves, "001C raw 01FE". All but the names and the remarks are upper-case hexadecimal digits. Document 01 leaves the lines open.
--- Assumes nothing.
+-- The token list of a ROM, a line for each piece of its program in the order of places. A token of the list: its place, its number, its
+-- name, its operand in parts, and a remark for a person to read, `0008 12 b(") 05 7363616C65 "scale"`. Bytes that no token of the list
+-- covers: their place and they themselves, "001C raw 01FE". All but the names and the remarks are upper-case hexadecimal digits. Document
+-- 01 leaves the lines open. Assumes nothing.
 use Prim.Native.Nat.{ℕ, zero, suc, _+_, _-_, _/_, _%_}
 use mathlib.Core.Bool.{Bool, _||_}
 use mathlib.Core.List.{List, [], _∷_, _++_}
@@ -35,11 +35,11 @@ abbrev pub between : List ℕ → ℕ → ℕ → List ℕ
 between rom from to = partOf rom from (to - from)
 
 -- a place in four digits, its lowest two bytes: a ROM has at most 16,384 bytes
-unfoldable pub placeOf : ℕ → List ℕ
-placeOf p = hexOf (p / 256 % 256 ∷ p % 256 ∷ [])
+unfoldable pub placeText : ℕ → List ℕ
+placeText p = hexOf (p / 256 % 256 ∷ p % 256 ∷ [])
 
--- where the parts of an operand meet that starts at a place and ends at another: a string's length byte and its bytes; a number and the kind behind it; or
--- a string, a number and a kind. Any other operand is one part
+-- where the parts of an operand meet that starts at a place and ends at another: a string's length byte and its bytes; a number and the
+-- kind behind it; or a string, a number and a kind. Any other operand is one part
 abbrev pub cuts : ℕ → ℕ → ℕ → Cuts
 cuts a b c = record { first = a; second = b; third = c }
 
@@ -51,7 +51,8 @@ cutsOf rom start next form =
 
 abbrev pub partsAt : List ℕ → ℕ → Cuts → ℕ → List (List ℕ)
 partsAt rom start c next =
-    between rom start (c .first) ∷ between rom (c .first) (c .second) ∷ between rom (c .second) (c .third) ∷ between rom (c .third) next ∷ []
+    between rom start (c .first) ∷ between rom (c .first) (c .second) ∷ between rom (c .second) (c .third) ∷ between rom
+    (c .third) next ∷ []
 
 -- those of a token whose operand starts at a place
 abbrev pub tokenCuts : List ℕ → ℕ → Token → Cuts
@@ -69,7 +70,7 @@ allShown (x ∷ xs) = shown x ++ allShown xs
 -- ---- the remarks, each of them empty or behind a space
 -- where a branch leads
 abbrev pub aimRemark : Aim → List ℕ
-aimRemark (Inside to) = lettersOf " to " ++ placeOf to
+aimRemark (Inside to) = lettersOf " to " ++ placeText to
 aimRemark Outside = lettersOf " to no place of the program"
 
 abbrev pub branchRemark : Operand → List ℕ
@@ -88,8 +89,8 @@ stringRemark rom c form = pick (eqb form string || eqb form namedHead) (quoted (
 abbrev pub tokenRemark : List ℕ → ℕ → Token → List ℕ
 tokenRemark rom start t = branchRemark (t .operand) ++ stringRemark rom (tokenCuts rom start t) (formIn (t .code))
 
--- of what is not in the list it is not known how far an operand reaches, so that the lines behind it may show bytes of one as tokens; at the end
--- there are none
+-- of what is not in the list it is not known how far an operand reaches, so that the lines behind it may show bytes of one as tokens; at
+-- the end there are none
 abbrev pub rawRemark : List ℕ → ℕ → List ℕ
 rawRemark rom next = pick (ltb next (endOf rom)) (lettersOf " (no token of the list: the next lines may be its operand)") []
 
@@ -105,14 +106,14 @@ pub record Line : Type 0 where
 -- what is written of it, and the bytes that its parts show, one part behind the other
 unfoldable pub lineText : Line → List ℕ
 lineText l =
-    placeOf (l .place) ++ (allShown (l .number) ++ (lettersOf " " ++ (l .word ++ ((allShown (l .rest) ++ l .remark) ++ lineEnd))))
+    placeText (l .place) ++ (allShown (l .number) ++ (lettersOf " " ++ (l .word ++ ((allShown (l .rest) ++ l .remark) ++ lineEnd))))
 
-unfoldable pub joined : List (List ℕ) → List ℕ
-joined [] = []
-joined (x ∷ xs) = x ++ joined xs
+unfoldable pub partsJoined : List (List ℕ) → List ℕ
+partsJoined [] = []
+partsJoined (x ∷ xs) = x ++ partsJoined xs
 
 abbrev pub lineBytes : Line → List ℕ
-lineBytes l = joined (l .number) ++ joined (l .rest)
+lineBytes l = partsJoined (l .number) ++ partsJoined (l .rest)
 
 -- bytes that no token of the list covers
 abbrev pub rawLine : List ℕ → ℕ → ℕ → Line

@@ -7,7 +7,7 @@ use lib.Dec.{eqb}
 use Rattle.cells.specs.Choice.{pick}
 use Rattle.rom.specs.Words.{lettersOf}
 use Rattle.lines.specs.Digits.{decimalOf}
-use Rattle.lines.specs.Fields.{plain, field, textField, labelled}
+use Rattle.lines.specs.Fields.{plainField, field, textField, labelled}
 use Rattle.lines.specs.Lines.{lineEnd}
 use Rattle.lines.specs.Numbers.{hasWords, wordsOf}
 use Rattle.lines.specs.declared.verdicts.Dump.{Dump}
@@ -28,14 +28,14 @@ stepsPart ran steps = pick ran (lettersOf ", steps " ++ decimalOf steps) []
 -- a dump's line, `scale.bin: passes, steps 7, name "scale", model "X"`: of the properties "name" and "model" those that are text
 unfoldable pub scanLine : List ℕ → Dump → List ℕ → List ℕ → List ℕ
 scanLine file d name model =
-    plain file ++
+    plainField file ++
     (lettersOf ": " ++
     (verdictOf (d .number) ++
     (stepsPart (d .ran) (d .steps) ++ (labelled (lettersOf "name") name ++ (labelled (lettersOf "model") model ++ lineEnd)))))
 
 -- the line of a file that could not be read
 unfoldable pub lostLine : List ℕ → List ℕ
-lostLine file = plain file ++ lettersOf ": unreadable\n"
+lostLine file = plainField file ++ lettersOf ": unreadable\n"
 
 -- ---- the same as rows of CSV, the first of which names the fields
 abbrev pub csvHead : List ℕ
@@ -65,13 +65,13 @@ unfoldable pub lostCsv : List ℕ → List ℕ
 lostCsv file = field file ++ lettersOf ",unreadable,,\"\",,\"\",\"\"\n"
 
 -- a number and the words behind it
-abbrev pub counted : ℕ → List ℕ → List ℕ
-counted n words = decimalOf n ++ words
+abbrev pub countWords : ℕ → List ℕ → List ℕ
+countWords n words = decimalOf n ++ words
 
 -- "8 dumps: 3 passed, 3 refused, 1 out of budget, 1 unreadable"
 unfoldable pub countLine : Counts → List ℕ
 countLine c =
-    counted (c .all) (lettersOf " dumps: ") ++
-    (counted (c .passed) (lettersOf " passed, ") ++
-    (counted (c .refused) (lettersOf " refused, ") ++
-    (counted (c .spent) (lettersOf " out of budget, ") ++ counted (c .lost) (lettersOf " unreadable\n"))))
+    countWords (c .all) (lettersOf " dumps: ") ++
+    (countWords (c .passed) (lettersOf " passed, ") ++
+    (countWords (c .refused) (lettersOf " refused, ") ++
+    (countWords (c .spent) (lettersOf " out of budget, ") ++ countWords (c .lost) (lettersOf " unreadable\n"))))

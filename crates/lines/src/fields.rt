@@ -1,6 +1,7 @@
 // Names and values as a line shows them, and as a field of a CSV row holds them.
 ghost use mathlib.Core.Path.{_≡_};
-ghost use Rattle.lines.specs.Fields.{plainByte, plain as Fields·plain, doubledByte, doubled as Fields·doubled, field as Fields·field};
+ghost use Rattle.lines.specs.Fields.{plainByte, plainField as Fields·plain, doubledByte, quotesDoubled as Fields·doubled};
+ghost use Rattle.lines.specs.Fields.{field as Fields·field};
 ghost use Rattle.lines.specs.Fields.{textField, labelled as Fields·labelled};
 ghost use Rattle.lines.specs.Wrote.{Wrote};
 use crate::printed::is_text;

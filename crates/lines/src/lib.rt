@@ -1,5 +1,5 @@
-// The lines of a listing, of a token list, of what explain says and of a scan of many dumps, written into a buffer that is lent for them. Every call is
-// total.
+// The lines of a listing, of a token list, of what explain says and of a scan of many dumps, written into a buffer that is lent for them.
+// Every call is total.
 mod digits;
 mod explain;
 mod fields;

@@ -6,9 +6,11 @@ ghost use lib.ListN.{length};
 ghost use mathlib.Core.List.{[]};
 ghost use Rattle.cells.specs.Choice.{pick};
 ghost use Rattle.tree.specs.Held.{heldOf, liveOf};
-ghost use Rattle.lines.specs.Lines.{shown as Lines·shown, nodeLine, propertyLine, lineFor, ownLines, nodeLines, stepsLine, refusedLine, closingLine};
+ghost use Rattle.lines.specs.Lines.{shown as Lines·shown, nodeLine, propertyLine, lineFor, ownLines, nodeLines, stepsLine};
+ghost use Rattle.lines.specs.Lines.{refusedLine, closingLine};
 ghost use Rattle.lines.specs.Lines.{numberRead, textRead, bytesRead, readLine};
 ghost use Rattle.lines.specs.Wrote.{Wrote};
+ghost use Rattle.rom.specs.Sizes.{nodesMost, propertiesMost};
 use crate::digits::decimal;
 use crate::digits::hex;
 use crate::printed::is_text;
@@ -127,15 +129,15 @@ pub fn own_lines(
     tree: Tree,
     node: u32,
 ) -> usize
-    requires { ⌜ (tree .held ≤ 128) × (liveOf tree ≤ length (now store)) ⌝ }
+    requires { ⌜ (tree .held ≤ propertiesMost) × (liveOf tree ≤ length (now store)) ⌝ }
     ensures { λ r. ⌜ Wrote (now (text .entry)) (now (text .exit)) at r (ownLines people (heldOf tree (now (store .entry))) node) ⌝ }
 {
     let mut end = at;
     let mut i = 0;
     let mut name = 0;
     while i < tree.held {
-        let value = name + wide(tree.names[i]);
-        let next = value + wide(tree.values[i]);
+        let value = name + wide(tree.name_sizes[i]);
+        let next = value + wide(tree.value_sizes[i]);
         end = own_line(
             text,
             end,
@@ -152,9 +154,10 @@ pub fn own_lines(
 }
 
 pub fn node_lines(text: &mut [u8], at: usize, store: &[u8], tree: Tree) -> usize
-    requires { ⌜ (tree .nodes ≤ 32) × (tree .held ≤ 128)
+    requires { ⌜ (tree .nodes ≤ nodesMost) × (tree .held ≤ propertiesMost)
         × (liveOf tree ≤ length (now store)) ⌝ }
-    ensures { λ r. ⌜ Wrote (now (text .entry)) (now (text .exit)) at r (nodeLines tree (heldOf tree (now (store .entry))) (tree .nodes) 0) ⌝ }
+    ensures { λ r. ⌜ Wrote (now (text .entry)) (now (text .exit)) at r
+        (nodeLines tree (heldOf tree (now (store .entry))) (tree .nodes) 0) ⌝ }
 {
     let mut end = at;
     let mut k = 0;

@@ -3,12 +3,14 @@ ghost use Prim.Native.Nat.{_<_, _≤_};
 ghost use mathlib.Core.Path.{_≡_};
 ghost use mathlib.Core.List.{_++_};
 ghost use lib.ListN.{length};
-ghost use Rattle.tokens.specs.Name.{nameOf, unpacked};
-ghost use Rattle.lines.specs.TokenLines.{placeOf, cutsOf, partsAt, operandParts, allShown};
+ghost use Rattle.tokens.specs.Name.{nameOf};
+ghost use Rattle.lines.specs.TokenLines.{placeText, cutsOf, partsAt, operandParts, allShown};
 ghost use Rattle.lines.specs.TokenLines.{aimRemark, branchRemark, stringRemark, tokenRemark, rawRemark};
 ghost use Rattle.lines.specs.TokenLines.{lineText, rawLine, tokenLine, pieceText, nextOf, wideBehind};
-ghost use Rattle.lines.specs.TokenLaws.{Ordered, OperandLies, TokenLies};
+ghost use Rattle.lines.specs.Laws.Tokens.{Ordered, OperandLies, TokenLies};
 ghost use Rattle.lines.specs.Wrote.{Wrote};
+ghost use Rattle.tokens.specs.Laws.Name.{unpacked};
+ghost use Rattle.rom.specs.Sizes.{romMost};
 use crate::digits::hex_byte;
 use crate::lines::shown;
 use crate::printed::quoted;
@@ -32,8 +34,8 @@ pub struct Cuts {
     pub third: usize,
 }
 
-// What `piece_line` hands back: the place behind the line in the text, the place of the next piece in the ROM, and the offset width in force
-// there.
+// What `piece_line` hands back: the place behind the line in the text, the place of the next piece in the ROM, and the offset width in
+// force there.
 pub struct PieceTold {
     pub end: usize,
     pub next: u32,
@@ -41,7 +43,7 @@ pub struct PieceTold {
 }
 
 pub fn place_digits(text: &mut [u8], at: usize, place: usize) -> usize
-    ensures { λ r. ⌜ Wrote (now (text .entry)) (now (text .exit)) at r (placeOf place) ⌝ }
+    ensures { λ r. ⌜ Wrote (now (text .entry)) (now (text .exit)) at r (placeText place) ⌝ }
 {
     let at = hex_byte(text, at, (place / 256 % 256) as u8);
     hex_byte(text, at, (place % 256) as u8)
@@ -65,10 +67,10 @@ fn name(text: &mut [u8], at: usize, number: u32) -> usize
     letters(text, at, name_rest(number))
 }
 
-// Where the parts meet of an operand from a place to another, by the form of the token: a string's length byte and its bytes, a number and its
-// kind, or all four.
+// Where the parts meet of an operand from a place to another, by the form of the token: a string's length byte and its bytes, a number and
+// its kind, or all four.
 fn cuts_of(rom: &[u8], start: usize, next: usize, form: u32) -> Cuts
-    requires { ⌜ (start ≤ 16384) × (0 < next) ⌝ }
+    requires { ⌜ (start ≤ romMost) × (0 < next) ⌝ }
     ensures { λ r. ⌜ r ≡ cutsOf (now (rom .entry)) start next form ⌝ }
 {
     match form {
@@ -201,9 +203,9 @@ fn token_line(text: &mut [u8], at: usize, rom: &[u8], place: u32, start: u32, to
     letter(text, at, b'\n')
 }
 
-// The line of the piece at a place of a ROM's program, with the offset width in force there, and where the next one starts. So a program is listed
-// a line at a time, from place 8 on until the place stays. At the program's end, and for more bytes than a ROM has, nothing is written, and place and
-// width are handed back as they came. The header is not tested, since its sum would then be taken for each line.
+// The line of the piece at a place of a ROM's program, with the offset width in force there, and where the next one starts. So a program is
+// listed a line at a time, from place 8 on until the place stays. At the program's end, and for more bytes than a ROM has, nothing is
+// written, and place and width are handed back as they came. The header is not tested, since its sum would then be taken for each line.
 pub fn piece_line(text: &mut [u8], at: usize, rom: &[u8], wide: bool, place: u32) -> PieceTold
     ensures { λ r. ⌜ Wrote (now (text .entry)) (now (text .exit)) at (r .end) (pieceText (now (rom .entry)) wide place)
         × (r .next ≡ nextOf (now (rom .entry)) wide place) × (r .wide ≡ wideBehind (now (rom .entry)) wide place) ⌝ }

@@ -24,8 +24,8 @@ pub fn refused_text(text: &mut [u8], number: u32) -> usize
     end
 }
 
-// The listing of a run that left this tree and store, carried out so many steps, and ended as the number says, 0 for a finish. A text or store of
-// the wrong size, or a damaged tree, leaves the text as it was, and its length is then 0.
+// The listing of a run that left this tree and store, carried out so many steps, and ended as the number says, 0 for a finish. A text or
+// store of the wrong size, or a damaged tree, leaves the text as it was, and its length is then 0.
 pub fn run_text(text: &mut [u8], store: &[u8], tree: Tree, steps: u32, number: u32) -> usize
     ensures { λ r. ⌜ told r (now (text .exit)) ≡ runTold (now (text .entry)) (now (store .entry)) tree steps number ⌝ }
 {

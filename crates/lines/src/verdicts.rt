@@ -3,7 +3,7 @@ ghost use Rattle.lines.specs.Fields.{field as Fields·field};
 ghost use Rattle.lines.specs.Numbers.{wordsOf};
 ghost use Rattle.lines.specs.Verdicts.{reasonOf, verdictOf, stepsPart, scanLine, lostLine};
 ghost use Rattle.lines.specs.Verdicts.{csvHead, bareVerdict, bareSteps, foundFields, scanCsv, lostCsv};
-ghost use Rattle.lines.specs.Verdicts.{counted as Verdicts·counted, countLine};
+ghost use Rattle.lines.specs.Verdicts.{countWords as Verdicts·counted, countLine};
 ghost use Rattle.lines.specs.Wrote.{Wrote};
 use crate::digits::decimal;
 use crate::fields::field;

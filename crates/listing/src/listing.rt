@@ -3,8 +3,10 @@ ghost use mathlib.Core.Path.{_≡_};
 ghost use Prim.Native.Nat.{_≤_};
 ghost use lib.ListN.{length};
 ghost use Rattle.rom.specs.Header.{headerOf};
-ghost use Rattle.listing.specs.Listing.{ListedRun, listed, startedOf, listOf};
+ghost use Rattle.listing.specs.Listing.{listedWith, startedOf, Lists};
 ghost use Rattle.state.specs.Open.{openOf};
+ghost use Rattle.listing.specs.Laws.Listing.{ListedRun};
+ghost use Rattle.rom.specs.Sizes.{workSize, storeSize, textSize};
 use lines::refused_text;
 use lines::run_text;
 use machine::run;
@@ -19,7 +21,8 @@ use state::open;
 
 // Opens a ROM that passed, runs it, and writes what it left.
 fn list_run(rom: &[u8], work: &mut [u8], store: &mut [u8], budget: u32, text: &mut [u8]) -> usize
-    requires { ⌜ (headerOf (now rom) ≡ 0) × (length (now work) ≡ 16384) × (length (now store) ≡ 16384) × (length (now text) ≡ 65536) ⌝ }
+    requires { ⌜ (headerOf (now rom) ≡ 0) × (length (now work) ≡ workSize) × (length (now store) ≡ storeSize)
+        × (length (now text) ≡ textSize) ⌝ }
     ensures { λ r. ⌜ ListedRun (startedOf (now (rom .entry)) (openOf (now (rom .entry)) (now (work .entry)) (now (store .entry))) budget)
         (now (text .entry)) r (now (work .exit)) (now (store .exit)) (now (text .exit)) ⌝ }
 {
@@ -43,8 +46,8 @@ pub fn list(
     budget: u32,
     text: &mut [u8],
 ) -> usize
-    ensures { λ r. ⌜ listed r (now (marks .exit)) (now (work .exit)) (now (store .exit)) (now (text .exit))
-        ≡ listOf (now (rom .entry)) (now (marks .entry)) (now (work .entry)) (now (store .entry)) budget (now (text .entry)) ⌝ }
+    ensures { λ r. ⌜ Lists (now (rom .entry)) (now (marks .entry)) (now (work .entry)) (now (store .entry)) budget (now (text .entry))
+        (listedWith r (now (marks .exit)) (now (work .exit)) (now (store .exit)) (now (text .exit))) ⌝ }
     ensures { λ r. ⌜ r ≤ length (now (text .exit)) ⌝ }
 {
     if text.len() != TEXT_SIZE {

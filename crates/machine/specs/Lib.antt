@@ -1,1 +1,2 @@
-pub mod Cruised
+-- What the crates of the house agree on: definitions for functions that only another crate of the house calls, and for private ones.
+pub mod Joints

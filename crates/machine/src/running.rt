@@ -1,17 +1,23 @@
 // A step and a run. Both test the state, take it apart once, carry tokens out in place, and put it together once.
 ghost use mathlib.Core.Path.{_≡_};
 ghost use Prim.Native.Nat.{_≤_, _<_};
-ghost use Rattle.state.specs.Scene.{scene, told};
-ghost use Rattle.state.specs.Step.{readyOf, tokenOf, stepOf};
+ghost use Rattle.state.specs.Scene.{scene, handedBack};
+ghost use Rattle.state.specs.Step.{readyOf, tokenTurn, stepOf};
 ghost use Rattle.state.specs.Run.{runOf, toldRan, ranOf};
-ghost use Rattle.state.specs.Apart.{joined, arrays};
-ghost use Rattle.state.specs.Sized.{Sized};
-ghost use Rattle.acts.specs.Acts.{Ready};
-ghost use Rattle.machine.specs.Cruised.{cruisedBy, cruisedTo, oneOf};
+ghost use Rattle.state.specs.Joints.Apart.{joined, arrays};
+ghost use Rattle.state.specs.Laws.Sized.{Sized};
+ghost use Rattle.acts.specs.Joints.Acts.{Ready};
+ghost use Rattle.machine.specs.Joints.Cruised.{cruisedBy, cruisedTo, oneOf};
 use acts::cold_token;
 use acts::fill_tables;
 use reckon::Fared;
 use reckon::fast;
+use rom::sizes::DATA_MOST;
+use rom::sizes::FRAMES_MOST;
+use rom::sizes::NODES_MOST;
+use rom::sizes::NUMBERS_MOST;
+use rom::sizes::PROPERTIES_MOST;
+use rom::sizes::RETURN_MOST;
 use rom::sizes::ROM_LEAST;
 use rom::sizes::ROM_MOST;
 use rom::sizes::STORE_SIZE;
@@ -30,6 +36,7 @@ use state::core_of;
 use state::going;
 use state::is_whole;
 use state::refused;
+use tokens::programs::PROGRAMS_MOST;
 use tree::Tree;
 use tree::tail_of;
 
@@ -89,19 +96,19 @@ fn cruise(
     rom: &[u8],
     work: &mut [u8],
     store: &mut [u8],
-    cells: &mut [u32; 64],
-    back: &mut [u32; 32],
-    places: &mut [u32; 16],
-    wides: &mut [bool; 16],
-    bases: &mut [usize; 16],
-    names: &mut [u32; 256],
-    kinds: &mut [u8; 256],
-    values: &mut [u32; 256],
-    ways: &mut [bool; 256],
-    parents: &mut [u32; 32],
-    owners: &mut [u32; 128],
-    titles: &mut [u32; 128],
-    sizes: &mut [u32; 128],
+    cells: &mut [u32; DATA_MOST],
+    back: &mut [u32; RETURN_MOST],
+    places: &mut [u32; FRAMES_MOST],
+    wides: &mut [bool; FRAMES_MOST],
+    bases: &mut [usize; FRAMES_MOST],
+    names: &mut [u32; NUMBERS_MOST],
+    kinds: &mut [u8; NUMBERS_MOST],
+    values: &mut [u32; NUMBERS_MOST],
+    ways: &mut [bool; NUMBERS_MOST],
+    parents: &mut [u32; NODES_MOST],
+    owners: &mut [u32; PROPERTIES_MOST],
+    titles: &mut [u32; PROPERTIES_MOST],
+    sizes: &mut [u32; PROPERTIES_MOST],
     start: Core,
     budget: u32,
 ) -> Cruised
@@ -117,8 +124,8 @@ fn cruise(
         (now (names .entry)) (now (kinds .entry)) (now (values .entry)) (now (ways .entry)) (now (parents .entry)) (now (owners .entry))
         (now (titles .entry)) (now (sizes .entry))) start)) ⌝ }
 {
-    let mut slots = [0u16; 2048];
-    let mut known = [0u8; 2048];
+    let mut slots = [0u16; PROGRAMS_MOST];
+    let mut known = [0u8; PROGRAMS_MOST];
     fill_tables(&mut slots, &mut known, &*names, &*kinds, start.held);
     let mut tail = tail_of(&*titles, &*sizes, start.records);
     let mut core = start;
@@ -199,15 +206,15 @@ fn tokens(rom: &[u8], work: &mut [u8], store: &mut [u8], st: State, budget: u32)
     let mut wides = calls.wides;
     let mut bases = calls.bases;
     let numbers = st.numbers;
-    let mut names = numbers.names;
+    let mut names = numbers.programs;
     let mut kinds = numbers.kinds;
     let mut values = numbers.values;
     let mut ways = numbers.wides;
     let tree = st.tree;
     let mut parents = tree.parents;
     let mut owners = tree.owners;
-    let mut titles = tree.names;
-    let mut sizes = tree.values;
+    let mut titles = tree.name_sizes;
+    let mut sizes = tree.value_sizes;
     let r = cruise(
         rom,
         work,
@@ -250,20 +257,21 @@ fn tokens(rom: &[u8], work: &mut [u8], store: &mut [u8], st: State, budget: u32)
             count: core.frames,
         },
         numbers: Numbers {
-            names: names,
+            programs: names,
             kinds: kinds,
             values: values,
             wides: ways,
             count: core.held,
         },
         work_place: core.work_place,
+        active: core.active,
+        first: core.first,
         tree: Tree {
             parents: parents,
             nodes: core.nodes,
-            active: core.active,
             owners: owners,
-            names: titles,
-            values: sizes,
+            name_sizes: titles,
+            value_sizes: sizes,
             held: core.records,
         },
     };
@@ -296,7 +304,7 @@ fn one(ran: Ran) -> Stepped
 // The token of a state that is ready.
 fn token(rom: &[u8], work: &mut [u8], store: &mut [u8], st: State) -> Stepped
     requires { ⌜ Ready (now rom) (now work) (now store) st × Sized st ⌝ }
-    ensures { λ r. ⌜ told r (now (work .exit)) (now (store .exit)) ≡ tokenOf
+    ensures { λ r. ⌜ handedBack r (now (work .exit)) (now (store .exit)) ≡ tokenTurn
         (scene (now (rom .entry)) (now (work .entry)) (now (store .entry)) st) ⌝ }
 {
     one(tokens(rom, work, store, st, 1))
@@ -304,7 +312,7 @@ fn token(rom: &[u8], work: &mut [u8], store: &mut [u8], st: State) -> Stepped
 
 // One token, or why it is refused; a finished state says so again. A refused step leaves the state, work memory and store as they were.
 pub fn step(rom: &[u8], work: &mut [u8], store: &mut [u8], st: State) -> Stepped
-    ensures { λ r. ⌜ told r (now (work .exit)) (now (store .exit)) ≡ stepOf
+    ensures { λ r. ⌜ handedBack r (now (work .exit)) (now (store .exit)) ≡ stepOf
         (scene (now (rom .entry)) (now (work .entry)) (now (store .entry)) st) ⌝ }
 {
     match ready(rom, &*work, &*store, st) {

@@ -10,7 +10,7 @@ use lib.ListN.{drop-of-length-le}
 use lib.Seq.{drop-cons, drop-set-lt, drop-set-add, take-set-le, take-suc, take-take, take-all, getD-drop}
 use Rattle.memory.specs.Window.{partOf}
 use Rattle.memory.specs.Writing.{writtenOf, movedOf, clearedOf}
-use Rattle.memory.specs.Laws.{written-more, written-none, written-append, written-out, written-take, set-written, length-part}
+use Rattle.memory.specs.Laws.Memory.{written-more, written-none, written-append, written-out, written-take, set-written, length-part}
 
 -- bytes of another memory
 pub laid-more : (m : List ℕ) (at : ℕ) (bs : List ℕ) (i : ℕ) → i < length bs
@@ -23,7 +23,8 @@ pub laid-all : (m : List ℕ) (at : ℕ) (bs : List ℕ) (i : ℕ) → length bs
 laid-all m at bs i h = rw (drop-of-length-le bs {i = i} h) (written-none m at)
 
 -- bytes that have no room
-pub laid-cut : (m : List ℕ) (at : ℕ) (bs : List ℕ) (n : ℕ) → n ≡ min (length bs) (length m - at) → writtenOf m at (take n bs) ≡ writtenOf m at bs
+pub laid-cut : (m : List ℕ) (at : ℕ) (bs : List ℕ) (n : ℕ) → n ≡ min (length bs) (length m - at)
+    → writtenOf m at (take n bs) ≡ writtenOf m at bs
 laid-cut m at bs n e = elim (decLe (length bs) n) [ yes h ↦ rw (take-all n bs h) | no h ↦ written-take m at bs n (omega arith) ]
 
 -- zeros
@@ -71,7 +72,8 @@ moved-end m s t k h f =
 
 pub moved-last : (m : List ℕ) (s t k : ℕ) → 0 < k → s ≤ t → t + k ≤ length m
     → movedOf (set m (t + (k - 1)) (getD m (s + (k - 1)) 0)) s t (k - 1) ≡ movedOf m s t k
-moved-last m s t k z h f = let e : k ≡ suc (k - 1) = omega arith in moved-end m s t (k - 1) h (omega arith) ∙ ap (λ (n : ℕ). movedOf m s t n) (sym e)
+moved-last m s t k z h f = let e : k ≡ suc (k - 1) = omega arith in
+    moved-end m s t (k - 1) h (omega arith) ∙ ap (λ (n : ℕ). movedOf m s t n) (sym e)
 
 pub moved-none : (m : List ℕ) (s t k : ℕ) → k ≡ 0 → movedOf m s t k ≡ m
 moved-none m s t k e = rw e (written-none m t)
@@ -81,7 +83,15 @@ pub moved-cut : (m : List ℕ) (s t c n : ℕ) → n ≡ min c (min (length m - 
 moved-cut m s t c n e =
     elim (decLe (length m - s) n) [
       | yes h ↦ let d = length-drop s m in
-          elim (decLe c n) [ yes g ↦ let p : n ≡ c = omega arith in rw p | no g ↦ rw (take-all n (drop s m) (omega arith), take-all c (drop s m) (omega arith)) ]
+          elim (decLe c n) [
+            | yes g ↦ let p : n ≡ c = omega arith in
+                rw p
+            | no g ↦ rw (take-all n (drop s m) (omega arith), take-all c (drop s m) (omega arith))
+          ]
       | no h ↦
-          elim (decLe c n) [ yes g ↦ let p : n ≡ c = omega arith in rw p | no g ↦ rw (← take-take n c (drop s m) (omega arith)) (written-take m t (partOf m s c) n (omega arith)) ]
+          elim (decLe c n) [
+            | yes g ↦ let p : n ≡ c = omega arith in
+                rw p
+            | no g ↦ rw (← take-take n c (drop s m) (omega arith)) (written-take m t (partOf m s c) n (omega arith))
+          ]
     ]

@@ -1,5 +1,5 @@
--- Cells and bytes fetched and stored: "6D @ 71 c@ 72 ! 75 c!. Cells are big-endian (house)", with refusal 22, "address range in no window, or a
--- store outside work memory", before 23, "cell address not a multiple of 4". c! stores the low 8 bits. Assumes nothing.
+-- Cells and bytes fetched and stored: "6D @ 71 c@ 72 ! 75 c!. Cells are big-endian (house)", with refusal 22, "address range in no window,
+-- or a store outside work memory", before 23, "cell address not a multiple of 4". c! stores the low 8 bits. Assumes nothing.
 use Prim.Native.Nat.{ℕ, _-_, _%_}
 use mathlib.Core.Bool.{Bool, not}
 use mathlib.Core.List.{List, [], _∷_}

@@ -9,14 +9,16 @@ use lib.Seq.{set-getD}
 use Rattle.tokens.specs.Table.{ends, lows, highs, doubles, table, rowOf}
 use Rattle.tokens.specs.Code.{codeOf}
 use Rattle.rom.specs.Bytes.{word32Of}
-use Rattle.state.specs.Stacks.{stacks, outcome, leftOf, plainOf}
-use Rattle.tokens.specs.Rows.{results-fit}
-use Rattle.reckon.specs.Reckoned.{Like, OfNone, OfOne, OfTwo, OfThree}
-use Rattle.reckon.specs.Fast.{OnData, Reads, turned}
+use Rattle.state.specs.Stacks.{stacks, leftOf, plainOf}
+use Rattle.tokens.specs.Laws.Rows.{results-fit}
+use Rattle.reckon.specs.Joints.Reckoned.{Like, OfNone, OfOne, OfTwo, OfThree}
+use Rattle.reckon.specs.Joints.Fast.{OnData, Reads, turned}
 use Rattle.reckon.specs.declared.turned.Fared.the-variants.{On, Not}
 use Rattle.reckon.proofs.Made.{literal-made}
 use Rattle.reckon.proofs.Paths.{high, fine, data-fine, none-given}
 use Rattle.reckon.proofs.Given.{none-code, one-code, two-code, three-code, nothing-code}
+use Rattle.state.specs.Joints.Reckoning.{reckonedAs}
+use Rattle.rom.specs.Sizes.{dataMost, returnMost}
 
 -- the cell that has k others above it
 seen : (c : List ℕ) (h k : ℕ) → getD c (h - 1 - k) 0 ≡ getD c (h - (k + 1)) 0
@@ -27,7 +29,7 @@ stays : (c : List ℕ) (base v : ℕ) (vs : List ℕ) → v ≡ getD c base 0 �
 unfolding leftOf
 stays c base v vs e = rw (e, set-getD c base 0)
 
-module _ (h b place : ℕ) (c : List ℕ) (t : h ≤ 64) (r : b ≤ 32) where
+module _ (h b place : ℕ) (c : List ℕ) (t : h ≤ dataMost) (r : b ≤ returnMost) where
   -- the k-th cell from the top, the top being the first, and a cell put there
   abbrev at : ℕ → ℕ
   at k = getD c (h - k) 0
@@ -43,27 +45,33 @@ module _ (h b place : ℕ) (c : List ℕ) (t : h ≤ 64) (r : b ≤ 32) where
         data-fine n h b place 0x0100_0000 c (nothing-code n e) (refl, refl, refl, refl) t r (omega arith) [] _ _
         (λ o bk. let d = nothing-code n e in none-given _ (rowOf n .results) (results-fit n (rw d) ∙ rw d)) refl (omega arith) t
 
-    module _ (l : h < 64) where
+    module _ (l : h < dataMost) where
       pub push-fine : (v : ℕ) → Like n 0xA5 → OfNone n h v → OnData n c h b place (turned On (h + 1) b (place + 1)) (set c h v)
       unfolding leftOf
       push-fine v e f =
           let z : h - 0 ≡ h = omega arith in
-          data-fine n h b place 0x0100_0001 c (none-code n e) (refl, refl, refl, refl) t r (omega arith) (v ∷ []) _ _ (λ o bk. f _ refl) (rw z) (omega arith) (omega arith)
+          data-fine n h b place 0x0100_0001 c (none-code n e) (refl, refl, refl, refl) t r (omega arith) (v ∷ []) _ _ (λ o bk. f _ refl)
+          (rw z) (omega arith) (omega arith)
 
     -- one cell of the highest
     pub one-fine : (v : ℕ) → Like n 0x26 → 1 ≤ h → OfOne n (at 1) v → OnData n c h b place (turned On h b (place + 1)) (put c 1 v)
     unfolding leftOf
-    one-fine v e l f = data-fine n h b place 0x0100_0011 c (one-code n e) (refl, refl, refl, refl) t r l (v ∷ []) _ _ (λ o bk. f _ (seen c h 0)) refl (omega arith) t
+    one-fine v e l f = data-fine n h b place 0x0100_0011 c (one-code n e) (refl, refl, refl, refl) t r l (v ∷ []) _ _
+        (λ o bk. f _ (seen c h 0)) refl (omega arith) t
 
-    pub two-fine : (v : ℕ) → Like n 0x1E → 2 ≤ h → OfTwo n (at 2) (at 1) v → OnData n c h b place (turned On (h - 1) b (place + 1)) (put c 2 v)
+    pub two-fine : (v : ℕ) → Like n 0x1E → 2 ≤ h → OfTwo n (at 2) (at 1) v
+        → OnData n c h b place (turned On (h - 1) b (place + 1)) (put c 2 v)
     unfolding leftOf
     two-fine v e l f =
-        data-fine n h b place 0x0100_0021 c (two-code n e) (refl, refl, refl, refl) t r l (v ∷ []) _ _ (λ o bk. f _ (seen c h 1) (seen c h 0)) refl (omega arith) (omega arith)
+        data-fine n h b place 0x0100_0021 c (two-code n e) (refl, refl, refl, refl) t r l (v ∷ []) _ _
+        (λ o bk. f _ (seen c h 1) (seen c h 0)) refl (omega arith) (omega arith)
 
-    pub three-fine : (v : ℕ) → Like n 0x44 → 3 ≤ h → OfThree n (at 3) (at 2) (at 1) v → OnData n c h b place (turned On (h - 2) b (place + 1)) (put c 3 v)
+    pub three-fine : (v : ℕ) → Like n 0x44 → 3 ≤ h → OfThree n (at 3) (at 2) (at 1) v
+        → OnData n c h b place (turned On (h - 2) b (place + 1)) (put c 3 v)
     unfolding leftOf
     three-fine v e l f =
-        data-fine n h b place 0x0100_0031 c (three-code n e) (refl, refl, refl, refl) t r l (v ∷ []) _ _ (λ o bk. f _ (seen c h 2) (seen c h 1) (seen c h 0)) refl (omega arith)
+        data-fine n h b place 0x0100_0031 c (three-code n e) (refl, refl, refl, refl) t r l (v ∷ []) _ _
+        (λ o bk. f _ (seen c h 2) (seen c h 1) (seen c h 0)) refl (omega arith)
         (omega arith)
 
   -- the stack words
@@ -77,7 +85,7 @@ module _ (h b place : ℕ) (c : List ℕ) (t : h ≤ 64) (r : b ≤ 32) where
   drop-two-fine l =
       data-fine 0x52 h b place 0x0100_0020 c refl (refl, refl, refl, refl) t r l [] _ _ (λ o bk. refl) refl (omega arith) (omega arith)
 
-  pub dup-fine : 1 ≤ h → h < 64 → OnData 0x47 c h b place (turned On (h + 1) b (place + 1)) (set c h (at 1))
+  pub dup-fine : 1 ≤ h → h < dataMost → OnData 0x47 c h b place (turned On (h + 1) b (place + 1)) (set c h (at 1))
   unfolding leftOf codeOf rowOf table ends lows highs doubles
   dup-fine l m =
       let i1 : h - 1 + 1 ≡ h = omega arith in
@@ -87,7 +95,7 @@ module _ (h b place : ℕ) (c : List ℕ) (t : h ≤ 64) (r : b ≤ 32) where
       (stays c (h - 1) (at 1) (at 1 ∷ []) refl
       ∙ simp i1)) (omega arith) (omega arith)
 
-  pub over-fine : 2 ≤ h → h < 64 → OnData 0x48 c h b place (turned On (h + 1) b (place + 1)) (set c h (at 2))
+  pub over-fine : 2 ≤ h → h < dataMost → OnData 0x48 c h b place (turned On (h + 1) b (place + 1)) (set c h (at 2))
   unfolding leftOf codeOf rowOf table ends lows highs doubles
   over-fine l m =
       let i2 : h - 2 + 1 ≡ h - 1 = omega arith in
@@ -99,7 +107,7 @@ module _ (h b place : ℕ) (c : List ℕ) (t : h ≤ 64) (r : b ≤ 32) where
       ∙ stays c (h - 2 + 1) (at 1) (at 2 ∷ []) (simp i2)
       ∙ simp (i2, i1))) (omega arith) (omega arith)
 
-  pub tuck-fine : 2 ≤ h → h < 64
+  pub tuck-fine : 2 ≤ h → h < dataMost
       → OnData 0x4C c h b place (turned On (h + 1) b (place + 1)) (set (put (put c 2 (at 1)) 1 (at 2)) h (at 1))
   unfolding leftOf codeOf rowOf table ends lows highs doubles
   tuck-fine l m =
@@ -179,7 +187,8 @@ module _ (h b place : ℕ) (c : List ℕ) (t : h ≤ 64) (r : b ≤ 32) where
       (simp (i4, i3, i2)) (omega arith) t
 
   pub rot-two-fine : 6 ≤ h
-      → OnData 0x56 c h b place (turned On h b (place + 1)) (put (put (put (put (put (put c 6 (at 4)) 5 (at 3)) 4 (at 2)) 3 (at 1)) 2 (at 6)) 1 (at 5))
+      → OnData 0x56 c h b place (turned On h b (place + 1))
+      (put (put (put (put (put (put c 6 (at 4)) 5 (at 3)) 4 (at 2)) 3 (at 1)) 2 (at 6)) 1 (at 5))
   unfolding leftOf codeOf rowOf table ends lows highs doubles
   rot-two-fine l =
       let i6 : h - 6 + 1 ≡ h - 5 = omega arith in
@@ -192,25 +201,29 @@ module _ (h b place : ℕ) (c : List ℕ) (t : h ≤ 64) (r : b ≤ 32) where
       (simp (i6, i5, i4, i3, i2)) (omega arith) t
 
 -- ---- b(lit)
-module _ (rom : List ℕ) (size h b place : ℕ) (c : List ℕ) (t : h ≤ 64) (r : b ≤ 32) (l : place + 5 ≤ size) where
+module _ (rom : List ℕ) (size h b place : ℕ) (c : List ℕ) (t : h ≤ dataMost) (r : b ≤ returnMost) (l : place + 5 ≤ size) where
   literal-code : codeOf 0x10 ≡ 0x0101_0001
   unfolding codeOf rowOf table ends lows highs doubles
   literal-code = refl
 
-  pub literal-high : 64 ≤ h → (wide : Bool) → Reads 0x10 rom size wide c h b place (turned (Not 15) h b place) c
+  pub literal-high : dataMost ≤ h → (wide : Bool) → Reads 0x10 rom size wide c h b place (turned (Not 15) h b place) c
   literal-high m =
       literal-made rom size h b place c t r 15 h c l t
-      (λ base k. high 0x10 (word32Of rom (place + 1)) base (stacks c h k b) 0x0101_0001 literal-code (omega arith) (omega arith) (omega arith) (omega arith))
+      (λ base k. high 0x10 (word32Of rom (place + 1)) base (stacks c h k b) 0x0101_0001 literal-code (omega arith) (omega arith)
+      (omega arith) (omega arith))
 
-  literal-left : (operand : ℕ) (k : List ℕ) → outcome 0 (stacks (set c h operand) (h + 1) k b) ≡ outcome 0 (plainOf 0x10 operand (stacks c h k b))
+  literal-left : (operand : ℕ) (k : List ℕ)
+      → reckonedAs 0 (stacks (set c h operand) (h + 1) k b) ≡ reckonedAs 0 (plainOf 0x10 operand (stacks c h k b))
   unfolding plainOf leftOf codeOf rowOf table ends lows highs doubles
   literal-left operand k =
       let x : h - 0 ≡ h = omega arith in
       let y : b - 0 + 0 ≡ b = omega arith in
       simp (x, y)
 
-  pub literal-fine : h < 64 → (wide : Bool) → Reads 0x10 rom size wide c h b place (turned On (h + 1) b (place + 5)) (set c h (word32Of rom (place + 1)))
+  pub literal-fine : h < dataMost → (wide : Bool)
+      → Reads 0x10 rom size wide c h b place (turned On (h + 1) b (place + 5)) (set c h (word32Of rom (place + 1)))
   literal-fine m =
       literal-made rom size h b place c t r 0 (h + 1) (set c h (word32Of rom (place + 1))) l (omega arith)
       (λ base k. literal-left (word32Of rom (place + 1)) k
-      ∙ fine 0x10 (word32Of rom (place + 1)) base (stacks c h k b) 0x0101_0001 literal-code (omega arith) (omega arith) (omega arith) (omega arith))
+      ∙ fine 0x10 (word32Of rom (place + 1)) base (stacks c h k b) 0x0101_0001 literal-code (omega arith) (omega arith) (omega arith)
+      (omega arith))

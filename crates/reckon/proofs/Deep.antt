@@ -14,8 +14,10 @@ use Rattle.cells.specs.declared.Divided.{Divided}
 use Rattle.cells.specs.declared.Divided.the-variants.{ByZero, Parts}
 use Rattle.tokens.specs.Table.{ends, lows, highs, doubles, table, rowOf}
 use Rattle.tokens.specs.Code.{codeOf}
-use Rattle.state.specs.Stacks.{stacks, outcome, leftOf, cellsFrom, plainOf, turnedOf, divideOf, pickUpOf, rollUpOf, maybeOf}
+use Rattle.state.specs.Stacks.{stacks, leftOf, cellsFrom, plainOf, turnedOf}
 use Rattle.reckon.proofs.Made.{Works}
+use Rattle.state.specs.Joints.Reckoning.{reckonedAs, divideOf, pickUpOf, rollUpOf, maybeOf}
+use Rattle.rom.specs.Sizes.{dataMost}
 
 -- ---- what u/mod's answer says
 abbrev undivided : Divided → Bool
@@ -45,7 +47,7 @@ module _ (x y : ℕ) where
       (z, ap under d, ap over d)
 
 -- ---- the ways out
-module _ (h b : ℕ) (c : List ℕ) (t : h ≤ 64) where
+module _ (h b : ℕ) (c : List ℕ) (t : h ≤ dataMost) where
   pub divide-low : h < 2 → Works divideOf c h b 14 h c
   divide-low l = (t, λ k. rw (lt-ltb _ _ l))
 
@@ -54,7 +56,8 @@ module _ (h b : ℕ) (c : List ℕ) (t : h ≤ 64) where
     divide-zero z = let y : h - 1 - 0 ≡ h - 1 = omega arith in (t, λ k. simp (le-ltb _ _ l, y, z))
 
     divide-left : (k : List ℕ)
-        → outcome 0 (stacks (set (set c (h - 2) (getD c (h - 2) 0 % getD c (h - 1) 0)) (h - 1) (getD c (h - 2) 0 / getD c (h - 1) 0)) h k b) ≡ outcome 0 (plainOf 0x2B 0 (stacks c h k b))
+        → reckonedAs 0 (stacks (set (set c (h - 2) (getD c (h - 2) 0 % getD c (h - 1) 0)) (h - 1) (getD c (h - 2) 0 / getD c (h - 1) 0)) h k
+        b) ≡ reckonedAs 0 (plainOf 0x2B 0 (stacks c h k b))
     unfolding plainOf leftOf codeOf rowOf table ends lows highs doubles
     divide-left k =
         let y : h - 1 - 0 ≡ h - 1 = omega arith in
@@ -64,7 +67,8 @@ module _ (h b : ℕ) (c : List ℕ) (t : h ≤ 64) where
         let u : b - 0 + 0 ≡ b = omega arith in
         simp (x, y, w, v, u)
 
-    pub divide-fine : (r q : ℕ) → eqb (getD c (h - 1) 0) 0 ≡ false → r ≡ getD c (h - 2) 0 % getD c (h - 1) 0 → q ≡ getD c (h - 2) 0 / getD c (h - 1) 0
+    pub divide-fine : (r q : ℕ) → eqb (getD c (h - 1) 0) 0 ≡ false → r ≡ getD c (h - 2) 0 % getD c (h - 1) 0
+        → q ≡ getD c (h - 2) 0 / getD c (h - 1) 0
         → Works divideOf c h b 0 h (set (set c (h - 2) r) (h - 1) q)
     divide-fine r q z d e =
         let y : h - 1 - 0 ≡ h - 1 = omega arith in
@@ -109,11 +113,11 @@ module _ (h b : ℕ) (c : List ℕ) (t : h ≤ 64) where
     maybe-zero z = (t, λ k. simp (le-ltb _ _ l, at-top, z))
 
     module _ (z : getD c (h - 1) 0 ≡ 0 → ⊥) where
-      pub maybe-high : 64 ≤ h → Works maybeOf c h b 15 h c
-      maybe-high m = let x : 64 < h + 1 = omega arith in (t, λ k. simp (le-ltb _ _ l, at-top, ne-eqb _ _ z, lt-ltb _ _ x))
+      pub maybe-high : dataMost ≤ h → Works maybeOf c h b 15 h c
+      maybe-high m = let x : dataMost < h + 1 = omega arith in (t, λ k. simp (le-ltb _ _ l, at-top, ne-eqb _ _ z, lt-ltb _ _ x))
 
-      pub maybe-fine : h < 64 → Works maybeOf c h b 0 (h + 1) (set c h (getD c (h - 1) 0))
-      maybe-fine m = let x : h + 1 ≤ 64 = omega arith in (x, λ k. simp (le-ltb _ _ l, at-top, ne-eqb _ _ z, le-ltb _ _ x))
+      pub maybe-fine : h < dataMost → Works maybeOf c h b 0 (h + 1) (set c h (getD c (h - 1) 0))
+      maybe-fine m = let x : h + 1 ≤ dataMost = omega arith in (x, λ k. simp (le-ltb _ _ l, at-top, ne-eqb _ _ z, le-ltb _ _ x))
 
 -- ---- roll's loop: what is left to be moved, from a place up to an end, and then the cell that goes to the top
 abbrev pub leftToTurn : List ℕ → ℕ → ℕ → ℕ → List ℕ
@@ -124,7 +128,8 @@ unfolding cellsFrom
 cells-above c at v p zero l = refl
 cells-above c at v p (suc k) l = rw (getD-set-other c at p v 0 (λ e. omega arith), cells-above c at v (p + 1) k (omega arith))
 
-pub turns : (c : List ℕ) (at end first : ℕ) → at < end → leftToTurn (set c at (getD c (at + 1) 0)) (at + 1) end first ≡ leftToTurn c at end first
+pub turns : (c : List ℕ) (at end first : ℕ) → at < end
+    → leftToTurn (set c at (getD c (at + 1) 0)) (at + 1) end first ≡ leftToTurn c at end first
 unfolding leftOf cellsFrom
 turns c at end first l =
     let i : end - at ≡ suc (end - (at + 1)) = omega arith in

@@ -7,21 +7,25 @@ use Rattle.tokens.specs.Row.{Seen}
 use Rattle.tokens.specs.Table.{ends, lows, highs, doubles, table, rowOf}
 use Rattle.tokens.specs.Code.{codeOf}
 use Rattle.state.specs.Stacks.{reckonedOf}
-use Rattle.tokens.specs.Rows.{among, coded}
-use Rattle.reckon.specs.Reckoned.{Like, OfNone, OfOne, OfTwo, OfThree}
+use Rattle.tokens.specs.Laws.Rows.{coded}
+use Rattle.reckon.specs.Joints.Reckoned.{Like, OfNone, OfOne, OfTwo, OfThree}
+use Rattle.cells.specs.Choice.{among}
 
 module _ (k : ℕ) where
-  pub none-by : {n h r : ℕ} (f : ℕ → ℕ) → ((s : Seen) → reckonedOf (rowOf k .results) s ≡ f (s .height) ∷ []) → n ≡ k → r ≡ f h → OfNone n h r
+  pub none-by : {n h r : ℕ} (f : ℕ → ℕ) → ((s : Seen) → reckonedOf (rowOf k .results) s ≡ f (s .height) ∷ []) → n ≡ k → r ≡ f h
+      → OfNone n h r
   none-by f w e g s p = rw e (w s ∙ rw (p, g))
 
   pub one-by : {n a r : ℕ} (f : ℕ → ℕ) → ((s : Seen) → reckonedOf (rowOf k .results) s ≡ f (s .cell 0) ∷ []) → n ≡ k → r ≡ f a → OfOne n a r
   one-by f w e g s p = rw e (w s ∙ rw (p, g))
 
-  pub two-by : {n b a r : ℕ} (f : ℕ → ℕ → ℕ) → ((s : Seen) → reckonedOf (rowOf k .results) s ≡ f (s .cell 1) (s .cell 0) ∷ []) → n ≡ k → r ≡ f b a
+  pub two-by : {n b a r : ℕ} (f : ℕ → ℕ → ℕ) → ((s : Seen) → reckonedOf (rowOf k .results) s ≡ f (s .cell 1) (s .cell 0) ∷ []) → n ≡ k
+      → r ≡ f b a
       → OfTwo n b a r
   two-by f w e g s p q = rw e (w s ∙ rw (p, q, g))
 
-  pub three-by : {n c b a r : ℕ} (f : ℕ → ℕ → ℕ → ℕ) → ((s : Seen) → reckonedOf (rowOf k .results) s ≡ f (s .cell 2) (s .cell 1) (s .cell 0) ∷ [])
+  pub three-by : {n c b a r : ℕ} (f : ℕ → ℕ → ℕ → ℕ)
+      → ((s : Seen) → reckonedOf (rowOf k .results) s ≡ f (s .cell 2) (s .cell 1) (s .cell 0) ∷ [])
       → n ≡ k → r ≡ f c b a → OfThree n c b a r
   three-by f w e g s o p q = rw e (w s ∙ rw (o, p, q, g))
 
@@ -34,7 +38,8 @@ ones = 0x26 ∷ 0x2C ∷ 0x2D ∷ 0x34 ∷ 0x35 ∷ 0x36 ∷ 0x37 ∷ 0x38 ∷ 0
 
 abbrev pub twos : List ℕ
 twos =
-    0x1E ∷ 0x1F ∷ 0x20 ∷ 0x23 ∷ 0x24 ∷ 0x25 ∷ 0x27 ∷ 0x28 ∷ 0x29 ∷ 0x2E ∷ 0x2F ∷ 0x3A ∷ 0x3B ∷ 0x3C ∷ 0x3D ∷ 0x3E ∷ 0x3F ∷ 0x40 ∷ 0x41 ∷ 0x42 ∷ 0x43 ∷ 0x4D ∷ []
+    0x1E ∷ 0x1F ∷ 0x20 ∷ 0x23 ∷ 0x24 ∷ 0x25 ∷ 0x27 ∷ 0x28 ∷ 0x29 ∷ 0x2E ∷ 0x2F ∷ 0x3A ∷ 0x3B ∷ 0x3C ∷ 0x3D ∷ 0x3E ∷ 0x3F ∷ 0x40 ∷ 0x41 ∷
+    0x42 ∷ 0x43 ∷ 0x4D ∷ []
 
 abbrev pub threes : List ℕ
 threes = 0x44 ∷ 0x45 ∷ []

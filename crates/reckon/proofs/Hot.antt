@@ -1,5 +1,5 @@
--- A token that is done in place, as the step reads it: its number is one byte, it is never out of place, and its form is none, a literal or an offset.
--- Assumes nothing.
+-- A token that is done in place, as the step reads it: its number is one byte, it is never out of place, and its form is none, a literal or
+-- an offset. Assumes nothing.
 use Prim.Native.Nat.{ℕ, _+_, _-_, _*_, _<_, _≤_}
 use mathlib.Core.Path.{_≡_, refl, _∙_, ap}
 use mathlib.Core.Bool.{Bool, true, false, not, _&&_, _||_}
@@ -7,29 +7,31 @@ use mathlib.Core.List.{List, [], _∷_}
 use native.Mathlib.Omega.{arith}
 use borrow.Author.Tests.{eqb-true, leb-true, lt-ltb}
 use lib.Dec.{T, ltb, leb, eqb, eqb→eq}
-use Rattle.cells.specs.Choice.{pick}
-use Rattle.cells.specs.Tests.{pick-is, tests}
-use Rattle.cells.specs.Facts.{is-false, holds, both-hold, follows, never-true}
+use Rattle.cells.specs.Choice.{pick, among}
+use Rattle.cells.specs.Laws.Tests.{pick-is, tests}
+use Rattle.cells.specs.Laws.Facts.{is-false, holds, both-hold, follows, never-true}
 use Rattle.rom.specs.Bytes.{byteOf}
 use Rattle.tokens.specs.Row.{Row}
 use Rattle.tokens.specs.Table.{ends, lows, highs, doubles, table, rowOf}
 use Rattle.tokens.specs.Code.{packed, codeOf, familyIn, outOfPlaceIn, formIn}
-use Rattle.tokens.specs.Decode.{isDouble, numberOf, behindNumber, behindString, behindOf, operandOf, formed, wholeOf, decodeOf}
+use Rattle.tokens.specs.Decode.{isDouble, numberOf, behindNumber, behindString, behindOf, operandOf, formed, tokenIfWhole, decodeOf}
 use Rattle.tokens.specs.Decode.{tokenOf as tokenMade}
 use Rattle.tokens.specs.Place.{judged, misplacedOf, readOf}
 use Rattle.tokens.specs.declared.decoding.Operand.{Operand}
 use Rattle.tokens.specs.declared.decoding.Decoded.the-variants.{Cut, Whole}
 use Rattle.tokens.specs.declared.read.Read.{Read}
 use Rattle.tokens.specs.declared.read.Read.the-variants.{Refused as Unread, Good}
-use Rattle.tokens.specs.Rows.{rows-pass, among, Beside, none-left}
+use Rattle.tokens.specs.Laws.Rows.{rows-pass, Beside, none-left}
 use Rattle.state.specs.State.{isOpen}
 use Rattle.state.specs.Scene.{Scene, refuse}
-use Rattle.state.specs.Step.{readTurn, doneOf, tokenOf}
-use Rattle.state.specs.Hot.{hotFamily}
+use Rattle.state.specs.Step.{readTurn, doneOf, tokenTurn}
+use Rattle.state.specs.Joints.Hot.{hotFamily}
 
 -- ---- what the list says of every hot number
 abbrev fits : ℕ → ℕ → Bool
-fits m c = not (isDouble m) && (ltb m 256 && (not (eqb c 0) && (eqb (outOfPlaceIn c) 0 && (eqb (formIn c) 0 || (eqb (formIn c) 1 || eqb (formIn c) 3)))))
+fits m c =
+    not (isDouble m) &&
+    (ltb m 256 && (not (eqb c 0) && (eqb (outOfPlaceIn c) 0 && (eqb (formIn c) 0 || (eqb (formIn c) 1 || eqb (formIn c) 3)))))
 
 hot-fits : (n : ℕ) → T (hotFamily (familyIn (codeOf n))) → T (fits n (codeOf n))
 unfolding codeOf table ends lows highs doubles
@@ -60,53 +62,66 @@ hot-token n h =
     }
 
 -- an operand of such a form is no definition
-form-formed : (rom : List ℕ) (size : ℕ) (wide : Bool) (q form : ℕ) → T (eqb form 0 || (eqb form 1 || eqb form 3)) → formed (operandOf rom size wide q form) ≡ true
+form-formed : (rom : List ℕ) (size : ℕ) (wide : Bool) (q form : ℕ) → T (eqb form 0 || (eqb form 1 || eqb form 3))
+    → formed (operandOf rom size wide q form) ≡ true
 unfolding operandOf
 form-formed rom size wide q form h = by (eqb form 0) (eqb form 1) (eqb form 3) refl refl refl h
   where
-    by : (a b c : Bool) → eqb form 0 ≡ a → eqb form 1 ≡ b → eqb form 3 ≡ c → T (a || (b || c)) → formed (operandOf rom size wide q form) ≡ true
+    by : (a b c : Bool) → eqb form 0 ≡ a → eqb form 1 ≡ b → eqb form 3 ≡ c → T (a || (b || c))
+        → formed (operandOf rom size wide q form) ≡ true
     by true b c x y z t = rw (eqb-true form 0 x)
     by false true c x y z t = rw (eqb-true form 1 y)
     by false false true x y z t = rw (eqb-true form 3 z)
     by false false false x y z t = absurd t
 
-module _ (rom : List ℕ) (size : ℕ) (wide within : Bool) (p : ℕ) (n : ℕ) (e : n ≡ byteOf rom p) (hot : T (hotFamily (familyIn (codeOf n)))) where
-  abbrev nextOf : ℕ
-  nextOf = behindOf rom wide (p + 1) (formIn (codeOf n))
+module _ (rom : List ℕ) (size : ℕ) (wide within : Bool) (p : ℕ) (n : ℕ) (e : n ≡ byteOf rom p) (hot : T (hotFamily (familyIn (codeOf n))))
+  where
+    abbrev nextOf : ℕ
+    nextOf = behindOf rom wide (p + 1) (formIn (codeOf n))
 
-  abbrev operandHere : Operand
-  operandHere = operandOf rom size wide (p + 1) (formIn (codeOf n))
+    abbrev operandHere : Operand
+    operandHere = operandOf rom size wide (p + 1) (formIn (codeOf n))
 
-  hot-decoded : decodeOf rom size wide p ≡ wholeOf size n (codeOf n) operandHere nextOf
-  unfolding decodeOf
-  hot-decoded =
-      let s : isDouble (byteOf rom p) ≡ false = rw (← e) (hot-token n hot .single) in
-      rw (s, ← e)
+    hot-decoded : decodeOf rom size wide p ≡ tokenIfWhole size n (codeOf n) operandHere nextOf
+    unfolding decodeOf
+    hot-decoded =
+        let s : isDouble (byteOf rom p) ≡ false = rw (← e) (hot-token n hot .single) in
+        rw (s, ← e)
 
-  judged-hot : (b : Bool) → judged within (pick b Cut (Whole (tokenMade n (codeOf n) operandHere nextOf)))
-      ≡ pick b (Unread 10) (Good (tokenMade n (codeOf n) operandHere nextOf))
-  unfolding misplacedOf
-  judged-hot true = refl
-  judged-hot false = rw (hot-token n hot .anywhere)
+    judged-hot : (b : Bool) → judged within (pick b Cut (Whole (tokenMade n (codeOf n) operandHere nextOf)))
+        ≡ pick b (Unread 10) (Good (tokenMade n (codeOf n) operandHere nextOf))
+    unfolding misplacedOf
+    judged-hot true = refl
+    judged-hot false = rw (hot-token n hot .anywhere)
 
-  -- what is read there
-  pub hot-read : readOf rom size wide within p ≡ pick (ltb size nextOf) (Unread 10) (Good (tokenMade n (codeOf n) operandHere nextOf))
-  unfolding readOf wholeOf
-  hot-read =
-      rw (hot-decoded, hot-token n hot .named, form-formed rom size wide (p + 1) (formIn (codeOf n)) (hot-token n hot .form))
-      (judged-hot (ltb size nextOf))
+    -- what is read there
+    pub hot-read : readOf rom size wide within p ≡ pick (ltb size nextOf) (Unread 10) (Good (tokenMade n (codeOf n) operandHere nextOf))
+    unfolding readOf tokenIfWhole
+    hot-read =
+        rw (hot-decoded, hot-token n hot .named, form-formed rom size wide (p + 1) (formIn (codeOf n)) (hot-token n hot .form))
+        (judged-hot (ltb size nextOf))
 
 -- ---- a turn with such a token: cut off, or done
 pub hot-turn : (s : Scene) (n : ℕ) → n ≡ byteOf (s .rom) (s .state .place) → T (hotFamily (familyIn (codeOf n)))
-    → tokenOf s ≡ pick (ltb (s .state .length) (behindOf (s .rom) (s .state .wide) (s .state .place + 1) (formIn (codeOf n)))) (refuse 10 s)
-    (doneOf s (tokenMade n (codeOf n) (operandOf (s .rom) (s .state .length) (s .state .wide) (s .state .place + 1) (formIn (codeOf n))) (behindOf (s .rom) (s .state .wide) (s .state .place + 1) (formIn (codeOf n)))))
-unfolding tokenOf
+    → tokenTurn s ≡ pick (ltb (s .state .length) (behindOf (s .rom) (s .state .wide) (s .state .place + 1) (formIn (codeOf n))))
+    (refuse 10 s)
+    (doneOf s (tokenMade n (codeOf n) (operandOf (s .rom) (s .state .length) (s .state .wide) (s .state .place + 1) (formIn (codeOf n)))
+    (behindOf (s .rom) (s .state .wide) (s .state .place + 1) (formIn (codeOf n)))))
+unfolding tokenTurn
 hot-turn s n e hot =
-    ap (λ (r : Read). readTurn s r) (hot-read (s .rom) (s .state .length) (s .state .wide) (isOpen (s .state .calls)) (s .state .place) n e hot)
+    ap (λ (r : Read). readTurn s r) (hot-read (s .rom) (s .state .length) (s .state .wide) (isOpen (s .state .calls))
+    (s .state .place) n e hot)
     ∙ by (ltb (s .state .length) (behindOf (s .rom) (s .state .wide) (s .state .place + 1) (formIn (codeOf n))))
   where
-    by : (b : Bool) → readTurn s (pick b (Unread 10) (Good (tokenMade n (codeOf n) (operandOf (s .rom) (s .state .length) (s .state .wide) (s .state .place + 1) (formIn (codeOf n))) (behindOf (s .rom) (s .state .wide) (s .state .place + 1) (formIn (codeOf n))))))
-        ≡ pick b (refuse 10 s) (doneOf s (tokenMade n (codeOf n) (operandOf (s .rom) (s .state .length) (s .state .wide) (s .state .place + 1) (formIn (codeOf n))) (behindOf (s .rom) (s .state .wide) (s .state .place + 1) (formIn (codeOf n)))))
+    by : (b : Bool)
+        → readTurn s
+        (pick b (Unread 10)
+        (Good (tokenMade n (codeOf n) (operandOf (s .rom) (s .state .length) (s .state .wide) (s .state .place + 1) (formIn (codeOf n)))
+        (behindOf (s .rom) (s .state .wide) (s .state .place + 1) (formIn (codeOf n))))))
+        ≡ pick b (refuse 10 s)
+        (doneOf s
+        (tokenMade n (codeOf n) (operandOf (s .rom) (s .state .length) (s .state .wide) (s .state .place + 1) (formIn (codeOf n)))
+        (behindOf (s .rom) (s .state .wide) (s .state .place + 1) (formIn (codeOf n)))))
     by true = refl
     by false = refl
 
@@ -115,7 +130,8 @@ pub double-cold : (rom : List ℕ) (p : ℕ) → isDouble (byteOf rom p) ≡ tru
 double-cold rom p e = by (hotFamily (familyIn (codeOf (numberOf rom p)))) refl
   where
     large : 256 ≤ numberOf rom p
-    large = rw e (over (byteOf rom p) (byteOf rom (p + 1)) (leb-true 1 (byteOf rom p) (first (leb 1 (byteOf rom p)) (leb (byteOf rom p) 15) e)))
+    large = rw e (over (byteOf rom p) (byteOf rom (p + 1))
+        (leb-true 1 (byteOf rom p) (first (leb 1 (byteOf rom p)) (leb (byteOf rom p) 15) e)))
       where
         over : (a b : ℕ) → 1 ≤ a → 256 ≤ a * 256 + b
         over a b h = omega arith
@@ -167,16 +183,19 @@ behind-form rom wide p form =
     number : (q : ℕ) → q ≤ behindNumber rom q
     number q = pick-is (λ x. q ≤ q + x) (isDouble (byteOf rom q)) 2 1 (λ t. omega arith) (λ t. omega arith)
 
-pub cut-off : (s : Scene) → s .state .length ≤ s .state .place → tokenOf s ≡ refuse 10 s
-unfolding tokenOf readOf decodeOf wholeOf
+pub cut-off : (s : Scene) → s .state .length ≤ s .state .place → tokenTurn s ≡ refuse 10 s
+unfolding tokenTurn readOf decodeOf tokenIfWhole
 cut-off s l = rw (lt-ltb (s .state .length) _ beyond)
   where
     first : s .state .place < behindNumber (s .rom) (s .state .place)
-    first = pick-is (λ x. s .state .place < s .state .place + x) (isDouble (byteOf (s .rom) (s .state .place))) 2 1 (λ t. omega arith) (λ t. omega arith)
+    first = pick-is (λ x. s .state .place < s .state .place + x) (isDouble (byteOf (s .rom) (s .state .place))) 2 1 (λ t. omega arith)
+        (λ t. omega arith)
 
     beyond : s .state .length
-        < behindOf (s .rom) (s .state .wide) (behindNumber (s .rom) (s .state .place)) (formIn (codeOf (numberOf (s .rom) (s .state .place))))
+        < behindOf (s .rom) (s .state .wide) (behindNumber (s .rom) (s .state .place))
+        (formIn (codeOf (numberOf (s .rom) (s .state .place))))
     beyond =
         let a = first in
-        let b = behind-form (s .rom) (s .state .wide) (behindNumber (s .rom) (s .state .place)) (formIn (codeOf (numberOf (s .rom) (s .state .place)))) in
+        let b = behind-form (s .rom) (s .state .wide) (behindNumber (s .rom) (s .state .place))
+        (formIn (codeOf (numberOf (s .rom) (s .state .place)))) in
         omega arith

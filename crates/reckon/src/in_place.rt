@@ -7,8 +7,9 @@ ghost use Prim.Native.Nat.{ℕ, _≤_, _<_, _+_};
 ghost use lib.ListN.{length};
 ghost use Rattle.rom.specs.Bytes.{byteOf, word32Of};
 ghost use Rattle.rom.specs.Branch.{aimOf, placeIn};
-ghost use Rattle.state.specs.Apart.{baseIn};
-ghost use Rattle.reckon.specs.Fast.{behindBranch, Holds, Reads, Fast};
+ghost use Rattle.state.specs.Joints.Apart.{baseIn};
+ghost use Rattle.reckon.specs.Joints.Fast.{behindBranch, HoldsFast, Reads, Fast};
+ghost use Rattle.rom.specs.Sizes.{dataMost, returnMost, romMost};
 use crate::reckon::by_one;
 use crate::reckon::by_three;
 use crate::reckon::by_two;
@@ -38,10 +39,13 @@ use crate::turned::cold;
 use crate::turned::on;
 use crate::turned::refuse;
 use rom::destination;
+use rom::sizes::DATA_MOST;
+use rom::sizes::FRAMES_MOST;
+use rom::sizes::RETURN_MOST;
 use state::base;
 
 fn behind_branch(wide: bool, place: u32) -> u32
-    requires { ⌜ place ≤ 16384 ⌝ }
+    requires { ⌜ place ≤ romMost ⌝ }
     ensures { λ r. ⌜ r ≡ behindBranch wide place ⌝ }
 {
     if wide { place + 1 + 2 } else { place + 1 + 1 }
@@ -49,7 +53,7 @@ fn behind_branch(wide: bool, place: u32) -> u32
 
 // Where the branch at a place leads, 0 for outside.
 fn branch_to(rom: &[u8], length: u32, wide: bool, place: u32) -> u32
-    requires { ⌜ place ≤ 16384 ⌝ }
+    requires { ⌜ place ≤ romMost ⌝ }
     ensures { λ r. ⌜ r ≡ placeIn (aimOf (now (rom .entry)) length wide (place + 1)) ⌝ }
 {
     destination(rom, length, wide, place + 1)
@@ -75,8 +79,15 @@ fn word_at(rom: &[u8], at: usize) -> u32
 }
 
 // 10 b(lit)
-fn literal(rom: &[u8], length: u32, stack: &mut [u32; 64], h: usize, b: usize, place: u32) -> Turned
-    requires { ⌜ (h ≤ 64) × (b ≤ 32) × (place < length) × (length ≤ 16384) × Holds (now rom) length ⌝ }
+fn literal(
+    rom: &[u8],
+    length: u32,
+    stack: &mut [u32; DATA_MOST],
+    h: usize,
+    b: usize,
+    place: u32,
+) -> Turned
+    requires { ⌜ (h ≤ dataMost) × (b ≤ returnMost) × (place < length) × (length ≤ romMost) × HoldsFast (now rom) length ⌝ }
     ensures { λ r. ⌜ ((wide : Bool) → Reads 0x10 (now (rom .entry)) length wide (now (stack .entry)) h b place r (now (stack .exit))) ⌝ }
 {
     if length < place + 5 {
@@ -92,7 +103,7 @@ fn literal(rom: &[u8], length: u32, stack: &mut [u32; 64], h: usize, b: usize, p
 
 // 13 bbranch
 fn always(rom: &[u8], length: u32, wide: bool, h: usize, b: usize, place: u32) -> Turned
-    requires { ⌜ (h ≤ 64) × (b ≤ 32) × (place < length) × (length ≤ 16384) ⌝ }
+    requires { ⌜ (h ≤ dataMost) × (b ≤ returnMost) × (place < length) × (length ≤ romMost) ⌝ }
     ensures { λ r. ⌜ ((c : List ℕ) → Reads 0x13 (now (rom .entry)) length wide c h b place r c) ⌝ }
 {
     if length < behind_branch(wide, place) {
@@ -110,12 +121,12 @@ fn choose(
     rom: &[u8],
     length: u32,
     wide: bool,
-    stack: &[u32; 64],
+    stack: &[u32; DATA_MOST],
     h: usize,
     b: usize,
     place: u32,
 ) -> Turned
-    requires { ⌜ (h ≤ 64) × (b ≤ 32) × (place < length) × (length ≤ 16384) ⌝ }
+    requires { ⌜ (h ≤ dataMost) × (b ≤ returnMost) × (place < length) × (length ≤ romMost) ⌝ }
     ensures { λ r. ⌜ Reads 0x14 (now (rom .entry)) length wide (now (stack .entry)) h b place r (now (stack .entry)) ⌝ }
 {
     let next = behind_branch(wide, place);
@@ -142,16 +153,16 @@ pub fn fast(
     rom: &[u8],
     length: u32,
     wide: bool,
-    stack: &mut [u32; 64],
-    back: &mut [u32; 32],
+    stack: &mut [u32; DATA_MOST],
+    back: &mut [u32; RETURN_MOST],
     h: usize,
     b: usize,
-    bases: &[usize; 16],
+    bases: &[usize; FRAMES_MOST],
     frames: usize,
     place: u32,
 ) -> Turned
-    requires { ⌜ (h ≤ 64) × (baseIn (now bases) frames ≤ b) × (b ≤ 32) × (8 ≤ place) × (place ≤ length) × (length ≤ 16384)
-        × Holds (now rom) length ⌝ }
+    requires { ⌜ (h ≤ dataMost) × (baseIn (now bases) frames ≤ b) × (b ≤ returnMost) × (8 ≤ place) × (place ≤ length) × (length ≤ romMost)
+        × HoldsFast (now rom) length ⌝ }
     ensures { λ r. ⌜ Fast (now (rom .entry)) length wide (baseIn (now (bases .entry)) frames) (now (stack .entry)) h
         (now (back .entry)) b place r (now (stack .exit)) (now (back .exit)) ⌝ }
 {

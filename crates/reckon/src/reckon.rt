@@ -5,23 +5,26 @@ ghost use mathlib.Core.Path.{_≡_};
 ghost use mathlib.Core.List.{List};
 ghost use Prim.Native.Nat.{ℕ, _+_, _^_, _≤_, _<_};
 ghost use Rattle.state.specs.Stacks.{turnedOf};
-ghost use Rattle.reckon.specs.Reckoned.{Like, OfNone, OfOne, OfTwo, OfThree};
-ghost use Rattle.reckon.specs.Fast.{OnData, OnBoth};
+ghost use Rattle.reckon.specs.Joints.Reckoned.{Like, OfNone, OfOne, OfTwo, OfThree};
+ghost use Rattle.reckon.specs.Joints.Fast.{OnData, OnBoth};
+ghost use Rattle.rom.specs.Sizes.{dataMost, returnMost, romMost};
 use crate::turned::Turned;
 use crate::turned::on;
 use crate::turned::refuse;
+use rom::sizes::DATA_MOST;
+use rom::sizes::RETURN_MOST;
 
 // 7B noop, B1 b(<mark), B2 b(>resolve)
 pub fn nothing(number: u32, h: usize, b: usize, place: u32) -> Turned
-    requires { ⌜ Like number 0x7B × (h ≤ 64) × (b ≤ 32) × (place < 16384) ⌝ }
+    requires { ⌜ Like number 0x7B × (h ≤ dataMost) × (b ≤ returnMost) × (place < romMost) ⌝ }
     ensures { λ r. ⌜ ((c : List ℕ) → OnData number c h b place r c) ⌝ }
 {
     on(h, b, place + 1)
 }
 
 // A4 to A8, 51 depth
-pub fn push(number: u32, stack: &mut [u32; 64], h: usize, b: usize, place: u32) -> Turned
-    requires { ⌜ Like number 0xA5 × (h ≤ 64) × (b ≤ 32) × (place < 16384) ⌝ }
+pub fn push(number: u32, stack: &mut [u32; DATA_MOST], h: usize, b: usize, place: u32) -> Turned
+    requires { ⌜ Like number 0xA5 × (h ≤ dataMost) × (b ≤ returnMost) × (place < romMost) ⌝ }
     ensures { λ r. ⌜ OnData number (now (stack .entry)) h b place r (now (stack .exit)) ⌝ }
 {
     if 64 <= h {
@@ -32,8 +35,8 @@ pub fn push(number: u32, stack: &mut [u32; 64], h: usize, b: usize, place: u32) 
 }
 
 // A token of the top cell alone
-pub fn by_one(number: u32, stack: &mut [u32; 64], h: usize, b: usize, place: u32) -> Turned
-    requires { ⌜ Like number 0x26 × (h ≤ 64) × (b ≤ 32) × (place < 16384) ⌝ }
+pub fn by_one(number: u32, stack: &mut [u32; DATA_MOST], h: usize, b: usize, place: u32) -> Turned
+    requires { ⌜ Like number 0x26 × (h ≤ dataMost) × (b ≤ returnMost) × (place < romMost) ⌝ }
     ensures { λ r. ⌜ OnData number (now (stack .entry)) h b place r (now (stack .exit)) ⌝ }
 {
     if h < 1 {
@@ -44,8 +47,8 @@ pub fn by_one(number: u32, stack: &mut [u32; 64], h: usize, b: usize, place: u32
 }
 
 // A token of the two highest cells
-pub fn by_two(number: u32, stack: &mut [u32; 64], h: usize, b: usize, place: u32) -> Turned
-    requires { ⌜ Like number 0x1E × (h ≤ 64) × (b ≤ 32) × (place < 16384) ⌝ }
+pub fn by_two(number: u32, stack: &mut [u32; DATA_MOST], h: usize, b: usize, place: u32) -> Turned
+    requires { ⌜ Like number 0x1E × (h ≤ dataMost) × (b ≤ returnMost) × (place < romMost) ⌝ }
     ensures { λ r. ⌜ OnData number (now (stack .entry)) h b place r (now (stack .exit)) ⌝ }
 {
     if h < 2 {
@@ -56,8 +59,8 @@ pub fn by_two(number: u32, stack: &mut [u32; 64], h: usize, b: usize, place: u32
 }
 
 // A token of the three highest cells
-pub fn by_three(number: u32, stack: &mut [u32; 64], h: usize, b: usize, place: u32) -> Turned
-    requires { ⌜ Like number 0x44 × (h ≤ 64) × (b ≤ 32) × (place < 16384) ⌝ }
+pub fn by_three(number: u32, stack: &mut [u32; DATA_MOST], h: usize, b: usize, place: u32) -> Turned
+    requires { ⌜ Like number 0x44 × (h ≤ dataMost) × (b ≤ returnMost) × (place < romMost) ⌝ }
     ensures { λ r. ⌜ OnData number (now (stack .entry)) h b place r (now (stack .exit)) ⌝ }
 {
     if h < 3 {
@@ -69,7 +72,7 @@ pub fn by_three(number: u32, stack: &mut [u32; 64], h: usize, b: usize, place: u
 
 // 46 drop
 pub fn drop_one(h: usize, b: usize, place: u32) -> Turned
-    requires { ⌜ (h ≤ 64) × (b ≤ 32) × (place < 16384) ⌝ }
+    requires { ⌜ (h ≤ dataMost) × (b ≤ returnMost) × (place < romMost) ⌝ }
     ensures { λ r. ⌜ ((c : List ℕ) → OnData 0x46 c h b place r c) ⌝ }
 {
     if h < 1 {
@@ -80,7 +83,7 @@ pub fn drop_one(h: usize, b: usize, place: u32) -> Turned
 
 // 52 2drop
 pub fn drop_two(h: usize, b: usize, place: u32) -> Turned
-    requires { ⌜ (h ≤ 64) × (b ≤ 32) × (place < 16384) ⌝ }
+    requires { ⌜ (h ≤ dataMost) × (b ≤ returnMost) × (place < romMost) ⌝ }
     ensures { λ r. ⌜ ((c : List ℕ) → OnData 0x52 c h b place r c) ⌝ }
 {
     if h < 2 {
@@ -90,8 +93,8 @@ pub fn drop_two(h: usize, b: usize, place: u32) -> Turned
 }
 
 // 47 dup
-pub fn dup(stack: &mut [u32; 64], h: usize, b: usize, place: u32) -> Turned
-    requires { ⌜ (h ≤ 64) × (b ≤ 32) × (place < 16384) ⌝ }
+pub fn dup(stack: &mut [u32; DATA_MOST], h: usize, b: usize, place: u32) -> Turned
+    requires { ⌜ (h ≤ dataMost) × (b ≤ returnMost) × (place < romMost) ⌝ }
     ensures { λ r. ⌜ OnData 0x47 (now (stack .entry)) h b place r (now (stack .exit)) ⌝ }
 {
     if h < 1 {
@@ -105,8 +108,8 @@ pub fn dup(stack: &mut [u32; 64], h: usize, b: usize, place: u32) -> Turned
 }
 
 // 48 over
-pub fn over(stack: &mut [u32; 64], h: usize, b: usize, place: u32) -> Turned
-    requires { ⌜ (h ≤ 64) × (b ≤ 32) × (place < 16384) ⌝ }
+pub fn over(stack: &mut [u32; DATA_MOST], h: usize, b: usize, place: u32) -> Turned
+    requires { ⌜ (h ≤ dataMost) × (b ≤ returnMost) × (place < romMost) ⌝ }
     ensures { λ r. ⌜ OnData 0x48 (now (stack .entry)) h b place r (now (stack .exit)) ⌝ }
 {
     if h < 2 {
@@ -120,8 +123,8 @@ pub fn over(stack: &mut [u32; 64], h: usize, b: usize, place: u32) -> Turned
 }
 
 // 4C tuck
-pub fn tuck(stack: &mut [u32; 64], h: usize, b: usize, place: u32) -> Turned
-    requires { ⌜ (h ≤ 64) × (b ≤ 32) × (place < 16384) ⌝ }
+pub fn tuck(stack: &mut [u32; DATA_MOST], h: usize, b: usize, place: u32) -> Turned
+    requires { ⌜ (h ≤ dataMost) × (b ≤ returnMost) × (place < romMost) ⌝ }
     ensures { λ r. ⌜ OnData 0x4C (now (stack .entry)) h b place r (now (stack .exit)) ⌝ }
 {
     if h < 2 {
@@ -139,8 +142,8 @@ pub fn tuck(stack: &mut [u32; 64], h: usize, b: usize, place: u32) -> Turned
 }
 
 // 49 swap
-pub fn swap(stack: &mut [u32; 64], h: usize, b: usize, place: u32) -> Turned
-    requires { ⌜ (h ≤ 64) × (b ≤ 32) × (place < 16384) ⌝ }
+pub fn swap(stack: &mut [u32; DATA_MOST], h: usize, b: usize, place: u32) -> Turned
+    requires { ⌜ (h ≤ dataMost) × (b ≤ returnMost) × (place < romMost) ⌝ }
     ensures { λ r. ⌜ OnData 0x49 (now (stack .entry)) h b place r (now (stack .exit)) ⌝ }
 {
     if h < 2 {
@@ -153,8 +156,8 @@ pub fn swap(stack: &mut [u32; 64], h: usize, b: usize, place: u32) -> Turned
 }
 
 // 4A rot
-pub fn rot(stack: &mut [u32; 64], h: usize, b: usize, place: u32) -> Turned
-    requires { ⌜ (h ≤ 64) × (b ≤ 32) × (place < 16384) ⌝ }
+pub fn rot(stack: &mut [u32; DATA_MOST], h: usize, b: usize, place: u32) -> Turned
+    requires { ⌜ (h ≤ dataMost) × (b ≤ returnMost) × (place < romMost) ⌝ }
     ensures { λ r. ⌜ OnData 0x4A (now (stack .entry)) h b place r (now (stack .exit)) ⌝ }
 {
     if h < 3 {
@@ -170,8 +173,8 @@ pub fn rot(stack: &mut [u32; 64], h: usize, b: usize, place: u32) -> Turned
 }
 
 // 4B -rot
-pub fn rot_back(stack: &mut [u32; 64], h: usize, b: usize, place: u32) -> Turned
-    requires { ⌜ (h ≤ 64) × (b ≤ 32) × (place < 16384) ⌝ }
+pub fn rot_back(stack: &mut [u32; DATA_MOST], h: usize, b: usize, place: u32) -> Turned
+    requires { ⌜ (h ≤ dataMost) × (b ≤ returnMost) × (place < romMost) ⌝ }
     ensures { λ r. ⌜ OnData 0x4B (now (stack .entry)) h b place r (now (stack .exit)) ⌝ }
 {
     if h < 3 {
@@ -187,8 +190,8 @@ pub fn rot_back(stack: &mut [u32; 64], h: usize, b: usize, place: u32) -> Turned
 }
 
 // 53 2dup
-pub fn dup_two(stack: &mut [u32; 64], h: usize, b: usize, place: u32) -> Turned
-    requires { ⌜ (h ≤ 64) × (b ≤ 32) × (place < 16384) ⌝ }
+pub fn dup_two(stack: &mut [u32; DATA_MOST], h: usize, b: usize, place: u32) -> Turned
+    requires { ⌜ (h ≤ dataMost) × (b ≤ returnMost) × (place < romMost) ⌝ }
     ensures { λ r. ⌜ OnData 0x53 (now (stack .entry)) h b place r (now (stack .exit)) ⌝ }
 {
     if h < 2 {
@@ -205,8 +208,8 @@ pub fn dup_two(stack: &mut [u32; 64], h: usize, b: usize, place: u32) -> Turned
 }
 
 // 54 2over
-pub fn over_two(stack: &mut [u32; 64], h: usize, b: usize, place: u32) -> Turned
-    requires { ⌜ (h ≤ 64) × (b ≤ 32) × (place < 16384) ⌝ }
+pub fn over_two(stack: &mut [u32; DATA_MOST], h: usize, b: usize, place: u32) -> Turned
+    requires { ⌜ (h ≤ dataMost) × (b ≤ returnMost) × (place < romMost) ⌝ }
     ensures { λ r. ⌜ OnData 0x54 (now (stack .entry)) h b place r (now (stack .exit)) ⌝ }
 {
     if h < 4 {
@@ -223,8 +226,8 @@ pub fn over_two(stack: &mut [u32; 64], h: usize, b: usize, place: u32) -> Turned
 }
 
 // 55 2swap
-pub fn swap_two(stack: &mut [u32; 64], h: usize, b: usize, place: u32) -> Turned
-    requires { ⌜ (h ≤ 64) × (b ≤ 32) × (place < 16384) ⌝ }
+pub fn swap_two(stack: &mut [u32; DATA_MOST], h: usize, b: usize, place: u32) -> Turned
+    requires { ⌜ (h ≤ dataMost) × (b ≤ returnMost) × (place < romMost) ⌝ }
     ensures { λ r. ⌜ OnData 0x55 (now (stack .entry)) h b place r (now (stack .exit)) ⌝ }
 {
     if h < 4 {
@@ -242,8 +245,8 @@ pub fn swap_two(stack: &mut [u32; 64], h: usize, b: usize, place: u32) -> Turned
 }
 
 // 56 2rot
-pub fn rot_two(stack: &mut [u32; 64], h: usize, b: usize, place: u32) -> Turned
-    requires { ⌜ (h ≤ 64) × (b ≤ 32) × (place < 16384) ⌝ }
+pub fn rot_two(stack: &mut [u32; DATA_MOST], h: usize, b: usize, place: u32) -> Turned
+    requires { ⌜ (h ≤ dataMost) × (b ≤ returnMost) × (place < romMost) ⌝ }
     ensures { λ r. ⌜ OnData 0x56 (now (stack .entry)) h b place r (now (stack .exit)) ⌝ }
 {
     if h < 6 {
@@ -265,8 +268,14 @@ pub fn rot_two(stack: &mut [u32; 64], h: usize, b: usize, place: u32) -> Turned
 }
 
 // 30 >r
-pub fn to_return(stack: &[u32; 64], back: &mut [u32; 32], h: usize, b: usize, place: u32) -> Turned
-    requires { ⌜ (h ≤ 64) × (b ≤ 32) × (place < 16384) ⌝ }
+pub fn to_return(
+    stack: &[u32; DATA_MOST],
+    back: &mut [u32; RETURN_MOST],
+    h: usize,
+    b: usize,
+    place: u32,
+) -> Turned
+    requires { ⌜ (h ≤ dataMost) × (b ≤ returnMost) × (place < romMost) ⌝ }
     ensures { λ r. ⌜ ((base : ℕ) → OnBoth 0x30 base (now (stack .entry)) h (now (back .entry)) b place r (now (stack .entry))
         (now (back .exit))) ⌝ }
 {
@@ -282,14 +291,14 @@ pub fn to_return(stack: &[u32; 64], back: &mut [u32; 32], h: usize, b: usize, pl
 
 // 31 r>
 pub fn from_return(
-    stack: &mut [u32; 64],
-    back: &[u32; 32],
+    stack: &mut [u32; DATA_MOST],
+    back: &[u32; RETURN_MOST],
     h: usize,
     b: usize,
     base: usize,
     place: u32,
 ) -> Turned
-    requires { ⌜ (h ≤ 64) × (b ≤ 32) × (place < 16384) ⌝ }
+    requires { ⌜ (h ≤ dataMost) × (b ≤ returnMost) × (place < romMost) ⌝ }
     ensures { λ r. ⌜ OnBoth 0x31 base (now (stack .entry)) h (now (back .entry)) b place r (now (stack .exit)) (now (back .entry)) ⌝ }
 {
     if b <= base {
@@ -304,14 +313,14 @@ pub fn from_return(
 
 // 32 r@
 pub fn copy_return(
-    stack: &mut [u32; 64],
-    back: &[u32; 32],
+    stack: &mut [u32; DATA_MOST],
+    back: &[u32; RETURN_MOST],
     h: usize,
     b: usize,
     base: usize,
     place: u32,
 ) -> Turned
-    requires { ⌜ (h ≤ 64) × (b ≤ 32) × (place < 16384) ⌝ }
+    requires { ⌜ (h ≤ dataMost) × (b ≤ returnMost) × (place < romMost) ⌝ }
     ensures { λ r. ⌜ OnBoth 0x32 base (now (stack .entry)) h (now (back .entry)) b place r (now (stack .exit)) (now (back .entry)) ⌝ }
 {
     if b <= base {
@@ -326,7 +335,7 @@ pub fn copy_return(
 
 // What a token pushes that takes nothing.
 fn said(number: u32, h: usize) -> u32
-    requires { ⌜ Like number 0xA5 × (h ≤ 64) ⌝ }
+    requires { ⌜ Like number 0xA5 × (h ≤ dataMost) ⌝ }
     ensures { λ r. ⌜ OfNone number h r ⌝ }
 {
     match number {
@@ -407,8 +416,8 @@ fn three(number: u32, c: u32, b: u32, a: u32) -> u32
 }
 
 // 2B u/mod: the remainder stands under the quotient.
-pub fn divide(stack: &mut [u32; 64], h: usize, b: usize, place: u32) -> Turned
-    requires { ⌜ (h ≤ 64) × (b ≤ 32) × (place < 16384) ⌝ }
+pub fn divide(stack: &mut [u32; DATA_MOST], h: usize, b: usize, place: u32) -> Turned
+    requires { ⌜ (h ≤ dataMost) × (b ≤ returnMost) × (place < romMost) ⌝ }
     ensures { λ r. ⌜ OnData 0x2B (now (stack .entry)) h b place r (now (stack .exit)) ⌝ }
 {
     if h < 2 {
@@ -436,8 +445,8 @@ fn count_of(a: u32) -> usize
 }
 
 // 4E pick
-pub fn pick_up(stack: &mut [u32; 64], h: usize, b: usize, place: u32) -> Turned
-    requires { ⌜ (h ≤ 64) × (b ≤ 32) × (place < 16384) ⌝ }
+pub fn pick_up(stack: &mut [u32; DATA_MOST], h: usize, b: usize, place: u32) -> Turned
+    requires { ⌜ (h ≤ dataMost) × (b ≤ returnMost) × (place < romMost) ⌝ }
     ensures { λ r. ⌜ OnData 0x4E (now (stack .entry)) h b place r (now (stack .exit)) ⌝ }
 {
     if h < 1 {
@@ -452,8 +461,8 @@ pub fn pick_up(stack: &mut [u32; 64], h: usize, b: usize, place: u32) -> Turned
 }
 
 // 4F roll
-pub fn roll_up(stack: &mut [u32; 64], h: usize, b: usize, place: u32) -> Turned
-    requires { ⌜ (h ≤ 64) × (b ≤ 32) × (place < 16384) ⌝ }
+pub fn roll_up(stack: &mut [u32; DATA_MOST], h: usize, b: usize, place: u32) -> Turned
+    requires { ⌜ (h ≤ dataMost) × (b ≤ returnMost) × (place < romMost) ⌝ }
     ensures { λ r. ⌜ OnData 0x4F (now (stack .entry)) h b place r (now (stack .exit)) ⌝ }
 {
     if h < 1 {
@@ -468,8 +477,8 @@ pub fn roll_up(stack: &mut [u32; 64], h: usize, b: usize, place: u32) -> Turned
 }
 
 // Moves the cell at a place above so many others, each of which comes one down, and gives the place where it then stands.
-fn turn(stack: &mut [u32; 64], start: usize, count: usize) -> usize
-    requires { ⌜ start + count < 64 ⌝ }
+fn turn(stack: &mut [u32; DATA_MOST], start: usize, count: usize) -> usize
+    requires { ⌜ start + count < dataMost ⌝ }
     ensures { λ r. ⌜ (r ≡ start + count) × (now (stack .exit) ≡ turnedOf (now (stack .entry)) start count) ⌝ }
 {
     let first = stack[start];
@@ -484,8 +493,8 @@ fn turn(stack: &mut [u32; 64], start: usize, count: usize) -> usize
 }
 
 // 50 ?dup
-pub fn maybe(stack: &mut [u32; 64], h: usize, b: usize, place: u32) -> Turned
-    requires { ⌜ (h ≤ 64) × (b ≤ 32) × (place < 16384) ⌝ }
+pub fn maybe(stack: &mut [u32; DATA_MOST], h: usize, b: usize, place: u32) -> Turned
+    requires { ⌜ (h ≤ dataMost) × (b ≤ returnMost) × (place < romMost) ⌝ }
     ensures { λ r. ⌜ OnData 0x50 (now (stack .entry)) h b place r (now (stack .exit)) ⌝ }
 {
     if h < 1 {

@@ -1,6 +1,6 @@
 // How a token in place ended.
 ghost use mathlib.Core.Path.{_≡_};
-ghost use Rattle.reckon.specs.Fast.{turned};
+ghost use Rattle.reckon.specs.Joints.Fast.{turned};
 ghost use Rattle.reckon.specs.declared.turned.Fared.the-variants.{On, Cold, Not};
 
 // It was carried out; or it is none of those that are done in place, and is left as it was; or it is refused, and why.

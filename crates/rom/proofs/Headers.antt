@@ -9,17 +9,18 @@ use lib.ListN.{length}
 use Rattle.rom.specs.Bytes.{byteOf}
 use Rattle.rom.specs.Sum.{sumOf}
 use Rattle.rom.specs.Header.{startOf, lengthOf, checksumOf, headerOf}
+use Rattle.rom.specs.Sizes.{romLeast, romMost}
 
 module _ (rom : List ℕ) where
   pub too-short : length rom < 8 → 1 ≡ headerOf rom
   unfolding headerOf
   too-short h = simp (lt-ltb _ _ h)
 
-  pub too-long : 8 ≤ length rom → 16384 < length rom → 1 ≡ headerOf rom
+  pub too-long : romLeast ≤ length rom → romMost < length rom → 1 ≡ headerOf rom
   unfolding headerOf
   too-long h k = simp (le-ltb _ _ h, lt-ltb _ _ k)
 
-  module _ (h : 8 ≤ length rom) (k : length rom ≤ 16384) where
+  module _ (h : romLeast ≤ length rom) (k : length rom ≤ romMost) where
     pub no-start : startOf rom ≡ false → 2 ≡ headerOf rom
     unfolding headerOf
     no-start s = rw (le-ltb _ _ h, le-ltb _ _ k, s)

@@ -4,7 +4,7 @@ use mathlib.Core.Path.{_≡_, ap}
 use native.Mathlib.Omega.{arith}
 use borrow.Author.Tests.{lt-ltb, le-ltb}
 use lib.IntN.{pos, negsuc, subℕ}
-use Rattle.rom.specs.Branch.{shifted}
+use Rattle.rom.specs.Laws.Branch.{shifted}
 
 module _ (at range bits : ℕ) where
   pub forward : bits < range / 2 → shifted at range bits ≡ pos (at + bits)

@@ -1,6 +1,6 @@
 -- Where a branch leads: "A branch offset is signed two's complement, counted from the offset's first byte", of 8 bits or of 16, by the
 -- offset width in force. Refusal 19: "taken branch to outside 8..length-1". Assumes nothing.
-use Prim.Native.Nat.{ℕ, _-_, _/_}
+use Prim.Native.Nat.{ℕ}
 use mathlib.Core.Bool.{Bool, _&&_}
 use mathlib.Core.List.{List}
 use lib.Dec.{ltb, leb}
@@ -32,8 +32,3 @@ aimOf rom length wide at = landing length (destinationOf rom wide at)
 abbrev pub placeIn : Aim → ℕ
 placeIn (Inside to) = to
 placeIn Outside = 0
-
--- for the code's own steps: the place that an offset of `range` values leads to, the upper half of them negative, which is `destinationOf` for either
--- width
-abbrev pub shifted : ℕ → ℕ → ℕ → ℤ
-shifted at range bits = pos at +ℤ pick (ltb bits (range / 2)) (pos bits) (negsuc (range - 1 - bits))

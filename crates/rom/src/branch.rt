@@ -1,7 +1,8 @@
 ghost use mathlib.Core.Path.{_≡_};
 ghost use Prim.Native.Nat.{_<_};
 ghost use lib.IntN.{pos};
-ghost use Rattle.rom.specs.Branch.{offsetOf, aimOf, landing, placeIn, shifted};
+ghost use Rattle.rom.specs.Branch.{offsetOf, aimOf, landing, placeIn};
+ghost use Rattle.rom.specs.Laws.Branch.{shifted};
 use crate::bytes::byte;
 use crate::bytes::word16;
 use crate::sizes::FIRST_PLACE;

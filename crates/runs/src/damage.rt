@@ -1,5 +1,6 @@
-// The conditions of refusal 7, in the order of its row in document 01, each under a number of its own. The state to damage has two open
-// calls with bases 0 and 1 and two return cells, a colon definition as its oldest number, three nodes, and a property.
+// The conditions of refusal 7, in the order of its row in document 01 and behind them those of the first node, each under a number of its
+// own. The state to damage has two open calls with bases 0 and 1 and two return cells, a colon definition as its oldest number, three
+// nodes, and a property.
 use state::Back;
 use state::Calls;
 use state::Numbers;
@@ -60,11 +61,22 @@ fn other_numbers(k: u32, numbers: Numbers, length: u32) -> Numbers {
     n.values[0] = other_place(k, 17, 18, numbers.values[0], length);
     match k {
         4 => n.count = 257,
-        11 => n.names[0] = 0x7FF,
-        12 => n.names[0] = 0x1000,
+        11 => n.programs[0] = 0x7FF,
+        12 => n.programs[0] = 0x1000,
         _ => {}
     }
     n
+}
+
+// A node that is absent, or the root, where k is one of these two numbers.
+fn other_node(k: u32, absent: u32, root: u32, node: u32) -> u32 {
+    if k == absent {
+        return 3;
+    }
+    if k == root {
+        return 0;
+    }
+    node
 }
 
 fn other_nodes(k: u32, tree: Tree) -> Tree {
@@ -72,8 +84,6 @@ fn other_nodes(k: u32, tree: Tree) -> Tree {
     match k {
         5 => t.nodes = 1,
         6 => t.nodes = 33,
-        21 => t.active = 3,
-        23 => t.active = 0,
         24 => t.parents[2] = 2,
         25 => t.parents[1] = 1,
         26 => t.parents[0] = 1,
@@ -86,11 +96,11 @@ fn other_tree(k: u32, tree: Tree) -> Tree {
     let mut t = other_nodes(k, tree);
     match k {
         7 => t.held = 129,
-        8 => t.names[0] = 0,
-        9 => t.names[0] = 32,
-        10 => t.values[0] = 16385,
+        8 => t.name_sizes[0] = 0,
+        9 => t.name_sizes[0] = 32,
+        10 => t.value_sizes[0] = 16385,
         22 => t.owners[0] = 3,
-        27 => t.values[0] = 16384,
+        27 => t.value_sizes[0] = 16384,
         _ => {}
     }
     t
@@ -101,6 +111,8 @@ pub fn damaged(k: u32, st: State) -> State {
     let mut n = st;
     n.place = other_place(k, 13, 14, st.place, st.length);
     n.work_place = other_work_place(k, st.work_place);
+    n.active = other_node(k, 21, 23, st.active);
+    n.first = other_node(k, 28, 29, st.first);
     let stack = other_stack(k, st.stack);
     let back = other_back(k, st.back);
     let calls = other_calls(k, st.calls, st.length);

@@ -5,7 +5,6 @@
 mod damage;
 mod evaluator;
 mod finds;
-mod line;
 mod odd;
 mod orders;
 mod same;
@@ -16,14 +15,14 @@ mod trial;
 
 ghost use Prim.Native.Nat.{_≤_, _<_};
 ghost use lib.ListN.{length};
-use crate::line::bytes_from;
-use crate::line::digits_at;
-use crate::line::mark_from;
 use crate::odd::show_odd;
 use crate::orders::show_orders;
 use crate::say::say;
 use crate::trial::show_damaged;
 use crate::trial::show_run;
+use given::bytes_from;
+use given::digits_at;
+use given::mark_from;
 use libc::STDIN_FILENO;
 
 // R: a ROM and a budget, and the lookups to make then.

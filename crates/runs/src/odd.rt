@@ -11,7 +11,7 @@ use tree::Tree;
 fn odd_numbers(k: u32, numbers: Numbers) -> Numbers {
     let mut n = numbers;
     match k {
-        0 => n.names[2] = 0x801,
+        0 => n.programs[2] = 0x801,
         1 => n.kinds[0] = 200,
         _ => {}
     }

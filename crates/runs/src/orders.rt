@@ -81,7 +81,7 @@ fn zero_state() -> State {
         count: 0,
     };
     let numbers = Numbers {
-        names: [0u32; 256],
+        programs: [0u32; 256],
         kinds: [0u8; 256],
         values: [0u32; 256],
         wides: [false; 256],
@@ -97,6 +97,8 @@ fn zero_state() -> State {
         calls: calls,
         numbers: numbers,
         work_place: 0,
+        active: 0,
+        first: 0,
         tree: tree::no_tree(),
     }
 }

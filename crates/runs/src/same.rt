@@ -72,21 +72,21 @@ fn same_calls(a: Calls, b: Calls) -> bool {
 
 fn same_numbers(a: Numbers, b: Numbers) -> bool {
     (a.count == b.count)
-        & same_words(&a.names, &b.names)
+        & same_words(&a.programs, &b.programs)
         & same_bytes(&a.kinds, &b.kinds)
         & same_words(&a.values, &b.values)
         & same_flags(&a.wides, &b.wides)
 }
 
 fn same_nodes(a: Tree, b: Tree) -> bool {
-    (a.nodes == b.nodes) & (a.active == b.active) & same_words(&a.parents, &b.parents)
+    (a.nodes == b.nodes) & same_words(&a.parents, &b.parents)
 }
 
 fn same_records(a: Tree, b: Tree) -> bool {
     (a.held == b.held)
         & same_words(&a.owners, &b.owners)
-        & same_words(&a.names, &b.names)
-        & same_words(&a.values, &b.values)
+        & same_words(&a.name_sizes, &b.name_sizes)
+        & same_words(&a.value_sizes, &b.value_sizes)
 }
 
 fn same_front(a: State, b: State) -> bool {
@@ -95,6 +95,8 @@ fn same_front(a: State, b: State) -> bool {
         & (a.wide == b.wide)
         & (a.finished == b.finished)
         & (a.work_place == b.work_place)
+        & (a.active == b.active)
+        & (a.first == b.first)
 }
 
 pub fn same_states(a: State, b: State) -> bool {

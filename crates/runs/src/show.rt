@@ -86,7 +86,7 @@ fn show_numbers(numbers: Numbers) {
     let mut k = 0;
     while k < numbers.count {
         show_number(
-            word_at(&numbers.names, k),
+            word_at(&numbers.programs, k),
             rom::byte(&numbers.kinds, k),
             word_at(&numbers.values, k),
         );
@@ -95,9 +95,9 @@ fn show_numbers(numbers: Numbers) {
     say_one(b'\n');
 }
 
-fn show_nodes(tree: Tree) {
+fn show_nodes(active: u32, tree: Tree) {
     say(b"nodes");
-    say_number(tree.active as u64);
+    say_number(active as u64);
     let mut k = 0;
     while k < tree.nodes {
         say_number(word_at(&tree.parents, k) as u64);
@@ -128,8 +128,8 @@ fn show_properties(tree: Tree, store: &[u8]) {
         if tree.held <= k {
             return;
         }
-        let value = at + length_at(&tree.names, k);
-        let end = value + length_at(&tree.values, k);
+        let value = at + length_at(&tree.name_sizes, k);
+        let end = value + length_at(&tree.value_sizes, k);
         show_property(word_at(&tree.owners, k), store, at, value, end);
         at = end;
         k += 1;
@@ -168,7 +168,7 @@ pub fn show_state(state: State, work: &[u8], store: &[u8]) {
     show_stacks(state.stack, state.back);
     show_calls(state.calls);
     show_numbers(state.numbers);
-    show_nodes(state.tree);
+    show_nodes(state.active, state.tree);
     show_properties(state.tree, store);
     show_memory(state.work_place, work, store);
 }

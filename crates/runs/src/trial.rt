@@ -58,8 +58,8 @@ fn show_opened(
     let ran = run(rom, &mut *work, &mut *store, state, budget);
     let left = ran.state;
     show_left(ran, &*work, &*store);
-    show_rows(left.tree);
-    show_finds(&*store, left.tree, words);
+    show_rows(left);
+    show_finds(&*store, left, words);
 }
 
 fn show_unopened(answer: Answer) {
@@ -140,7 +140,7 @@ pub fn show_damaged(k: u32, rom: &[u8], budget: u32) {
     let mut store = [0u8; 16384];
     let state = state_after(rom, &mut work, &mut store, budget);
     let bad = damaged(k, state);
-    show_damaged_finds(&store, bad.tree);
+    show_damaged_finds(&store, bad);
     say(b"damaged");
     say_number(k as u64);
     show_tried(rom, &mut work, &mut store, bad, 1000);

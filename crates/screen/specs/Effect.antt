@@ -45,16 +45,16 @@ aims (Branch bits aim) = landings aim
 aims (Number n) = []
 aims (Definition n k) = []
 
-abbrev pub none : List ℕ → Bool
-none [] = true
-none (x ∷ xs) = false
+abbrev pub noPlaces : List ℕ → Bool
+noPlaces [] = true
+noPlaces (x ∷ xs) = false
 
 abbrev pub isBranch : Token → Bool
 isBranch t = isA always t || isA choice t
 
 -- 19: a branch, taken or not, that leads to outside 8..length-1
 abbrev pub astray : Token → Bool
-astray t = isBranch t && none (aims (t .operand))
+astray t = isBranch t && noPlaces (aims (t .operand))
 
 -- "by falling through, by bbranch's destination and by both ways of b?branch; finishing, leaving a body .. have no successor". A b(:) leads
 -- past its C2, which its own bytes do not tell.

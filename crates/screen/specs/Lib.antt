@@ -1,39 +1,12 @@
+-- What a token does to heights, and where it leads.
 pub mod Effect
+-- Which tokens are reachable.
 pub mod Reach
+-- The height rules: what an assignment of heights is.
 pub mod Rules
-pub mod Model
-pub mod Screen
+-- The screen's promise: which answer, and which marks.
 pub mod Promise
-pub mod ReachLaws
-pub mod TokenFacts
-pub mod Ways
-pub mod InForce
-pub mod CodeLaws
-pub mod Visits
-pub mod Walking
-pub mod Apart
-pub mod Marking
-pub mod Tallying
-pub mod Room
-pub mod Shifting
-pub mod Advancing
-pub mod Rounds
-pub mod Boards
-pub mod Chains
-pub mod Roots
-pub mod Cover
-pub mod AcceptSpots
-pub mod AcceptCells
-pub mod Accept
-pub mod ExactRound
-pub mod ExactBody
-pub mod Exact
-pub mod Agree
-pub mod Laid
-pub mod Exactly
-pub mod VisitLaws
-pub mod WalkLaws
-pub mod BodyLaws
-pub mod KeepLaws
-pub mod RoundLaws
-pub mod ScreenLaws
+-- The screen's verdict, as document 01 numbers it.
+pub mod Numbered
+-- What is only proved: nothing here has to be believed.
+pub mod Laws

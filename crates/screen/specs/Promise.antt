@@ -1,5 +1,5 @@
--- The screen's promise: which answer, and which marks, for every ROM and every mark buffer; it passes a ROM exactly where an assignment exists. Assumes
--- nothing.
+-- The screen's promise: which answer, and which marks, for every ROM and every mark buffer; it passes a ROM exactly where an assignment
+-- exists. Assumes nothing.
 use Prim.Native.Nat.{ℕ, zero, suc}
 use mathlib.Core.Path.{_≡_}
 use mathlib.Core.List.{List}
@@ -25,5 +25,12 @@ pub data Promised (rom before : List ℕ) : Verdict → List ℕ → Type 0 wher
   -- "after header refusals unwritten"
   bad-header : length before ≡ marksSize → headerOf rom ≢ 0 → Promised rom before (Refused (headerOf rom)) before
   -- "31 | no height assignment exists"; "after 31 all zero"
-  no-heights : length before ≡ marksSize → headerOf rom ≡ 0 → (Assignment rom → ⊥) → Promised rom before (Refused 31) (replicate marksSize 0)
-  passes : {marks : List ℕ} → length before ≡ marksSize → headerOf rom ≡ 0 → (a : Assignment rom) → Marks rom a marks → Promised rom before Passes marks
+  no-heights : length before ≡ marksSize → headerOf rom ≡ 0 → (Assignment rom → ⊥)
+      → Promised rom before (Refused 31) (replicate marksSize 0)
+  passes : {marks : List ℕ} → length before ≡ marksSize → headerOf rom ≡ 0 → (a : Assignment rom) → Marks rom a marks
+      → Promised rom before Passes marks
+
+-- 0 for a ROM that passes
+abbrev pub verdictNumber : Verdict → ℕ
+verdictNumber Passes = 0
+verdictNumber (Refused why) = why

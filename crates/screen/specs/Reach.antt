@@ -1,6 +1,6 @@
 -- "The reachable tokens are the least set from position 8, or from the first byte of a reachable b(:)'s body, by falling through, by
--- bbranch's destination and by both ways of b?branch; finishing, leaving a body and a token giving 10, 11, 12 (by rule 5's numbers), 18 or 19
--- have no successor or body. The offset width in force travels with the place. A token reached from position 8 itself counts as outside
+-- bbranch's destination and by both ways of b?branch; finishing, leaving a body and a token giving 10, 11, 12 (by rule 5's numbers), 18 or
+-- 19 have no successor or body. The offset width in force travels with the place. A token reached from position 8 itself counts as outside
 -- bodies wherever it lies". Assumes nothing.
 use Prim.Native.Nat.{ℕ, zero, suc, _-_, _≤_}
 use mathlib.Core.Path.{_≡_}
@@ -23,8 +23,8 @@ pub data In (q : ℕ) : List ℕ → Type 0 where
   here : {qs : List ℕ} → In q (q ∷ qs)
   there : {r : ℕ} {qs : List ℕ} → In q qs → In q (r ∷ qs)
 
--- What is in force where a token is met: the offset width (wide where it is 16), and how many children are open, how many nodes there are and how many
--- numbers are defined.
+-- What is in force where a token is met: the offset width (wide where it is 16), and how many children are open, how many nodes there are
+-- and how many numbers are defined.
 pub record Setting : Type 0 where
   pub wide : Bool
   pub children : ℕ
@@ -101,7 +101,8 @@ pub data Holds (rom : List ℕ) : Claim → Type 0 where
   past-body : {w : Bool} {p q : ℕ} {t : Token} → T (isColon t) → Holds rom (extends w t q) → Holds rom (leads w p t q)
   -- "each number used is defined by a reachable token that lies wholly before it"
   unnamed : {p : ℕ} {t : Token} → T (not (names t)) → Holds rom (known p t)
-  named : {p : ℕ} {t : Token} {s : Setting} {d e : ℕ} {u : Token} → Holds rom (reached 0 s d) → tokenAt rom 0 (s .wide) d ≡ Good u → Named t u
+  named : {p : ℕ} {t : Token} {s : Setting} {d e : ℕ} {u : Token} → Holds rom (reached 0 s d) → tokenAt rom 0 (s .wide) d ≡ Good u
+      → Named t u
       → Holds rom (extends (s .wide) u e) → e ≤ p → Holds rom (known p t)
   -- a token reaches up to the place behind it, a b(:) through its C2
   to-next : {w : Bool} {t : Token} → T (not (isColon t)) → Holds rom (extends w t (t .next))

@@ -12,7 +12,8 @@ use Rattle.tokens.specs.declared.decoding.Token.{Token}
 use Rattle.tokens.specs.declared.read.Read.the-variants.{Good}
 use Rattle.screen.specs.Effect.{isA, allowed, fixes, isColon, aims, isBranch, astray, valueSum, effectOf}
 use Rattle.screen.specs.declared.effect.Sum.{Sum}
-use Rattle.screen.specs.Reach.{In, Setting, nodesAfter, numbersAfter, tokenAt, known, reads, extends, leads, Holds, Reach, Met, Body, Starts}
+use Rattle.screen.specs.Reach.{In, Setting, nodesAfter, numbersAfter, tokenAt, known, reads, extends, leads, Holds, Reach, Met, Body}
+use Rattle.screen.specs.Reach.{Starts}
 
 -- the frame that a text itself is: a body entered by itself takes one
 abbrev pub ownFrame : ℕ → ℕ
@@ -47,22 +48,27 @@ pub record Assignment (rom : List ℕ) : Type 0 where
   -- 4E, 4F and 50 are not allowed"
   pub plain : {x p : ℕ} {s : Setting} {t : Token} → Met rom x s p t → T (allowed t)
   -- 2. "each body has at least one reachable end (33 or C2),
-  pub ended : {s : Setting} {d n c : ℕ} {t : Token} → Body rom s d t n c → (r : Setting) × (p : ℕ) × (u : Token) × Met rom (suc d) r p u × T (isA leave u)
+  pub ended : {s : Setting} {d n c : ℕ} {t : Token} → Body rom s d t n c → (r : Setting) × (p : ℕ) × (u : Token) × Met rom (suc d) r p u
+      × T (isA leave u)
   -- all with one data height and return height at its base;
   pub ends : {s r : Setting} {d n c p : ℕ} {t u : Token} → Body rom s d t n c → Met rom (suc d) r p u → T (isA leave u)
       → (height (suc d) p ≡ sum n .out) × (back (suc d) p ≡ 0)
   -- its reachable branches stay on token starts of the body.
-  pub stays : {s r : Setting} {d n c p q : ℕ} {t u : Token} → Body rom s d t n c → Met rom (suc d) r p u → T (isBranch u) → In q (aims (u .operand))
+  pub stays : {s r : Setting} {d n c p q : ℕ} {t u : Token} → Body rom s d t n c → Met rom (suc d) r p u → T (isBranch u)
+      → In q (aims (u .operand))
       → Starts rom (s .wide) (t .next) q
   -- Its need is the deepest reach below entry,
-  pub need : {s : Setting} {d n c : ℕ} {t : Token} → Body rom s d t n c → Most rom d (λ p u. sum n .need + effectOf sum u .takes - height (suc d) p) (sum n .need)
+  pub need : {s : Setting} {d n c : ℕ} {t : Token} → Body rom s d t n c
+      → Most rom d (λ p u. sum n .need + effectOf sum u .takes - height (suc d) p) (sum n .need)
   -- its peak the highest rise, nested calls included"
   pub peak : {s : Setting} {d n c : ℕ} {t : Token} → Body rom s d t n c
       → Most rom d (λ p u. max (height (suc d) p) (height (suc d) p - effectOf sum u .takes + effectOf sum u .rise)) (sum n .peak)
-  pub returnPeak : {s : Setting} {d n c : ℕ} {t : Token} → Body rom s d t n c → Most rom d (λ p u. back (suc d) p + effectOf sum u .«return_rise») (sum n .«return_peak»)
+  pub returnPeak : {s : Setting} {d n c : ℕ} {t : Token} → Body rom s d t n c
+      → Most rom d (λ p u. back (suc d) p + effectOf sum u .«return_rise») (sum n .«return_peak»)
   pub frames : {s : Setting} {d n c : ℕ} {t : Token} → Body rom s d t n c → Most rom d (λ p u. 1 + effectOf sum u .frames) (sum n .frames)
   -- any other number than a body's gives one cell
-  pub valued : {s : Setting} {d : ℕ} {t : Token} → Met rom 0 s d t → T (isA define t) → T (not (isColon t)) → sum (newNumber (t .operand)) ≡ valueSum
+  pub valued : {s : Setting} {d : ℕ} {t : Token} → Met rom 0 s d t → T (isA define t) → T (not (isColon t))
+      → sum (newNumber (t .operand)) ≡ valueSum
   -- 3. "data heights run from 0 to 64, return cells over all frames to 32, frames to 16, at every call's peak and for each body entered by
   -- itself at its need"
   pub dataLimit : {x p : ℕ} {s : Setting} {t : Token} → Met rom x s p t
@@ -70,10 +76,12 @@ pub record Assignment (rom : List ℕ) : Type 0 where
   pub returnLimit : {x p : ℕ} {s : Setting} {t : Token} → Met rom x s p t → back x p + effectOf sum t .«return_rise» ≤ returnMost
   pub frameLimit : {x p : ℕ} {s : Setting} {t : Token} → Met rom x s p t → ownFrame x + effectOf sum t .frames ≤ framesMost
   -- 4. "outside bodies no two reachable tokens overlap (a b(:) reaches through its C2),
-  pub apart : {p q e : ℕ} {s r : Setting} {t u : Token} → Met rom 0 s p t → Holds rom (extends (s .wide) t e) → Met rom 0 r q u → p < q → e ≤ q
-  -- and no reachable defining token, CC, 11F or 127 starts in a reachable branch's span (from the lower of branch and destination, included,
-  -- to the higher, not included)"
-  pub clear : {x p q c : ℕ} {s r : Setting} {t u : Token} → Met rom x s p t → T (isBranch t) → In q (aims (t .operand)) → Met rom 0 r c u → T (fixes u)
+  pub apart : {p q e : ℕ} {s r : Setting} {t u : Token} → Met rom 0 s p t → Holds rom (extends (s .wide) t e) → Met rom 0 r q u → p < q
+      → e ≤ q
+  -- and no reachable defining token, CC, 11F or 127 starts in a reachable branch's span (from the lower of branch and destination,
+  -- included, to the higher, not included)"
+  pub clear : {x p q c : ℕ} {s r : Setting} {t u : Token} → Met rom x s p t → T (isBranch t) → In q (aims (t .operand)) → Met rom 0 r c u
+      → T (fixes u)
       → min p q ≤ c → c < max p q → ⊥
   -- 5. "each number used is defined by a reachable token that lies wholly before it,
   pub known : {x p : ℕ} {s : Setting} {t : Token} → Met rom x s p t → Holds rom (known p t)
@@ -94,5 +102,6 @@ pub record Assignment (rom : List ℕ) : Type 0 where
   pub read : {d : ℕ} {s : Setting} {t : Token} → Met rom 0 s d t → T (isColon t) → (c : ℕ) × Holds rom (reads (s .wide) (t .next) c)
   -- 19 of reachable branches, taken or not, and of every branch of a body
   pub aimed : {x p : ℕ} {s : Setting} {t : Token} → Met rom x s p t → T (not (astray t))
-  pub aimedIn : {s : Setting} {d n c p : ℕ} {t u : Token} → Body rom s d t n c → Starts rom (s .wide) (t .next) p → tokenAt rom 1 (s .wide) p ≡ Good u
+  pub aimedIn : {s : Setting} {d n c p : ℕ} {t u : Token} → Body rom s d t n c → Starts rom (s .wide) (t .next) p
+      → tokenAt rom 1 (s .wide) p ≡ Good u
       → T (not (astray u))

@@ -5,17 +5,19 @@ ghost use mathlib.Core.Logic.{_≢_};
 ghost use Prim.Native.Nat.{suc, _≤_, _<_, _+_, _-_};
 ghost use lib.ListN.{length as len};
 ghost use Rattle.rom.specs.Sizes.{romMost};
-ghost use Rattle.tokens.specs.Quick.{Codes};
-ghost use Rattle.screen.specs.Model.{marked, startsOf, sumOf, passesOf, movedOf, shiftOf, places as Model·places, bodyText};
-ghost use Rattle.screen.specs.VisitLaws.{tallyIn};
-ghost use Rattle.screen.specs.BodyLaws.{Bounded, Low, StandsBy, SurveyIs};
-ghost use Rattle.screen.specs.WalkLaws.{Tables};
+ghost use Rattle.tokens.specs.Joints.Quick.{Codes};
+ghost use Rattle.screen.specs.Laws.Found.Model.{marked, startsOf, sumTold, passesOf};
+ghost use Rattle.screen.specs.Laws.Found.Model.{shiftedCell, shiftOf, places as Model·places, bodyText};
+ghost use Rattle.screen.specs.Laws.Code.Visit.{tallyIn};
+ghost use Rattle.screen.specs.Laws.Code.Body.{Bounded, Low, StandsBy, SurveyIs};
+ghost use Rattle.screen.specs.Laws.Code.Walk.{WalkTables};
+use crate::cell::ENTRY_CELL;
+use crate::cell::UNMET;
 use crate::cell::less;
+use crate::cell::moved;
 use crate::effect::Sum;
 use crate::limits::BODY_MOST;
 use crate::limits::ENTERED;
-use crate::limits::ENTRY_CELL;
-use crate::limits::UNMET;
 use crate::rounds::Stand;
 use crate::tally::Tally;
 use crate::tally::no_tally;
@@ -27,6 +29,7 @@ use tokens::family_of;
 use tokens::glance_from;
 use tokens::kind_of;
 use tokens::out_of_place;
+use tokens::programs::PROGRAMS_MOST;
 use tokens::quick_at;
 
 // How far the token starts of a body were marked: whether up to its C2, and the place.
@@ -41,7 +44,7 @@ pub struct Survey {
 
 // Whether a body may have a token: one of the list that is not out of place there, names a number that is known, and leads somewhere if it
 // branches.
-fn stands(kinds: &[u8; 2048], glance: Glance) -> bool
+fn stands(kinds: &[u8; PROGRAMS_MOST], glance: Glance) -> bool
     ensures { λ r. ⌜ StandsBy (now (kinds .entry)) glance r ⌝ }
 {
     if out_of_place(glance.code, true) {
@@ -64,11 +67,11 @@ fn mark_starts(
     rom: &[u8],
     length: u32,
     wide: bool,
-    kinds: &[u8; 2048],
+    kinds: &[u8; PROGRAMS_MOST],
     seen: &mut [u32],
     entry: u32,
 ) -> Span
-    requires { ⌜ Codes (now codes) × (length ≤ len (now seen)) × (length ≤ 16384) ⌝ }
+    requires { ⌜ Codes (now codes) × (length ≤ len (now seen)) × (length ≤ romMost) ⌝ }
     ensures { λ r. ⌜ (marked (r .0) (r .1) (now (seen .exit)) ≡ startsOf (now (rom .entry)) length wide (now
         (kinds .entry)) romMost entry (now (seen .entry))) × (r .0 ≡ true → r .1 < length) ⌝ }
 {
@@ -111,7 +114,7 @@ fn passes(tally: Tally) -> bool
 // The sum of a body, as it is where it is entered at its need.
 pub fn sum_of(tally: Tally) -> Sum
     requires { ⌜ Low (tallyIn tally) ⌝ }
-    ensures { λ r. ⌜ r ≡ sumOf (tallyIn tally) ⌝ }
+    ensures { λ r. ⌜ r ≡ sumTold (tallyIn tally) ⌝ }
 {
     Sum {
         need: tally.need,
@@ -124,7 +127,7 @@ pub fn sum_of(tally: Tally) -> Sum
 
 fn moved_cell(need: u32, cell: u32) -> u32
     requires { ⌜ (need ≤ 1024) × (cell ≤ 0x4000_0000) ⌝ }
-    ensures { λ r. ⌜ r ≡ movedOf need cell ⌝ }
+    ensures { λ r. ⌜ r ≡ shiftedCell need cell ⌝ }
 {
     if cell == 0 {
         return 0;
@@ -132,7 +135,7 @@ fn moved_cell(need: u32, cell: u32) -> u32
     if cell == UNMET {
         return 0;
     }
-    less(cell + need, ENTERED)
+    moved(cell, need, ENTERED)
 }
 
 // The heights of a body, as they are where it is entered at its need.
@@ -150,7 +153,7 @@ pub fn shift(seen: &mut [u32], need: u32, entry: u32, count: u32)
 
 // How many places a body has.
 pub fn places(entry: u32, end: u32) -> u32
-    requires { ⌜ end < 16384 ⌝ }
+    requires { ⌜ end < romMost ⌝ }
     ensures { λ r. ⌜ r ≡ Model·places entry end ⌝ }
 {
     less(end + 1, entry)
@@ -183,14 +186,14 @@ pub fn survey_body(
     codes: &[u32; 256],
     rom: &[u8],
     length: u32,
-    kinds: &[u8; 2048],
+    kinds: &[u8; PROGRAMS_MOST],
     sums: &[u64],
     seen: &mut [u32],
     work: &mut [u16],
     stand: Stand,
     entry: u32,
 ) -> Survey
-    requires { ⌜ Codes (now codes) × Tables length (now seen) (now work) × (entry ≢ 0) × (entry ≤ length) ⌝ }
+    requires { ⌜ Codes (now codes) × WalkTables length (now seen) (now work) × (entry ≢ 0) × (entry ≤ length) ⌝ }
     ensures { λ r. ⌜ SurveyIs (now (rom .entry)) length (now (kinds .entry)) (now (sums .entry)) (now (seen .entry)) stand entry r
         (now (seen .exit)) ⌝ }
 {

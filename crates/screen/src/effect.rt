@@ -2,8 +2,9 @@
 ghost use mathlib.Core.Path.{_≡_};
 ghost use Prim.Native.Nat.{_%_, _<_};
 ghost use Rattle.screen.specs.Effect.{isA};
-ghost use Rattle.screen.specs.Model.{packed, sumAt};
-ghost use Rattle.screen.specs.VisitLaws.{takesSeen, fixesBy};
+ghost use Rattle.screen.specs.Laws.Found.Sums.{packedSum};
+ghost use Rattle.screen.specs.Laws.Found.Model.{sumAt};
+ghost use Rattle.screen.specs.Laws.Code.Visit.{takesSeen, fixesBy};
 use crate::tables::sum_code;
 use tokens::Token;
 use tokens::code_of;
@@ -12,8 +13,7 @@ use tokens::family_of;
 use tokens::takes_of;
 
 // What a program number does where it is entered at its need: the need, the data height that it leaves, the highest data height and count
-// of
-// return cells, nested calls included, and the frames that it opens, its own included.
+// of return cells, nested calls included, and the frames that it opens, its own included.
 pub struct Sum {
     pub need: u32,
     pub out: u32,
@@ -58,7 +58,7 @@ pub fn sum_at(sums: &[u64], number: u32) -> Sum
 // A sum for the table.
 pub fn pack(sum: Sum) -> u64
     requires { ⌜ sum .need < 65536 ⌝ }
-    ensures { λ r. ⌜ r ≡ packed sum ⌝ }
+    ensures { λ r. ⌜ r ≡ packedSum sum ⌝ }
 {
     let need = sum.need as u64;
     let out = sum.out as u64;

@@ -2,31 +2,29 @@
 ghost use mathlib.Core.Path.{_≡_};
 ghost use Prim.Native.Nat.{_≤_};
 ghost use lib.ListN.{length, replicate};
-ghost use Rattle.rom.specs.Sizes.{marksSize};
+ghost use Rattle.rom.specs.Sizes.{marksSize, romMost};
 ghost use Rattle.rom.specs.Header.{headerOf};
-ghost use Rattle.screen.specs.Model.{markIn, laidOf};
-ghost use Rattle.screen.specs.ScreenLaws.{Judging, Judged};
-ghost use Rattle.screen.specs.Screen.{screened, judgedOf};
+ghost use Rattle.screen.specs.Laws.Found.Model.{laidOf};
+ghost use Rattle.screen.specs.Laws.Code.Screen.{Judging, Judged};
+ghost use Rattle.screen.specs.Laws.Found.Screen.{screened, judgedOf};
 ghost use Rattle.screen.specs.Promise.{Promised};
+use crate::cell::FIRST_CELL;
+use crate::cell::mark_in;
 use crate::limits::FIRST_PLACE;
 use crate::rounds::Stand;
 use crate::rounds::all_rounds;
 use rom::check_header;
 use rom::program_length;
 use rom::sizes::MARKS_SIZE;
+use rom::sizes::ROM_MOST;
 use rom::wide_start;
 use tokens::first_codes;
+use tokens::programs::PROGRAMS_MOST;
 
 // A ROM passes, or is refused for the reason of a number.
 pub enum Verdict {
     Passes,
     Refused(u32),
-}
-
-fn mark_in(cell: u32) -> u8
-    ensures { λ r. ⌜ r ≡ markIn cell ⌝ }
-{
-    (cell % 256) as u8
 }
 
 // The marks are the cells' low bytes: one more than the data height at each token that can be reached, 0 anywhere else, and behind the
@@ -68,11 +66,11 @@ fn judge_in(
     ensures { λ r. ⌜ screened r (now (marks .exit)) ≡ judgedOf (now (rom .entry)) (now (marks .entry)) ⌝ }
 {
     let codes = first_codes();
-    let mut kinds = [0u8; 2048];
-    let mut sums = [0u64; 2048];
+    let mut kinds = [0u8; PROGRAMS_MOST];
+    let mut sums = [0u64; PROGRAMS_MOST];
     let first = Stand {
         start: FIRST_PLACE,
-        cell: 1,
+        cell: FIRST_CELL,
         wide: wide_start(rom),
         children: 0,
         nodes: 2,
@@ -124,11 +122,11 @@ fn judge_middle(rom: &[u8], length: u32, marks: &mut [u8]) -> Verdict
 }
 
 fn judge_large(rom: &[u8], length: u32, marks: &mut [u8]) -> Verdict
-    requires { ⌜ Judged (now rom) length (now marks) 16384 ⌝ }
+    requires { ⌜ Judged (now rom) length (now marks) romMost ⌝ }
     ensures { λ r. ⌜ screened r (now (marks .exit)) ≡ judgedOf (now (rom .entry)) (now (marks .entry)) ⌝ }
 {
-    let mut seen = [0u32; 16384];
-    let mut work = [0u16; 16384];
+    let mut seen = [0u32; ROM_MOST];
+    let mut work = [0u16; ROM_MOST];
     judge_in(rom, length, marks, &mut seen, &mut work)
 }
 

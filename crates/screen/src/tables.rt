@@ -2,7 +2,10 @@
 ghost use mathlib.Core.Path.{_≡_};
 ghost use Prim.Native.Nat.{_≤_, _<_};
 ghost use lib.ListN.{getD, set};
-ghost use Rattle.screen.specs.Model.{slot as Model·slot};
+ghost use Rattle.tokens.specs.Table.{lastProgram};
+ghost use Rattle.screen.specs.Laws.Found.Model.{slot as Model·slot};
+use tokens::programs::FIRST_PROGRAM;
+use tokens::programs::PROGRAMS_MOST;
 
 pub fn cell_at(cells: &[u32], at: u32) -> u32
     ensures { λ r. ⌜ r ≡ getD (now (cells .entry)) at 0 ⌝ }
@@ -32,7 +35,11 @@ pub fn place_at(work: &[u16], at: u32) -> u32
 fn slot(number: u32) -> u32
     ensures { λ r. ⌜ r ≡ Model·slot number ⌝ }
 {
-    if 0x800 <= number { number - 0x800 } else { 0 }
+    if FIRST_PROGRAM <= number {
+        number - FIRST_PROGRAM
+    } else {
+        0
+    }
 }
 
 pub fn sum_code(sums: &[u64], number: u32) -> u64
@@ -51,8 +58,8 @@ pub fn set_sum(sums: &mut [u64], number: u32, code: u64)
     }
 }
 
-pub fn set_kind(kinds: &mut [u8; 2048], number: u32, kind: u8)
-    requires { ⌜ number ≤ 0xFFF ⌝ }
+pub fn set_kind(kinds: &mut [u8; PROGRAMS_MOST], number: u32, kind: u8)
+    requires { ⌜ number ≤ lastProgram ⌝ }
     ensures { λ r. ⌜ now (kinds .exit) ≡ set (now (kinds .entry)) (Model·slot number) kind ⌝ }
 {
     let k = slot(number) as usize;

@@ -3,8 +3,9 @@ ghost use mathlib.Core.Path.{_≡_};
 ghost use mathlib.Core.Bool.{not, _&&_, _||_};
 ghost use lib.Dec.{eqb};
 ghost use Prim.Native.Nat.{suc, _<_};
-ghost use Rattle.screen.specs.Model.{noTally};
-ghost use Rattle.screen.specs.VisitLaws.{tallyIn, raisedBy, endedBy, calledBy, ToldBy};
+ghost use Rattle.screen.specs.Laws.Found.Model.{noTally};
+ghost use Rattle.screen.specs.Laws.Code.Visit.{tallyIn, raisedBy, endedBy, calledBy, ToldBy};
+use crate::cell::back_in;
 use crate::cell::height_in;
 use crate::cell::larger;
 use crate::cell::less;
@@ -50,7 +51,7 @@ pub fn raised(tally: Tally, takes: u32, cell: u32) -> Tally
         fine: tally.fine,
         need: larger(tally.need, less(ENTERED + takes, height)),
         peak: larger(tally.peak, height),
-        return_peak: larger(tally.return_peak, cell / 256),
+        return_peak: larger(tally.return_peak, back_in(cell)),
         frames: larger(tally.frames, 1),
         out: tally.out,
     }
@@ -95,7 +96,7 @@ fn called(tally: Tally, sums: &[u64], number: u32, cell: u32) -> Tally
             tally.peak,
             larger(height, less(height, sum.need) + sum.peak),
         ),
-        return_peak: larger(tally.return_peak, cell / 256 + sum.return_peak),
+        return_peak: larger(tally.return_peak, back_in(cell) + sum.return_peak),
         frames: larger(tally.frames, 1 + sum.frames),
         out: tally.out,
     }

@@ -1,11 +1,13 @@
 // A token that a walk meets: whether its rules are met there, the heights behind it, and where it leads.
 ghost use mathlib.Core.Path.{_≡_};
 ghost use Prim.Native.Nat.{_<_, _≤_};
-ghost use Rattle.tokens.specs.Quick.{Codes};
+ghost use Rattle.tokens.specs.Joints.Quick.{Codes};
 ghost use Rattle.screen.specs.Effect.{called as Effect·called};
-ghost use Rattle.screen.specs.Model.{badVisit, capOf, ownOf, sumAt, visitOf};
+ghost use Rattle.screen.specs.Laws.Found.Model.{badVisit, capOf, ownOf, sumAt, visitOf};
 ghost use Rattle.cells.specs.Choice.{pick};
-ghost use Rattle.screen.specs.VisitLaws.{visitIn, tallyIn, visitBy, plainEffect, raisedBy, VisitBy, SeenBy};
+ghost use Rattle.screen.specs.Laws.Code.Visit.{visitIn, tallyIn, visitBy, plainEffect, raisedBy, VisitBy, SeenBy};
+ghost use Rattle.screen.specs.Laws.Found.Cell.{bodyMost};
+use crate::cell::back_in;
 use crate::cell::cell_of;
 use crate::cell::height_in;
 use crate::effect::sum_at;
@@ -25,6 +27,7 @@ use tokens::gives_of;
 use tokens::glance_from;
 use tokens::kind_of;
 use tokens::out_of_place;
+use tokens::programs::PROGRAMS_MOST;
 use tokens::quick_at;
 use tokens::return_gives_of;
 use tokens::return_takes_of;
@@ -55,7 +58,7 @@ fn bad_visit() -> Visit
 
 // How high a text may rise.
 fn cap(within: bool) -> u32
-    ensures { λ r. ⌜ (r ≡ capOf within) × (r ≤ 128) ⌝ }
+    ensures { λ r. ⌜ (r ≡ capOf within) × (r ≤ bodyMost) ⌝ }
 {
     if within { BODY_MOST } else { DATA_MOST }
 }
@@ -84,7 +87,7 @@ fn plain(within: bool, takes: u32, code: u32, cell: u32, next: u32, aim: u32) ->
     if most < up {
         return bad_visit();
     }
-    let back = cell / 256;
+    let back = back_in(cell);
     let taken = return_takes_of(code);
     if back < taken {
         return bad_visit();
@@ -121,7 +124,7 @@ fn called(within: bool, sums: &[u64], number: u32, cell: u32, next: u32) -> Visi
     if most < kept + sum.peak {
         return bad_visit();
     }
-    let back = cell / 256;
+    let back = back_in(cell);
     if RETURN_MOST < back {
         return bad_visit();
     }
@@ -140,7 +143,13 @@ fn called(within: bool, sums: &[u64], number: u32, cell: u32, next: u32) -> Visi
 
 // A token by a glance at it: each family with the tests that are its own. A walk does not go on behind what ends a round, a text, or a
 // way that a branch takes always.
-fn visit_seen(text: Text, kinds: &[u8; 2048], sums: &[u64], glance: Glance, cell: u32) -> Visit
+fn visit_seen(
+    text: Text,
+    kinds: &[u8; PROGRAMS_MOST],
+    sums: &[u64],
+    glance: Glance,
+    cell: u32,
+) -> Visit
     ensures { λ r. ⌜ VisitBy text (now (kinds .entry)) (now (sums .entry)) glance cell (visitIn r) ⌝ }
 {
     let code = glance.code;
@@ -187,7 +196,7 @@ fn visit_seen(text: Text, kinds: &[u8; 2048], sums: &[u64], glance: Glance, cell
             plain(within, takes, code, cell, 0, 0)
         }
         family::LEAVE => {
-            if 256 <= cell {
+            if back_in(cell) != 0 {
                 return bad_visit();
             }
             plain(within, takes, code, cell, 0, 0)
@@ -216,7 +225,7 @@ pub fn visit_at(
     codes: &[u32; 256],
     rom: &[u8],
     text: Text,
-    kinds: &[u8; 2048],
+    kinds: &[u8; PROGRAMS_MOST],
     sums: &[u64],
     place: u32,
     cell: u32,

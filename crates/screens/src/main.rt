@@ -1,18 +1,17 @@
-// Screens ROMs, and shows the answer and the mark buffer: a line of standard input each, by its first letter. Behind S stands a ROM in hex, behind W
-// the mark buffer's size and a ROM, behind Z a size up to which zero bytes are put behind a ROM, and the ROM, behind M how often a ROM is screened,
-// and the ROM.
-mod line;
+// Screens ROMs, and shows the answer and the mark buffer: a line of standard input each, by its first letter. Behind S stands a ROM in hex,
+// behind W the mark buffer's size and a ROM, behind Z a size up to which zero bytes are put behind a ROM, and the ROM, behind M how often a
+// ROM is screened, and the ROM.
 mod say;
 mod show;
 
 ghost use Prim.Native.Nat.{_+_, _≤_};
 ghost use lib.ListN.{length};
-use crate::line::bytes_from;
-use crate::line::number_at;
-use crate::line::place_of;
 use crate::say::say;
 use crate::show::show_last;
 use crate::show::show_screened;
+use given::bytes_from;
+use given::digits_at;
+use given::mark_from;
 use libc::STDIN_FILENO;
 
 // Where a line's ROM starts: behind the letter and a space, or behind the number and a space.
@@ -23,7 +22,7 @@ fn rom_start(line: &[u8]) -> usize
     if line[0] == b'S' {
         return 2;
     }
-    place_of(b' ', line, 2) + 1
+    mark_from(line, 2, b' ') + 1
 }
 
 fn one_line(line: &[u8])
@@ -31,7 +30,7 @@ fn one_line(line: &[u8])
 {
     let mut space = [0u8; 16400];
     let n = bytes_from(line, rom_start(line), &mut space);
-    let number = number_at(line, 2);
+    let number = digits_at(line, 2);
     match line[0] {
         b'S' => show_screened(&space[..n], 16384),
         b'W' => show_screened(&space[..n], number),
@@ -51,7 +50,7 @@ fn all_lines(text: &[u8])
 {
     let mut at = 0;
     while at < text.len() {
-        let end = place_of(b'\n', text, at);
+        let end = mark_from(text, at, b'\n');
         if at + 2 <= end {
             one_line(&text[at..end]);
         } else {

@@ -2,13 +2,13 @@
 use Prim.Native.Nat.{ℕ, suc, _+_, _<_, _≤_}
 use mathlib.Core.Path.{_≡_, refl, sym, _∙_, subst}
 use lib.ListN.{getD}
-use Rattle.cells.specs.Facts.{holds}
+use Rattle.cells.specs.Laws.Facts.{holds}
 use Rattle.state.specs.Whole.{entryKept, entryWhole}
 use Rattle.state.specs.declared.state.Numbers.{Numbers}
 use mathlib.Core.Bool.{Bool, true, false, not}
 use native.Mathlib.Omega.{arith}
 use lib.Dec.{T}
-use Rattle.tree.specs.Laws.{every-one}
+use Rattle.tree.specs.Laws.Trees.{every-one}
 use Rattle.tree.specs.Whole.{everyBelow}
 
 pub one-fails : (n : ℕ) (f : ℕ → Bool) (i : ℕ) (b : Bool) → i < n → b ≡ f i → not b ≡ true → false ≡ everyBelow n f
@@ -40,6 +40,7 @@ pub all-hold : (n i : ℕ) (f : ℕ → Bool) → i ≤ n → n ≤ i → everyB
 all-hold n i f a b h = let e : i ≡ n = omega arith in sym (rw e at h)
 
 -- an entry by its three numbers
-pub same-entry : (size : ℕ) (ns : Numbers) (i name kind v : ℕ) (b : Bool) → name ≡ getD (ns .names) i 0 → kind ≡ getD (ns .kinds) i 0 → v ≡ getD (ns .values) i 0
+pub same-entry : (size : ℕ) (ns : Numbers) (i name kind v : ℕ) (b : Bool) → name ≡ getD (ns .programs) i 0 → kind ≡ getD (ns .kinds) i 0
+    → v ≡ getD (ns .values) i 0
     → b ≡ entryKept size name kind v → b ≡ entryWhole size ns i
 same-entry size ns i name kind v b p q r e = e ∙ rw (p, q, r)

@@ -7,7 +7,8 @@ use lib.Dec.{eqb}
 use Rattle.cells.specs.Choice.{pick, find}
 use Rattle.rom.specs.Bytes.{byteOf, word32Of}
 use Rattle.rom.specs.Branch.{placeIn}
-use Rattle.tokens.specs.Family.{plain, finish, always, choice, text, widen, divide, pickUp, rollUp, maybe, leave, fetch, store, define, assign, call}
+use Rattle.tokens.specs.Family.{plain, finish, always, choice, text, widen, divide, pickUp, rollUp, maybe, leave, fetch, store, define}
+use Rattle.tokens.specs.Family.{assign, call}
 use Rattle.tokens.specs.Family.{encodeInt, encodeString, join, property, titled, newDevice, finishDevice}
 use Rattle.tokens.specs.Code.{familyIn}
 use Rattle.tokens.specs.Body.{numberIn}
@@ -19,10 +20,11 @@ use Rattle.tokens.specs.declared.body.Body.the-variants.{Ends, Stops}
 use Rattle.memory.specs.Window.{romBase, workBase}
 use Rattle.memory.specs.Writing.{writtenOf, bytesOf}
 use Rattle.tree.specs.Property.{treePut, storePut}
-use Rattle.tree.specs.Node.{childOf, finishedOf}
+use Rattle.tree.specs.Whole.{parentOf}
+use Rattle.tree.specs.Node.{childOf}
 use Rattle.tokens.specs.Definition.{colon, kindIn, newNumber, value, variable}
 use Rattle.state.specs.Stacks.{Stacks, stacks, leftOf, plainOf, pickedOf, rolledOf, doubledOf}
-use Rattle.state.specs.State.{stacksOf, moved, movedTo, withCalls, withNumbers, withWork, withTree, finishedAt}
+use Rattle.state.specs.State.{callsOn, stacksOf, moved, movedTo, withCalls, withNumbers, withWork, withActive, withTree, finishedAt}
 use Rattle.state.specs.Numbers.{seekOf, isBody, definedOf, assignedOf}
 use Rattle.state.specs.Scene.{Scene, Turn, turn, refuse, goes, cellOf}
 use Rattle.state.specs.Refusals.{bodyHere, rounded, isCell, stringAt, titleOf, namedHere, valueHere, titledHere}
@@ -36,7 +38,8 @@ Effect = Scene → Token → Turn
 -- so many cells taken from the data stack and these given, the lowest first
 abbrev pub gave : State → ℕ → List ℕ → Stacks
 gave st takes cells =
-    stacks (leftOf (st .stack .cells) (st .stack .height - takes) cells) (st .stack .height - takes + length cells) (st .back .cells) (st .back .height)
+    stacks (leftOf (st .stack .cells) (st .stack .height - takes) cells) (st .stack .height - takes + length cells) (st .back .cells)
+    (st .back .height)
 
 -- and then the next token
 abbrev pub onward : Scene → Token → ℕ → List ℕ → State
@@ -107,20 +110,15 @@ quotes s t = goes s (onward s t 0 ((romBase + textStart (t .operand)) ∷ textCo
 abbrev pub widens : Effect
 widens s t = goes s (withCalls (s .state) (s .state .calls) (t .next) true)
 
--- ---- a call, and leaving a body: "A body keeps the offset width in force where it was defined"; leaving it gives back the caller's place and width
--- one frame more: where it goes back to, the width there, and the return stack's height
+-- ---- a call, and leaving a body: "A body keeps the offset width in force where it was defined"; leaving it gives back the caller's place
+-- and width one frame more: where it goes back to, the width there, and the return stack's height
 abbrev pub framedOf : Calls → ℕ → Bool → ℕ → Calls
 framedOf calls place wide base =
-    record {
-      places = set (calls .places) (calls .count) place;
-      wides = set (calls .wides) (calls .count) wide;
-      bases = set (calls .bases) (calls .count) base;
-      count = calls .count + 1;
-    }
+    callsOn (set (calls .places) (calls .count) place) (set (calls .wides) (calls .count) wide) (set (calls .bases) (calls .count) base)
+    (calls .count + 1)
 
 abbrev pub unframedOf : Calls → Calls
-unframedOf calls =
-    record { places = calls .places; wides = calls .wides; bases = calls .bases; count = calls .count - 1 }
+unframedOf calls = callsOn (calls .places) (calls .wides) (calls .bases) (calls .count - 1)
 
 -- the state in a body that starts at a place, whose caller goes on at another
 abbrev pub enteredOf : State → ℕ → Bool → ℕ → State
@@ -129,7 +127,8 @@ enteredOf st to wide next = withCalls st (framedOf (st .calls) next (st .wide) (
 -- the state back in the caller
 abbrev pub leftBodyOf : State → State
 leftBodyOf st =
-    withCalls st (unframedOf (st .calls)) (getD (st .calls .places) (st .calls .count - 1) 0) (getD (st .calls .wides) (st .calls .count - 1) false)
+    withCalls st (unframedOf (st .calls)) (getD (st .calls .places) (st .calls .count - 1) 0)
+    (getD (st .calls .wides) (st .calls .count - 1) false)
 
 abbrev pub leaves : Effect
 leaves s t = goes s (leftBodyOf (s .state))
@@ -183,11 +182,12 @@ defines s t = find ((colon, colons) ∷ (value, values) ∷ (variable, variables
 
 abbrev pub assigns : Effect
 assigns s t =
-    goes s (withNumbers (onward s t 1 []) (assignedOf (s .state .numbers) (seekOf (s .state .numbers) (numberIn (t .operand))) (cellOf s 0)))
+    goes s (withNumbers (onward s t 1 []) (assignedOf (s .state .numbers) (seekOf (s .state .numbers) (numberIn (t .operand)))
+    (cellOf s 0)))
 
--- ---- "111 encode-int (four bytes, big-endian, at the work place, which moves only past what 111, 114 and B9 write), 114 encode-string (there too: the
--- bytes as before the token, and a null), 112 encode+"
--- the bytes written at the work place, so many cells taken, and their address and length given
+-- ---- "111 encode-int (four bytes, big-endian, at the work place, which moves only past what 111, 114 and B9 write), 114 encode-string
+-- (there too: the bytes as before the token, and a null), 112 encode+" the bytes written at the work place, so many cells taken, and their
+-- address and length given
 abbrev pub encodedOf : Scene → Token → ℕ → List ℕ → Turn
 encodedOf s t takes bytes =
     turn Going
@@ -206,8 +206,8 @@ joins s t = goes s (onward s t 4 (cellOf s 3 ∷ ((cellOf s 2 + cellOf s 0) % 2 
 -- ---- "110 property, 201 device-name, 119 model, 11A device-type .. using no work memory"
 abbrev pub keepsOf : Scene → Token → ℕ → List ℕ → List ℕ → Turn
 keepsOf s t takes name v =
-    turn Going (withTree (onward s t takes []) (treePut (s .state .tree) (s .store) name v)) (s .work)
-    (storePut (s .state .tree) (s .store) name v)
+    turn Going (withTree (onward s t takes []) (treePut (s .state .tree) (s .store) (s .state .active) name v)) (s .work)
+    (storePut (s .state .tree) (s .store) (s .state .active) name v)
 
 abbrev pub keeps : Effect
 keeps s t = keepsOf s t 4 (namedHere s) (valueHere s)
@@ -217,10 +217,11 @@ titles s t = keepsOf s t 2 (titleOf (t .number)) (titledHere s)
 
 -- ---- "11F new-device (a bare child of the active node becomes active), 127 finish-device (the parent becomes active)"
 abbrev pub opensNode : Effect
-opensNode s t = goes s (withTree (movedTo (s .state) (t .next)) (childOf (s .state .tree)))
+opensNode s t =
+    goes s (withTree (withActive (movedTo (s .state) (t .next)) (s .state .tree .nodes)) (childOf (s .state .tree) (s .state .active)))
 
 abbrev pub closesNode : Effect
-closesNode s t = goes s (withTree (movedTo (s .state) (t .next)) (finishedOf (s .state .tree)))
+closesNode s t = goes s (withActive (movedTo (s .state) (t .next)) (parentOf (s .state .tree) (s .state .active)))
 
 -- ---- every family that a token can have where it stands
 unfoldable pub effects : List (ℕ × Effect)

@@ -1,21 +1,26 @@
 -- The program numbers of a state: "A number or name held twice: the oldest counts." Assumes nothing.
-use Prim.Native.Nat.{ℕ, zero, suc, _+_, _-_}
+use Prim.Native.Nat.{ℕ, zero, suc, _+_}
 use mathlib.Core.Bool.{Bool, true, false}
 use mathlib.Core.List.{List, [], _∷_}
 use lib.ListN.{getD, set}
 use lib.Dec.{ltb, eqb}
 use Rattle.cells.specs.Choice.{pick, find}
-use Rattle.tokens.specs.Table.{isProgram}
 use Rattle.tokens.specs.Definition.{colon, value, constant}
+use Rattle.tokens.specs.Table.{programsMost, firstProgram}
 use Rattle.state.specs.declared.state.Numbers.{Numbers}
+
+-- program numbers by their fields, which are listed nowhere else
+abbrev pub numbersOn : List ℕ → List ℕ → List ℕ → List Bool → ℕ → Numbers
+numbersOn programs kinds values ways held =
+    record { programs = programs; kinds = kinds; values = values; wides = ways; count = held }
 
 -- where a number stands, the oldest first, of so many from i on; the end where it is not there
 unfoldable pub seekFrom : List ℕ → ℕ → ℕ → ℕ → ℕ
-seekFrom names n zero i = i
-seekFrom names n (suc k) i = elim (eqb (getD names i 0) n) [ true ↦ i | false ↦ seekFrom names n k (i + 1) ]
+seekFrom programs n zero i = i
+seekFrom programs n (suc k) i = elim (eqb (getD programs i 0) n) [ true ↦ i | false ↦ seekFrom programs n k (i + 1) ]
 
 abbrev pub seekOf : Numbers → ℕ → ℕ
-seekOf ns n = seekFrom (ns .names) n (ns .count) 0
+seekOf ns n = seekFrom (ns .programs) n (ns .count) 0
 
 abbrev pub isHeld : Numbers → ℕ → Bool
 isHeld ns n = ltb (seekOf ns n) (ns .count)
@@ -40,30 +45,14 @@ kindsFrom ns zero n = []
 kindsFrom ns (suc k) n = kindHeld ns n ∷ kindsFrom ns k (n + 1)
 
 abbrev pub kindsOf : Numbers → List ℕ
-kindsOf ns = kindsFrom ns 2048 0x800
+kindsOf ns = kindsFrom ns programsMost firstProgram
 
 -- one number more
 abbrev pub definedOf : Numbers → ℕ → ℕ → ℕ → Bool → Numbers
 definedOf ns n kind v wide =
-    record {
-      names = set (ns .names) (ns .count) n;
-      kinds = set (ns .kinds) (ns .count) kind;
-      values = set (ns .values) (ns .count) v;
-      wides = set (ns .wides) (ns .count) wide;
-      count = ns .count + 1;
-    }
+    numbersOn (set (ns .programs) (ns .count) n) (set (ns .kinds) (ns .count) kind) (set (ns .values) (ns .count) v)
+    (set (ns .wides) (ns .count) wide) (ns .count + 1)
 
 -- another value
 abbrev pub assignedOf : Numbers → ℕ → ℕ → Numbers
-assignedOf ns i v =
-    record {
-      names = ns .names;
-      kinds = ns .kinds;
-      values = set (ns .values) i v;
-      wides = ns .wides;
-      count = ns .count;
-    }
-
--- for the code's own steps: a kind put down among those of all program numbers
-abbrev pub putKind : List ℕ → ℕ → ℕ → List ℕ
-putKind kinds n kind = pick (isProgram n) (set kinds (n - 0x800) kind) kinds
+assignedOf ns i v = numbersOn (ns .programs) (ns .kinds) (set (ns .values) i v) (ns .wides) (ns .count)

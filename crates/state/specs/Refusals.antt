@@ -1,6 +1,6 @@
--- Why a token is refused that may stand where it stands: document 01's "Numbers handed back" from 12 on, one condition a number, and the one order of
--- them: "12, 13, 14, 19, 16, 15, 17, 20, and 21 to 27 by number"; a body is read after its head's own tests. 10, 18 and 11 come before, as the
--- token is read. Assumes nothing.
+-- Why a token is refused that may stand where it stands: document 01's "Numbers handed back" from 12 on, one condition a number, and the
+-- one order of them: "12, 13, 14, 19, 16, 15, 17, 20, and 21 to 27 by number"; a body is read after its head's own tests. 10, 18 and 11
+-- come before, as the token is read. Assumes nothing.
 use Prim.Native.Nat.{ℕ, _+_, _-_, _*_, _/_, _%_, _^_}
 use mathlib.Core.Bool.{Bool, true, false, not, _&&_, _||_}
 use mathlib.Core.List.{List, [], _∷_}
@@ -47,7 +47,8 @@ definedAlready s t = isHeld (s .state .numbers) (newNumber (t .operand)) || leb 
 abbrev pub taken : Scene → Token → Bool
 taken s t = asked define t definedAlready s
 
--- ---- "After its head's own tests b(:) reads on to the first C2 that starts a token, refusing at the first token that gives 10, 18, 11 or 12"
+-- ---- "After its head's own tests b(:) reads on to the first C2 that starts a token, refusing at the first token that gives 10, 18, 11 or
+-- 12"
 abbrev pub bodyHere : Scene → Token → Body
 bodyHere s t = bodyOf (s .rom) (s .state .length) (s .state .wide) (kindsOf (s .state .numbers)) (t .next)
 
@@ -66,20 +67,20 @@ abbrev pub low : Scene → Token → Bool
 low s t = ltb (s .state .stack .height) (takesHere t) || asked pickUp t reachesBelow s || asked rollUp t reachesBelow s
 
 -- ---- 19: "taken branch to outside 8..length-1"
-abbrev pub outside : Aim → Bool
-outside (Inside to) = false
-outside Outside = true
+abbrev pub outsideProgram : Aim → Bool
+outsideProgram (Inside to) = false
+outsideProgram Outside = true
 
 abbrev pub leadsOut : Operand → Bool
 leadsOut Nothing = false
 leadsOut (Literal n) = false
 leadsOut (Text start count) = false
-leadsOut (Branch bits aim) = outside aim
+leadsOut (Branch bits aim) = outsideProgram aim
 leadsOut (Number n) = false
 leadsOut (Definition n k) = false
 
-abbrev pub astray : Scene → Token → Bool
-astray s t =
+abbrev pub goesAstray : Scene → Token → Bool
+goesAstray s t =
     asked always t (λ s t. leadsOut (t .operand)) s || asked choice t (λ s t. eqb (cellOf s 0) 0 && leadsOut (t .operand)) s
 
 -- ---- 16: "return stack above 32, below its frame's base, or not at the base on leaving a body (a finish asks nothing of it)"
@@ -102,9 +103,10 @@ high s t = ltb dataMost (s .state .stack .height - takesHere t + (givesIn (t .co
 abbrev pub tooManyFrames : Scene → Token → Bool
 tooManyFrames s t = asked call t (λ s t. calledBody s t && leb framesMost (s .state .calls .count)) s
 
--- ---- 20: "a 33rd node, or finish-device at node 1"
+-- ---- 20: "a 33rd node, or finish-device at node 1", the first node
 abbrev pub noNode : Scene → Token → Bool
-noNode s t = asked newDevice t (λ s t. noRoom (s .state .tree)) s || asked finishDevice t (λ s t. outermost (s .state .tree)) s
+noNode s t =
+    asked newDevice t (λ s t. noRoom (s .state .tree)) s || asked finishDevice t (λ s t. outermost (s .state .first) (s .state .active)) s
 
 -- ---- 21: "divisor zero"
 abbrev pub zeroDivisor : Scene → Token → Bool
@@ -175,13 +177,14 @@ abbrev pub misnamed : Scene → Token → Bool
 misnamed s t = asked property t (λ s t. badName (namedHere s)) s
 
 abbrev pub noRoomFor : Scene → List ℕ → List ℕ → Bool
-noRoomFor s name value = overfull (wouldHold (s .state .tree) (s .store) name value)
+noRoomFor s name value = overfull (wouldHold (s .state .tree) (s .store) (s .state .active) name value)
 
 abbrev pub storeFull : Scene → Token → Bool
 storeFull s t =
-    asked property t (λ s t. noRoomFor s (namedHere s) (valueHere s)) s || asked titled t (λ s t. noRoomFor s (titleOf (t .number)) (titledHere s)) s
+    asked property t (λ s t. noRoomFor s (namedHere s) (valueHere s)) s || asked titled t
+    (λ s t. noRoomFor s (titleOf (t .number)) (titledHere s)) s
 
--- ---- the order, once
+-- ---- their order. 6, 1, 7 and 4 come before (Step.antt), then 10, 18 and 11, as the token is read (crate tokens, Place.antt)
 abbrev pub firstOf : List (ℕ × Bool) → ℕ
 firstOf [] = 0
 firstOf (x ∷ xs) = pick (x .1) (x .0) (firstOf xs)
@@ -192,7 +195,7 @@ refusals s t =
     (13, taken s t) ∷
     (bodyRefusal s t, not (eqb (bodyRefusal s t) 0)) ∷
     (14, low s t) ∷
-    (19, astray s t) ∷
+    (19, goesAstray s t) ∷
     (16, backWrong s t) ∷
     (15, high s t) ∷
     (17, tooManyFrames s t) ∷

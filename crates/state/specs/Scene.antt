@@ -26,8 +26,8 @@ abbrev pub turn : Answer → State → List ℕ → List ℕ → Turn
 turn a st work store = record { answer = a; state = st; work = work; store = store }
 
 -- what a call handed back, with the memory that it left
-abbrev pub told : Stepped → List ℕ → List ℕ → Turn
-told r work store = turn (r .answer) (r .state) work store
+abbrev pub handedBack : Stepped → List ℕ → List ℕ → Turn
+handedBack r work store = turn (r .answer) (r .state) work store
 
 -- "A refused step leaves state, work memory and store as before it."
 abbrev pub refuse : ℕ → Scene → Turn
@@ -42,8 +42,8 @@ abbrev pub cellOf : Scene → ℕ → ℕ
 cellOf s k = topOf (s .state .stack .cells) (s .state .stack .height) k
 
 -- an answer as document 01 numbers it: 0 going on or finished, a refusal's own number, 28 for a spent budget
-abbrev pub numberOf : Answer → ℕ
-numberOf Going = 0
-numberOf Finished = 0
-numberOf (Refused why) = why
-numberOf (Spent count) = 28
+abbrev pub answerNumber : Answer → ℕ
+answerNumber Going = 0
+answerNumber Finished = 0
+answerNumber (Refused why) = why
+answerNumber (Spent count) = 28

@@ -1,12 +1,11 @@
--- The two stacks, and what a token does that works on them alone: document 01's list of arithmetic, comparison, stack words and numbers. What such
--- a token takes and gives stands in its row of the list; here is what a row means. Assumes nothing.
+-- The two stacks, and what a token does that works on them alone: document 01's list of arithmetic, comparison, stack words and numbers.
+-- What such a token takes and gives stands in its row of the list; here is what a row means. Assumes nothing.
 use Prim.Native.Nat.{ℕ, zero, suc, _+_, _-_}
 use mathlib.Core.Bool.{Bool, _||_}
 use mathlib.Core.List.{List, [], _∷_, _++_, map}
 use lib.ListN.{getD, set}
-use lib.Dec.{ltb, eqb}
-use Rattle.cells.specs.Choice.{pick}
-use Rattle.rom.specs.Sizes.{dataMost, returnMost}
+use lib.Dec.{ltb}
+use Rattle.rom.specs.Sizes.{returnMost}
 use Rattle.tokens.specs.Row.{Seen, Result}
 use Rattle.tokens.specs.Table.{rowOf}
 use Rattle.tokens.specs.Code.{codeOf, takesIn, givesIn, returnTakesIn, returnGivesIn}
@@ -56,35 +55,10 @@ plainOf n operand s =
     (leftOf (s .back) (s .returns - returnTakesIn (codeOf n)) (reckonedOf (rowOf n .returnResults) (seenOf operand s)))
     (s .returns - returnTakesIn (codeOf n) + returnGivesIn (codeOf n))
 
--- refusals 14, 15, "data stack too low; too high"
-abbrev pub tooLow : ℕ → ℕ → Bool
-tooLow code height = ltb height (takesIn code)
-
-abbrev pub tooHigh : ℕ → ℕ → Bool
-tooHigh code height = ltb dataMost (height - takesIn code + givesIn code)
-
 -- refusal 16, "return stack above 32, below its frame's base"
 abbrev pub backTrouble : ℕ → ℕ → ℕ → Bool
-backTrouble code returns base = ltb (returns - base) (returnTakesIn code) || ltb returnMost (returns - returnTakesIn code + returnGivesIn code)
-
--- what became of the stacks: 0, or why the token is refused, with the stacks then
-pub record Outcome : Type 0 where
-  pub why : ℕ
-  pub stacks : Stacks
-
-abbrev pub outcome : ℕ → Stacks → Outcome
-outcome why s = record { why = why; stacks = s }
-
--- a plain token, in the order of the refusals: 14, 16, 15
-unfoldable pub reckonOf : ℕ → ℕ → Stacks → ℕ → Outcome
-reckonOf n operand s base =
-    pick (tooLow (codeOf n) (s .height)) (outcome 14 s)
-    (pick (backTrouble (codeOf n) (s .returns) base) (outcome 16 s)
-    (pick (tooHigh (codeOf n) (s .height)) (outcome 15 s) (outcome 0 (plainOf n operand s))))
-
--- u/mod: refusal 21, "divisor zero"
-abbrev pub divideOf : Stacks → Outcome
-divideOf s = pick (ltb (s .height) 2) (outcome 14 s) (pick (eqb (topOf (s .cells) (s .height) 0) 0) (outcome 21 s) (outcome 0 (plainOf 0x2B 0 s)))
+backTrouble code returns base = ltb (returns - base) (returnTakesIn code) || ltb returnMost
+    (returns - returnTakesIn code + returnGivesIn code)
 
 -- pick and roll: "need the count and count + 1 cells below it, the count unsigned; else 14"
 abbrev pub tooDeep : Stacks → Bool
@@ -93,10 +67,8 @@ tooDeep s = ltb (s .height) 1 || ltb (s .height) (topOf (s .cells) (s .height) 0
 -- pick: the cell that has `count` cells between itself and the count takes the count's place
 abbrev pub pickedOf : Stacks → Stacks
 pickedOf s =
-    stacks (set (s .cells) (s .height - 1) (topOf (s .cells) (s .height) (topOf (s .cells) (s .height) 0 + 1))) (s .height) (s .back) (s .returns)
-
-abbrev pub pickUpOf : Stacks → Outcome
-pickUpOf s = pick (tooDeep s) (outcome 14 s) (outcome 0 (pickedOf s))
+    stacks (set (s .cells) (s .height - 1) (topOf (s .cells) (s .height) (topOf (s .cells) (s .height) 0 + 1))) (s .height) (s .back)
+    (s .returns)
 
 -- roll: that cell is moved to the top, those above it one down; `start` is where it stood
 abbrev pub turnedOf : List ℕ → ℕ → ℕ → List ℕ
@@ -104,17 +76,9 @@ turnedOf cells start count = leftOf cells start (cellsFrom cells (start + 1) cou
 
 abbrev pub rolledOf : Stacks → Stacks
 rolledOf s =
-    stacks (turnedOf (s .cells) (s .height - 2 - topOf (s .cells) (s .height) 0) (topOf (s .cells) (s .height) 0)) (s .height - 1) (s .back) (s .returns)
-
-abbrev pub rollUpOf : Stacks → Outcome
-rollUpOf s = pick (tooDeep s) (outcome 14 s) (outcome 0 (rolledOf s))
+    stacks (turnedOf (s .cells) (s .height - 2 - topOf (s .cells) (s .height) 0) (topOf (s .cells) (s .height) 0)) (s .height - 1) (s .back)
+    (s .returns)
 
 -- ?dup: 0 is left alone, so that it never asks for room
 abbrev pub doubledOf : Stacks → Stacks
 doubledOf s = stacks (set (s .cells) (s .height) (topOf (s .cells) (s .height) 0)) (s .height + 1) (s .back) (s .returns)
-
-abbrev pub maybeOf : Stacks → Outcome
-maybeOf s =
-    pick (ltb (s .height) 1) (outcome 14 s)
-    (pick (eqb (topOf (s .cells) (s .height) 0) 0) (outcome 0 s)
-    (pick (ltb dataMost (s .height + 1)) (outcome 15 s) (outcome 0 (doubledOf s))))

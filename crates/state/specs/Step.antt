@@ -1,6 +1,6 @@
--- A step: "In a step: 6, 1 (the ROM again), 7, 4 (the state's length against it), then 10, 18, 11, 12, 13, 14, 19, 16, 15, 17, 20, and 21 to 27 by
--- number. A refused step leaves state, work memory and store as before it. After the first four tests a finished state says finished again and
--- takes no step." Assumes nothing.
+-- A step: "In a step: 6, 1 (the ROM again), 7, 4 (the state's length against it), then 10, 18, 11, 12, 13, 14, 19, 16, 15, 17, 20, and 21
+-- to 27 by number. A refused step leaves state, work memory and store as before it. After the first four tests a finished state says
+-- finished again and takes no step." Assumes nothing.
 use Prim.Native.Nat.{ℕ}
 use mathlib.Core.Bool.{Bool, true, false, not, _||_}
 use mathlib.Core.List.{List}
@@ -50,8 +50,8 @@ readTurn s (Unread why) = refuse why s
 readTurn s (Good t) = doneOf s t
 
 -- the token at the state's place, of a state that is ready
-unfoldable pub tokenOf : Scene → Turn
-tokenOf s = readTurn s (readOf (s .rom) (s .state .length) (s .state .wide) (isOpen (s .state .calls)) (s .state .place))
+unfoldable pub tokenTurn : Scene → Turn
+tokenTurn s = readTurn s (readOf (s .rom) (s .state .length) (s .state .wide) (isOpen (s .state .calls)) (s .state .place))
 
 -- what is known beforehand, and nothing changed; or the token
 abbrev pub knownTurn : Answer → Scene → Turn
@@ -60,7 +60,7 @@ knownTurn a s = turn a (s .state) (s .work) (s .store)
 unfoldable pub stepOf : Scene → Turn
 stepOf s =
     elim (readyOf s) [
-      | Going ↦ tokenOf s
+      | Going ↦ tokenTurn s
       | Finished ↦ knownTurn Finished s
       | Refused why ↦ knownTurn (Refused why) s
       | Spent n ↦ knownTurn (Spent n) s

@@ -1,7 +1,8 @@
 -- Refusal 7, "damaged state: a height, work place, count (nodes: 2 to 32), property length or program number outside its limit, a ROM place
 -- (return and body places too) outside 8..length, a frame's base above the next one's (the last: above the return height), the active or a
--- record's node absent, node 0 active, a parent not older than its node (the root's is 0), or live property bytes above 16,384". What lies past a
--- count is not judged. The tree's part is `wholeTree`. Assumes nothing.
+-- record's node absent, node 0 active, a parent not older than its node (the root's is 0), or live property bytes above 16,384". What lies
+-- past a count is not judged. The tree's part is `wholeTree`. Beside the active node the first is judged, the one that the program started
+-- at and where finish-device is refused: a first node that is absent, or the root, is damage. Assumes nothing.
 use Prim.Native.Nat.{ℕ, _+_}
 use mathlib.Core.Bool.{Bool, true, not, _&&_}
 use lib.ListN.{getD}
@@ -38,18 +39,27 @@ callsWhole length calls returns = leb (calls .count) framesMost && everyBelow (c
 
 -- a program number, and its body's place where it has one
 abbrev pub entryKept : ℕ → ℕ → ℕ → ℕ → Bool
-entryKept length name kind value = isProgram name && pick (eqb kind colon) (isPlace length value) true
+entryKept length program kind value = isProgram program && pick (eqb kind colon) (isPlace length value) true
 
 abbrev pub entryWhole : ℕ → Numbers → ℕ → Bool
-entryWhole length ns i = entryKept length (getD (ns .names) i 0) (getD (ns .kinds) i 0) (getD (ns .values) i 0)
+entryWhole length ns i = entryKept length (getD (ns .programs) i 0) (getD (ns .kinds) i 0) (getD (ns .values) i 0)
 
 unfoldable pub numbersWhole : ℕ → Numbers → Bool
 numbersWhole length ns = leb (ns .count) numbersMost && everyBelow (ns .count) (entryWhole length ns)
 
+-- a node that is there and is not the root
+abbrev pub belowRoot : ℕ → ℕ → Bool
+belowRoot nodes node = ltb node nodes && leb 1 node
+
+-- the first node, and "the active .. node absent, node 0 active"
+abbrev pub nodesWhole : State → Bool
+nodesWhole st = belowRoot (st .tree .nodes) (st .first) && belowRoot (st .tree .nodes) (st .active)
+
 unfoldable pub wholeOf : State → Bool
 wholeOf st =
     heightsWhole st
-    && (callsWhole (st .length) (st .calls) (st .back .height) && (numbersWhole (st .length) (st .numbers) && wholeTree (st .tree)))
+    && (callsWhole (st .length) (st .calls) (st .back .height)
+    && (numbersWhole (st .length) (st .numbers) && (wholeTree (st .tree) && nodesWhole st)))
 
 abbrev pub damagedOf : State → Bool
 damagedOf st = not (wholeOf st)

@@ -1,6 +1,6 @@
 // What a step or a run answers.
 ghost use mathlib.Core.Path.{_≡_};
-ghost use Rattle.state.specs.Scene.{numberOf};
+ghost use Rattle.state.specs.Scene.{answerNumber};
 use crate::state::State;
 
 // Going on, finished, refused with a number, or the budget spent with the count of tokens carried out.
@@ -25,7 +25,7 @@ pub struct Ran {
 
 // Document 01's number of an answer: 0 going on or finished, a refusal's own, 28 for a spent budget.
 pub fn number_of(answer: Answer) -> u32
-    ensures { λ r. ⌜ r ≡ numberOf answer ⌝ }
+    ensures { λ r. ⌜ r ≡ answerNumber answer ⌝ }
 {
     match answer {
         Answer::Going => 0,

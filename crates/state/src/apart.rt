@@ -1,11 +1,11 @@
 // A state taken apart: its numbers are one small struct that goes by value, and its arrays are lent to who changes them. A token's function
 // takes the numbers and hands them back with an answer; what it does not change it is not lent.
 ghost use mathlib.Core.Path.{_≡_};
-ghost use Rattle.state.specs.Apart.{coreOf, handed};
+ghost use Rattle.state.specs.Joints.Apart.{coreOf, handed};
 ghost use Rattle.state.specs.declared.apart.Told.the-variants.{On, Not};
 use crate::state::State;
 
-// The numbers of a state: place, width, heights, counts and the active node.
+// The numbers of a state: place, width, heights, counts, the active node and the first.
 pub struct Core {
     pub length: u32,
     pub place: u32,
@@ -18,6 +18,7 @@ pub struct Core {
     pub work_place: u32,
     pub nodes: usize,
     pub active: u32,
+    pub first: u32,
     pub records: usize,
 }
 
@@ -79,7 +80,8 @@ pub fn core_of(st: State) -> Core
         held: numbers.count,
         work_place: st.work_place,
         nodes: tree.nodes,
-        active: tree.active,
+        active: st.active,
+        first: st.first,
         records: tree.held,
     }
 }

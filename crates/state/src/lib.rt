@@ -2,6 +2,7 @@
 // call and leave. specs/ has what a token, a step and a run are. Every public call is total.
 mod answer;
 mod apart;
+mod lookup;
 mod moves;
 mod numbers;
 mod opening;
@@ -19,6 +20,11 @@ pub use apart::Told;
 pub use apart::core_of;
 pub use apart::go;
 pub use apart::stop;
+pub use lookup::find_node_in;
+pub use lookup::find_property_in;
+pub use lookup::node_rows_in;
+pub use lookup::node_table_in;
+pub use lookup::property_value_in;
 pub use moves::base;
 pub use moves::call;
 pub use moves::entry;

@@ -3,8 +3,8 @@
 ghost use mathlib.Core.Path.{_≡_};
 ghost use mathlib.Core.Bool.{false};
 ghost use lib.ListN.{getD};
-ghost use Rattle.state.specs.Moves.{pushOf, callOf, leaveOf, stepped};
-ghost use Rattle.state.specs.Apart.{onStack, onCalls, Moves, Looks, Takes, baseIn};
+ghost use Rattle.state.specs.Joints.Moves.{pushOf, callOf, leaveOf, stepped};
+ghost use Rattle.state.specs.Joints.Apart.{onStack, onCalls, Moves, Looks, Takes, baseIn};
 ghost use Rattle.state.specs.declared.answer.Answer.the-variants.{Refused, Going};
 use crate::answer::Answer;
 use crate::answer::Stepped;
@@ -57,7 +57,7 @@ pub fn wide_at(wides: &[bool], at: usize) -> bool
 }
 
 // A cell onto the data stack; 15 where it is full.
-pub fn push(cells: &mut [u32; 64], core: Core, cell: u32) -> Handed
+pub fn push(cells: &mut [u32; DATA_MOST], core: Core, cell: u32) -> Handed
     ensures { λ r. ⌜ Moves (onStack (now (cells .entry))) core r (onStack (now (cells .exit))) (λ s t. t ≡ pushOf s cell) ⌝ }
 {
     let h = core.height;
@@ -71,7 +71,7 @@ pub fn push(cells: &mut [u32; 64], core: Core, cell: u32) -> Handed
 }
 
 // The top of the data stack; 14 where it is empty.
-pub fn pop(cells: &[u32; 64], core: Core) -> Taken
+pub fn pop(cells: &[u32; DATA_MOST], core: Core) -> Taken
     ensures { λ r. ⌜ Takes (onStack (now (cells .entry))) core r ⌝ }
 {
     let h = core.height;
@@ -92,7 +92,7 @@ pub fn pop(cells: &[u32; 64], core: Core) -> Taken
 }
 
 // The return stack's height at the entry of the youngest of so many calls, 0 where none is open.
-pub fn base(bases: &[usize; 16], frames: usize) -> usize
+pub fn base(bases: &[usize; FRAMES_MOST], frames: usize) -> usize
     ensures { λ r. ⌜ r ≡ baseIn (now (bases .entry)) frames ⌝ }
 {
     if 0 < frames {
@@ -104,9 +104,9 @@ pub fn base(bases: &[usize; 16], frames: usize) -> usize
 
 // Into a body that starts at a place, in the width that it was defined in; the caller goes on at `next`. 17 where 16 calls are open.
 pub fn call(
-    places: &mut [u32; 16],
-    wides: &mut [bool; 16],
-    bases: &mut [usize; 16],
+    places: &mut [u32; FRAMES_MOST],
+    wides: &mut [bool; FRAMES_MOST],
+    bases: &mut [usize; FRAMES_MOST],
     core: Core,
     to: u32,
     wide: bool,
@@ -130,7 +130,12 @@ pub fn call(
 }
 
 // Out of a body, back to the caller's place and width. 18 where no call is open, 16 where the return stack is not at the frame's base.
-pub fn leave(places: &[u32; 16], wides: &[bool; 16], bases: &[usize; 16], core: Core) -> Handed
+pub fn leave(
+    places: &[u32; FRAMES_MOST],
+    wides: &[bool; FRAMES_MOST],
+    bases: &[usize; FRAMES_MOST],
+    core: Core,
+) -> Handed
     ensures { λ r. ⌜ Looks (onCalls (now (places .entry)) (now (wides .entry)) (now (bases .entry))) core r (λ s t. t ≡ leaveOf s) ⌝ }
 {
     let open = core.frames;

@@ -1,7 +1,7 @@
 // Opening a ROM.
 ghost use mathlib.Core.Path.{_≡_};
 ghost use mathlib.Core.Bool.{false};
-ghost use Rattle.state.specs.Scene.{told};
+ghost use Rattle.state.specs.Scene.{handedBack};
 ghost use Rattle.state.specs.Open.{emptyState, zeroState, openOf};
 use crate::answer::Stepped;
 use crate::moves::going;
@@ -14,7 +14,11 @@ use crate::state::State;
 use memory::clear_from;
 use rom::check_header;
 use rom::program_length;
+use rom::sizes::DATA_MOST;
 use rom::sizes::FIRST_PLACE;
+use rom::sizes::FRAMES_MOST;
+use rom::sizes::NUMBERS_MOST;
+use rom::sizes::RETURN_MOST;
 use rom::sizes::STORE_SIZE;
 use rom::sizes::WORK_SIZE;
 use rom::wide_start;
@@ -24,29 +28,29 @@ use tree::no_tree;
 
 const START: u32 = FIRST_PLACE as u32;
 
-// Nothing on the stacks, no calls, no numbers.
-fn empty_state(length: u32, place: u32, wide: bool, tree: Tree) -> State
-    ensures { λ r. ⌜ r ≡ emptyState length place wide tree ⌝ }
+// Nothing on the stacks, no calls, no numbers; the first node is active.
+fn empty_state(length: u32, place: u32, wide: bool, first: u32, tree: Tree) -> State
+    ensures { λ r. ⌜ r ≡ emptyState length place wide first tree ⌝ }
 {
     let stack = Stack {
-        cells: [0u32; 64],
+        cells: [0u32; DATA_MOST],
         height: 0,
     };
     let back = Back {
-        cells: [0u32; 32],
+        cells: [0u32; RETURN_MOST],
         height: 0,
     };
     let calls = Calls {
-        places: [0u32; 16],
-        wides: [false; 16],
-        bases: [0usize; 16],
+        places: [0u32; FRAMES_MOST],
+        wides: [false; FRAMES_MOST],
+        bases: [0usize; FRAMES_MOST],
         count: 0,
     };
     let numbers = Numbers {
-        names: [0u32; 256],
-        kinds: [0u8; 256],
-        values: [0u32; 256],
-        wides: [false; 256],
+        programs: [0u32; NUMBERS_MOST],
+        kinds: [0u8; NUMBERS_MOST],
+        values: [0u32; NUMBERS_MOST],
+        wides: [false; NUMBERS_MOST],
         count: 0,
     };
     State {
@@ -59,6 +63,8 @@ fn empty_state(length: u32, place: u32, wide: bool, tree: Tree) -> State
         calls: calls,
         numbers: numbers,
         work_place: 0,
+        active: first,
+        first: first,
         tree: tree,
     }
 }
@@ -67,13 +73,14 @@ fn empty_state(length: u32, place: u32, wide: bool, tree: Tree) -> State
 fn zero_state() -> State
     ensures { λ r. ⌜ r ≡ zeroState ⌝ }
 {
-    empty_state(0, 0, false, no_tree())
+    empty_state(0, 0, false, 0, no_tree())
 }
 
 // Tests the buffers and the header in the order 6, 1, 2, 3, 4, 5, and starts the program: work memory and store are zeroed. A refused
 // opening writes nothing and hands back the all-zero state.
 pub fn open(rom: &[u8], work: &mut [u8], store: &mut [u8]) -> Stepped
-    ensures { λ r. ⌜ told r (now (work .exit)) (now (store .exit)) ≡ openOf (now (rom .entry)) (now (work .entry)) (now (store .entry)) ⌝ }
+    ensures { λ r. ⌜ handedBack r (now (work .exit)) (now (store .exit))
+        ≡ openOf (now (rom .entry)) (now (work .entry)) (now (store .entry)) ⌝ }
 {
     if work.len() != WORK_SIZE {
         return refused(zero_state(), 6);
@@ -87,5 +94,5 @@ pub fn open(rom: &[u8], work: &mut [u8], store: &mut [u8]) -> Stepped
     }
     clear_from(work, 0);
     clear_from(store, 0);
-    going(empty_state(program_length(rom), START, wide_start(rom), fresh_tree()))
+    going(empty_state(program_length(rom), START, wide_start(rom), 1, fresh_tree()))
 }

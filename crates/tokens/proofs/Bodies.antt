@@ -7,19 +7,20 @@ use native.Mathlib.Omega.{arith}
 use borrow.Author.Tests.{le-ltb, lt-ltb, eq-eqb, ne-eqb, ltb-true, leb-true}
 use lib.Dec.{T, eqb, ltb, leb, ltb→lt, eqb→eq}
 use Rattle.cells.specs.Choice.{pick}
-use Rattle.cells.specs.Tests.{neqb→ne}
-use Rattle.cells.specs.Facts.{holds, four-hold, both-hold, and-first, and-second, join-hold, follows, is-true, is-false, not-on}
+use Rattle.cells.specs.Laws.Tests.{neqb→ne}
+use Rattle.cells.specs.Laws.Facts.{holds, four-hold, both-hold, and-first, and-second, join-hold, follows, is-true, is-false, not-on}
 use Rattle.rom.specs.Bytes.{byteOf, word16Of}
 use Rattle.tokens.specs.Family.{call, assign}
 use Rattle.tokens.specs.Row.{number}
 use Rattle.tokens.specs.Table.{ends, lows, highs, doubles, table, rowOf}
 use Rattle.tokens.specs.Code.{codeOf, familyIn, formIn}
-use Rattle.tokens.specs.Decode.{isDouble, numberOf, behindNumber, behindOf, operandOf, formed, listed, tokenOf, wholeOf, decodeOf}
+use Rattle.tokens.specs.Decode.{isDouble, numberOf, behindNumber, behindOf, operandOf, formed, listed, tokenOf, tokenIfWhole}
+use Rattle.tokens.specs.Decode.{decodeOf}
 use Rattle.tokens.specs.Place.{judged, misplacedOf, readOf}
-use Rattle.tokens.specs.Body.{kindOf, numberIn, unknownBy, unknownOf, onward, afterOf, bodyOf}
-use Rattle.tokens.specs.Body.{beyond, passes, passedOf, endsAt, stoppedOf}
-use Rattle.tokens.specs.Laws.{number-ahead, behind-ahead, decoded-is, body-is, body-stops, body-goes}
-use Rattle.tokens.specs.Rows.{code-fact}
+use Rattle.tokens.specs.Body.{kindOf, numberIn, unknownBy, unknownOf, bodyOnward, afterOf, bodyOf}
+use Rattle.tokens.specs.Laws.Tokens.{number-ahead, behind-ahead, decoded-is, body-is, body-stops, body-goes}
+use Rattle.tokens.specs.Laws.Rows.{code-fact}
+use Rattle.tokens.specs.Joints.Body.{beyond, passes, passedOf, endsAt, stoppedOf}
 use Rattle.tokens.specs.declared.decoding.Token.{Token}
 use Rattle.tokens.specs.declared.decoding.Decoded.{Decoded}
 use Rattle.tokens.specs.declared.decoding.Decoded.the-variants.{Whole}
@@ -68,7 +69,7 @@ module _ (rom : List ℕ) (length : ℕ) (wide : Bool) (p : ℕ) where
 
   -- ---- where a body does not go on
   pub ends-here : endsAt rom length p ≡ true → Ends p ≡ stoppedOf p (readOf rom length wide true p)
-  unfolding readOf decodeOf wholeOf operandOf behindOf misplacedOf codeOf rowOf table ends lows highs doubles
+  unfolding readOf decodeOf tokenIfWhole operandOf behindOf misplacedOf codeOf rowOf table ends lows highs doubles
   ends-here h =
       let l = ltb-true p length (and-first (ltb p length) (eqb (byteOf rom p) 0xC2) h) in
       let e = eqb→eq (byteOf rom p) 0xC2 (holds (eqb (byteOf rom p) 0xC2) (and-second (ltb p length) (eqb (byteOf rom p) 0xC2) h)) in
@@ -139,7 +140,7 @@ module _ (rom : List ℕ) (length : ℕ) (wide : Bool) (p : ℕ) where
           (formed-at (formIn (codeOf n)) (ltb→lt (formIn (codeOf n)) 5 f)))
 
       read-here : next ≤ length → readOf rom length wide true p ≡ Good this
-      unfolding readOf decodeOf wholeOf
+      unfolding readOf decodeOf tokenIfWhole
       read-here l = rw (le-ltb _ _ l, in-list, is-false (misplacedOf (codeOf n) true) (parts .1))
 
       goes : next ≤ length → bodyOf rom length wide kinds p ≡ bodyOf rom length wide kinds next
@@ -148,7 +149,7 @@ module _ (rom : List ℕ) (length : ℕ) (wide : Bool) (p : ℕ) where
           (unknown-here ∙ is-false unknown (parts .3))
 
       cut : length < next → readOf rom length wide true p ≡ Refused 10
-      unfolding readOf decodeOf wholeOf
+      unfolding readOf decodeOf tokenIfWhole
       cut l = rw (lt-ltb _ _ l)
 
     -- one that it does not
@@ -163,7 +164,7 @@ module _ (rom : List ℕ) (length : ℕ) (wide : Bool) (p : ℕ) where
       whole-halts l = by-place (misplacedOf (codeOf n) true) refl
         where
           by-end : misplacedOf (codeOf n) true ≡ false → (e : Bool) → eqb n 0xC2 ≡ e
-              → onward (eqb n 0xC2) (unknownOf kinds this) p go next ≡ stoppedOf p (Good this)
+              → bodyOnward (eqb n 0xC2) (unknownOf kinds this) p go next ≡ stoppedOf p (Good this)
           by-end m true e = rw e
           by-end m false e =
               let c = is-false (eqb (codeOf n) 0) (both-hold (not (eqb (codeOf n) 0)) (formed (this .operand)) l .0) in

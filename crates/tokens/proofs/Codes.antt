@@ -6,11 +6,11 @@ use native.Mathlib.Omega.{arith}
 use borrow.Author.Tests.{le-leb, lt-leb}
 use lib.Dec.{T}
 use Rattle.cells.specs.Choice.{find}
-use Rattle.cells.specs.Tests.{Rest, find-none}
+use Rattle.cells.specs.Laws.Tests.{Rest, find-none}
 use Rattle.tokens.specs.Row.{Row}
 use Rattle.tokens.specs.Table.{ends, lows, highs, doubles, table, rowOf, notListed}
 use Rattle.tokens.specs.Code.{codeOf}
-use Rattle.tokens.specs.Glance.{twoBytes, firstOf}
+use Rattle.tokens.specs.Joints.Glance.{twoBytes, firstSays}
 use Rattle.tokens.proofs.Lookup.{clear, find-clear, find-append}
 
 nothing : (n : ℕ) → rowOf n ≡ notListed → 0 ≡ codeOf n
@@ -23,7 +23,8 @@ unfolding rowOf
 listed n h = rw (lt-leb _ _ h)
 
 -- a number in a stretch of the list where only the part m has keys, and none of those
-pub left-over : (s m t : List (ℕ × Row)) (low high n : ℕ) → table ≡ s ++ (m ++ t) → T (clear low high s) → T (clear low high t) → high < 0x800
+pub left-over : (s m t : List (ℕ × Row)) (low high n : ℕ) → table ≡ s ++ (m ++ t) → T (clear low high s) → T (clear low high t)
+    → high < 0x800
     → low ≤ n → n ≤ high → Rest (Unit {0}) m n → 0 ≡ codeOf n
 left-over s m t low high n e c d b l h r =
     nothing n
@@ -93,16 +94,16 @@ not-zero : (n : ℕ) → Rest (Unit {0}) (ends ++ (lows ++ highs)) n → n ≡ 0
 unfolding codeOf rowOf table ends lows highs doubles
 not-zero n r e = let z = no-single n (omega arith) r in let y = rw e at z in omega arith
 
-pub first-of-two : (b : ℕ) → b < 0x10 → Rest (Unit {0}) (ends ++ (lows ++ highs)) b → twoBytes ≡ firstOf b
-unfolding firstOf
+pub first-of-two : (b : ℕ) → b < 0x10 → Rest (Unit {0}) (ends ++ (lows ++ highs)) b → twoBytes ≡ firstSays b
+unfolding firstSays
 first-of-two b h r =
     let z = not-zero b r in
     let l : 1 ≤ b = omega (arith, z) in
     let k : b ≤ 0xF = omega arith in
     rw (le-leb _ _ l, le-leb _ _ k)
 
-pub first-of-none : (b : ℕ) → 0x10 ≤ b → b ≤ 0xFF → Rest (Unit {0}) (ends ++ (lows ++ highs)) b → 0 ≡ firstOf b
-unfolding firstOf
+pub first-of-none : (b : ℕ) → 0x10 ≤ b → b ≤ 0xFF → Rest (Unit {0}) (ends ++ (lows ++ highs)) b → 0 ≡ firstSays b
+unfolding firstSays
 first-of-none b l h r =
     let k : 1 ≤ b = omega arith in
     rw (le-leb _ _ k, lt-leb _ _ l) (no-single b h r)

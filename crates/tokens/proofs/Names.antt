@@ -1,17 +1,18 @@
--- What the default arms of the names' matches leave over: a program number, a number that is not in the list, and a name of eight letters or less.
--- Assumes nothing.
+-- What the default arms of the names' matches leave over: a program number, a number that is not in the list, and a name of eight letters
+-- or less. Assumes nothing.
 use Prim.Native.Nat.{ℕ}
 use mathlib.Core.Path.{_≡_, sym, _∙_}
-use mathlib.Core.Bool.{Bool, true, false, _||_}
+use mathlib.Core.Bool.{true, false, _||_}
 use mathlib.Core.List.{List, [], _∷_}
 use lib.ListN.{drop}
 use lib.Dec.{T, eqb, eqb→eq}
-use Rattle.cells.specs.Choice.{find}
-use Rattle.cells.specs.Tests.{Rest, find-none}
+use Rattle.cells.specs.Choice.{find, among}
+use Rattle.cells.specs.Laws.Tests.{Rest, find-none}
+use Rattle.cells.specs.Laws.Facts.{either, or-second}
 use Rattle.rom.specs.Words.{lettersOf}
 use Rattle.tokens.specs.Row.{Row}
 use Rattle.tokens.specs.Table.{ends, lows, highs, doubles, table, rowOf, isProgram, program, notListed}
-use Rattle.tokens.specs.Rows.{found, among, Beside, none-left}
+use Rattle.tokens.specs.Laws.Rows.{found, Beside, none-left}
 use Rattle.tokens.specs.Name.{nameOf, packedFrom, frontOf, restOf}
 
 a-program : (n : ℕ) → isProgram n ≡ true → rowOf n ≡ program
@@ -47,13 +48,6 @@ no-rest n e b =
     sym
     (rw (from-list n e)
     (eqb→eq (rest-in (find table notListed n)) 0
-    (other (among n longs) (eqb (rest-in (find table notListed n)) 0)
-    (found (λ m r. among m longs || eqb (rest-in r) 0) table notListed n tt (last (among n longs))) (none-left (Unit {0}) longs n b))))
-  where
-    last : (a : Bool) → T (a || true)
-    last true = tt
-    last false = tt
-
-    other : (a k : Bool) → T (a || k) → (T a → ⊥) → T k
-    other true k t n = absurd (n tt)
-    other false k t n = t
+    (either (among n longs) (eqb (rest-in (find table notListed n)) 0) (T (eqb (rest-in (find table notListed n)) 0))
+    (found (λ m r. among m longs || eqb (rest-in r) 0) table notListed n tt (or-second (among n longs) true tt))
+    (λ l. absurd (none-left (Unit {0}) longs n b l)) (λ z. z))))

@@ -6,9 +6,9 @@ use mathlib.Core.List.{List}
 use native.Mathlib.Omega.{arith}
 use borrow.Author.Tests.{eq-eqb, ne-eqb, leb-true}
 use lib.Dec.{T, eqb, ltb, leb, eqb→eq, ltb→lt}
-use Rattle.cells.specs.Choice.{pick}
-use Rattle.cells.specs.Tests.{neqb→ne}
-use Rattle.cells.specs.Facts.{holds, fails, both-hold, and-first, and-second, four-hold, is-false}
+use Rattle.cells.specs.Choice.{pick, among}
+use Rattle.cells.specs.Laws.Tests.{neqb→ne}
+use Rattle.cells.specs.Laws.Facts.{holds, fails, both-hold, either, and-first, and-second, four-hold, is-false}
 use Rattle.rom.specs.Bytes.{byteOf}
 use Rattle.tokens.specs.Family.{call, assign}
 use Rattle.tokens.specs.Row.{none}
@@ -16,11 +16,12 @@ use Rattle.tokens.specs.Table.{ends, lows, highs, doubles, table, rowOf,
 use Rattle.tokens.specs.Code.{packed, codeOf, familyIn, formIn}
 use Rattle.tokens.specs.Decode.{isDouble, numberOf, behindNumber, behindString, behindOf}
 use Rattle.tokens.specs.Place.{misplacedOf}
-use Rattle.tokens.specs.Body.{kindOf, beyond, passes, passedOf, frequent}
-use Rattle.tokens.specs.Rows.{found, among, Beside, none-left}
-use Rattle.tokens.specs.GlanceLaws.{double-plain}
+use Rattle.tokens.specs.Body.{kindOf}
+use Rattle.tokens.specs.Laws.Rows.{found, Beside, none-left}
+use Rattle.tokens.specs.Laws.Glance.{double-plain}
 use Rattle.tokens.proofs.Codes.{listed, a-program}
 use Rattle.tokens.proofs.Ranges.{bounds}
+use Rattle.tokens.specs.Joints.Body.{beyond, passes, passedOf, frequent}
 
 -- ---- a test of so many numbers from one on
 abbrev everyFrom : (ℕ → Bool) → ℕ → ℕ → Bool
@@ -38,10 +39,6 @@ every-one f (suc many) low n h l u =
     by false e t later =
         let z = neqb→ne n low (fails (eqb n low) e) in
         later (omega (arith, z))
-
-first-holds : (x y : Bool) → (T y → ⊥) → T (x || y) → T x
-first-holds true y z t = tt
-first-holds false y z t = z t
 
 -- a byte that is a whole token, which a body goes on behind whatever it knows
 abbrev plain : ℕ → Bool
@@ -128,7 +125,8 @@ module _ (rom : List ℕ) (wide : Bool) (kinds : List ℕ) (p b : ℕ) (e : b �
       → Beside (Unit {0}) ks b → beyond ≡ passedOf rom wide kinds p
   none-passed ks many low h l u f r =
       let t = every-one (blockedBut ks) many low b h l u in
-      blocked-passed (first-holds (blocked b) (among b ks) (none-left (Unit {0}) ks b r) (rw f at t))
+      blocked-passed
+      (either (blocked b) (among b ks) (T (blocked b)) (rw f at t) (λ y. y) (λ y. absurd (none-left (Unit {0}) ks b r y)))
 
   -- ---- with an operand
   coded : (k next : ℕ) → b ≡ k → isDouble k ≡ false → next ≡ behind k (p + 1) → next ≡ passedOf rom wide kinds p
@@ -212,7 +210,7 @@ module _ (rom : List ℕ) (wide : Bool) (kinds : List ℕ) (p b : ℕ) (e : b �
         let o : T (ordinary n (codeOf n)) = rw (listed n l) t in
         let a = not (eqb (familyIn (codeOf n)) call) in
         let g = not (eqb (familyIn (codeOf n)) assign) in
-        let q = both-hold a g (first-holds (a && g) (ltb n 0x100) (λ y. omega (arith, ltb→lt n 0x100 y)) o) in
+        let q = both-hold a g (either (a && g) (ltb n 0x100) (T (a && g)) o (λ y. y) (λ y. absurd (omega (arith, ltb→lt n 0x100 y)))) in
         let i = is-false (eqb (familyIn (codeOf n)) call) (q .0) in
         let j = is-false (eqb (familyIn (codeOf n)) assign) (q .1) in
         let x : p + 2 ≡ far = rw (ne-eqb _ _ z, m, not-end, i, j) in

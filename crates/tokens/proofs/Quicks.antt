@@ -6,30 +6,30 @@ use mathlib.Core.List.{List, [], _∷_}
 use native.Mathlib.Omega.{arith}
 use lib.Dec.{T, eqb, leb, eqb→eq, leb→le}
 use lib.ListN.{getD}
-use Rattle.cells.specs.Facts.{both-hold}
+use Rattle.cells.specs.Laws.Facts.{both-hold}
 use Rattle.rom.specs.Bytes.{byteOf}
 use Rattle.tokens.specs.Table.{ends, lows, highs, doubles, table, rowOf}
 use Rattle.tokens.specs.Code.{codeOf, outOfPlaceIn, formIn}
 use Rattle.tokens.specs.Place.{misplacedOf}
-use Rattle.tokens.specs.Glance.{firstOf, seenAs, glanceOf}
-use Rattle.tokens.specs.GlanceLaws.{read-plain, read-literal}
-use Rattle.tokens.specs.GlanceForms.{has-none, of-one, of-literal, in-time, seen-one}
-use Rattle.tokens.specs.Quick.{Codes, QuickRead}
+use Rattle.tokens.specs.Joints.Glance.{firstSays, seenAs, glanceOf}
+use Rattle.tokens.specs.Laws.Glance.{read-plain, read-literal}
+use Rattle.tokens.specs.Laws.GlanceForms.{has-none, of-one, of-literal, in-time, seen-one}
+use Rattle.tokens.specs.Joints.Quick.{Codes, QuickRead}
 use Rattle.tokens.specs.declared.quick.Quick.{Quick}
 
 -- ---- the table, by a test of its entries from number k on, which antt computes
 abbrev pub coded : ℕ → List ℕ → Bool
 coded k [] = leb 256 k
-coded k (x ∷ xs) = eqb x (firstOf k) && coded (suc k) xs
+coded k (x ∷ xs) = eqb x (firstSays k) && coded (suc k) xs
 
-from : (l : List ℕ) (k : ℕ) → T (coded k l) → (j : ℕ) → k + j < 256 → getD l j 0 ≡ firstOf (k + j)
+from : (l : List ℕ) (k : ℕ) → T (coded k l) → (j : ℕ) → k + j < 256 → getD l j 0 ≡ firstSays (k + j)
 from [] k t j h = let g = leb→le 256 k t in absurd (omega arith)
 from (x ∷ xs) k t zero h =
     let e : k + 0 ≡ k = omega arith in
-    rw e (eqb→eq x (firstOf k) (both-hold (eqb x (firstOf k)) (coded (suc k) xs) t .0))
+    rw e (eqb→eq x (firstSays k) (both-hold (eqb x (firstSays k)) (coded (suc k) xs) t .0))
 from (x ∷ xs) k t (suc j) h =
     let e : k + suc j ≡ suc k + j = omega arith in
-    rw e (from xs (suc k) (both-hold (eqb x (firstOf k)) (coded (suc k) xs) t .1) j (omega arith))
+    rw e (from xs (suc k) (both-hold (eqb x (firstSays k)) (coded (suc k) xs) t .1) j (omega arith))
 
 pub codes-are : (l : List ℕ) → T (coded 0 l) → Codes l
 unfolding Codes
@@ -45,7 +45,7 @@ no-end : (b code : ℕ) → code ≡ codeOf b → code < 0x200_0000 → b ≡ 0x
 unfolding codeOf rowOf table ends lows highs doubles
 no-end b code e h z = let k = rw z at e in omega arith
 
-module _ (rom : List ℕ) (length p b code : ℕ) (e : b ≡ byteOf rom p) (f : code ≡ firstOf b) where
+module _ (rom : List ℕ) (length p b code : ℕ) (e : b ≡ byteOf rom p) (f : code ≡ firstSays b) where
   abbrev at : ℕ → Quick
   at next = record { first = b; code = code; next = next }
 

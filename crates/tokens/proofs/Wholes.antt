@@ -6,7 +6,7 @@ use mathlib.Core.List.{List}
 use native.Mathlib.Omega.{arith}
 use borrow.Author.Tests.{lt-ltb, le-ltb}
 use Rattle.tokens.specs.Code.{codeOf, formIn}
-use Rattle.tokens.specs.Decode.{numberOf, behindNumber, behindOf, operandOf, listed, tokenOf, wholeOf, decodeOf}
+use Rattle.tokens.specs.Decode.{numberOf, behindNumber, behindOf, operandOf, listed, tokenOf, tokenIfWhole, decodeOf}
 use Rattle.tokens.specs.declared.decoding.Operand.{Operand}
 use Rattle.tokens.specs.declared.decoding.Decoded.the-variants.{Cut, Unlisted, Whole}
 
@@ -18,12 +18,12 @@ pub record Found (rom : List ℕ) (wide : Bool) (p number code start next : ℕ)
   pub ends : next ≡ behindOf rom wide start (formIn code)
 
 module _ {rom : List ℕ} {wide : Bool} {p number code start next : ℕ} (f : Found rom wide p number code start next) (length : ℕ) where
-  decoded : decodeOf rom length wide p ≡ wholeOf length number code (operandOf rom length wide start (formIn code)) next
+  decoded : decodeOf rom length wide p ≡ tokenIfWhole length number code (operandOf rom length wide start (formIn code)) next
   unfolding decodeOf
   decoded = rw (← f .numbered, ← f .coded, ← f .starts, ← f .ends)
 
   pub cut-off : length < next → Cut ≡ decodeOf rom length wide p
-  unfolding wholeOf
+  unfolding tokenIfWhole
   cut-off h = rw (decoded, lt-ltb _ _ h)
 
   -- a string that lies whole before the length starts where a place can be counted
@@ -36,9 +36,9 @@ module _ {rom : List ℕ} {wide : Bool} {p number code start next : ℕ} (f : Fo
 
   module _ (o : Operand) (e : o ≡ operandOf rom length wide start (formIn code)) (h : next ≤ length) where
     pub is-whole : listed code o ≡ true → Whole (tokenOf number code o next) ≡ decodeOf rom length wide p
-    unfolding wholeOf
+    unfolding tokenIfWhole
     is-whole l = rw (decoded, le-ltb _ _ h, ← e, l)
 
     pub is-unlisted : listed code o ≡ false → Unlisted code ≡ decodeOf rom length wide p
-    unfolding wholeOf
+    unfolding tokenIfWhole
     is-unlisted l = rw (decoded, le-ltb _ _ h, ← e, l)

@@ -2,17 +2,15 @@
 -- 18, 11 or 12 (heights and branches wait for the run)". Refusal 12: "program number undefined, or not a value after b(to)", by the numbers
 -- defined so far. Assumes nothing.
 use Prim.Native.Nat.{ℕ, zero, suc, _-_}
-use mathlib.Core.Bool.{Bool, true, false, not, _&&_}
+use mathlib.Core.Bool.{Bool, true, false, not}
 use mathlib.Core.List.{List}
 use lib.ListN.{getD}
-use lib.Dec.{ltb, leb, eqb}
+use lib.Dec.{eqb}
 use Rattle.cells.specs.Choice.{pick}
-use Rattle.rom.specs.Bytes.{byteOf}
 use Rattle.tokens.specs.Family.{call, assign}
-use Rattle.tokens.specs.Table.{isProgram}
-use Rattle.tokens.specs.Code.{codeOf, familyIn, formIn}
-use Rattle.tokens.specs.Decode.{numberOf, behindNumber, behindOf}
-use Rattle.tokens.specs.Place.{misplacedOf, readOf}
+use Rattle.tokens.specs.Table.{isProgram, firstProgram}
+use Rattle.tokens.specs.Code.{familyIn}
+use Rattle.tokens.specs.Place.{readOf}
 use Rattle.tokens.specs.declared.decoding.Operand.{Operand}
 use Rattle.tokens.specs.declared.decoding.Operand.the-variants.{Nothing, Literal, Text, Branch, Number, Definition}
 use Rattle.tokens.specs.declared.decoding.Token.{Token}
@@ -21,10 +19,10 @@ use Rattle.tokens.specs.declared.read.Read.the-variants.{Refused, Good}
 use Rattle.tokens.specs.declared.body.Body.{Body}
 use Rattle.tokens.specs.declared.body.Body.the-variants.{Ends, Stops}
 
--- the kind byte of a program number, by a list that has one for each number from 800 up: 0 where the number is not defined, as any other
--- number is not
+-- the kind byte of a program number, by a list that has one for each number from the first up: 0 where the number is not defined, as any
+-- other number is not
 abbrev pub kindOf : List ℕ → ℕ → ℕ
-kindOf kinds n = pick (isProgram n) (getD kinds (n - 0x800) 0) 0
+kindOf kinds n = pick (isProgram n) (getD kinds (n - firstProgram) 0) 0
 
 -- the number that stands behind b(to)
 abbrev pub numberIn : Operand → ℕ
@@ -44,14 +42,14 @@ unfoldable pub unknownOf : List ℕ → Token → Bool
 unknownOf kinds t = unknownBy kinds (t .code) (t .number) (numberIn (t .operand))
 
 -- what follows a whole token of a body at p: the body ends there, it is refused there, or reading goes on at q
-abbrev pub onward : Bool → Bool → ℕ → (ℕ → Body) → ℕ → Body
-onward true unknown p go q = Ends p
-onward false true p go q = Stops p 12
-onward false false p go q = go q
+abbrev pub bodyOnward : Bool → Bool → ℕ → (ℕ → Body) → ℕ → Body
+bodyOnward true unknown p go q = Ends p
+bodyOnward false true p go q = Stops p 12
+bodyOnward false false p go q = go q
 
 abbrev pub afterOf : List ℕ → ℕ → Read → (ℕ → Body) → Body
 afterOf kinds p (Refused why) go = Stops p why
-afterOf kinds p (Good t) go = onward (eqb (t .number) 0xC2) (unknownOf kinds t) p go (t .next)
+afterOf kinds p (Good t) go = bodyOnward (eqb (t .number) 0xC2) (unknownOf kinds t) p go (t .next)
 
 -- reading on from p, of so many tokens at most: none is left where none can start before the length
 unfoldable pub bodyFrom : List ℕ → ℕ → Bool → List ℕ → ℕ → ℕ → Body
@@ -60,32 +58,3 @@ bodyFrom rom length wide kinds (suc k) p = afterOf kinds p (readOf rom length wi
 
 abbrev pub bodyOf : List ℕ → ℕ → Bool → List ℕ → ℕ → Body
 bodyOf rom length wide kinds p = bodyFrom rom length wide kinds (length - p) p
-
--- ---- for the code's own steps
--- further than any program reaches
-abbrev pub beyond : ℕ
-beyond = 0x1_0000_0000
-
--- whether a body goes on behind a token of the number n, with m the number that stands behind that: it is one of the list, in place there,
--- not b(;), and known
-abbrev pub passes : List ℕ → ℕ → ℕ → Bool
-passes kinds n m =
-    not (eqb (codeOf n) 0) && not (misplacedOf (codeOf n) true) && not (eqb n 0xC2) && not (unknownBy kinds (codeOf n) n m)
-
--- the place behind such a token at p
-unfoldable pub passedOf : List ℕ → Bool → List ℕ → ℕ → ℕ
-passedOf rom wide kinds p =
-    pick (passes kinds (numberOf rom p) (numberOf rom (behindNumber rom p)))
-    (behindOf rom wide (behindNumber rom p) (formIn (codeOf (numberOf rom p)))) beyond
-
--- from u/mod to 2*, and from -1 to 3
-abbrev pub frequent : ℕ → Bool
-frequent b = pick (leb b 0x59) (leb 0x2B b) (leb b 0xA8 && leb 0xA4 b)
-
-abbrev pub endsAt : List ℕ → ℕ → ℕ → Bool
-endsAt rom length p = ltb p length && eqb (byteOf rom p) 0xC2
-
--- how a body ends where it does not go on, by what was read there
-abbrev pub stoppedOf : ℕ → Read → Body
-stoppedOf p (Refused why) = Stops p why
-stoppedOf p (Good t) = pick (eqb (t .number) 0xC2) (Ends p) (Stops p 12)

@@ -7,7 +7,8 @@ use Rattle.tokens.specs.Table.{rowOf}
 
 abbrev pub packed : Row → ℕ
 packed r =
-    r .family * 0x100_0000 + r .outOfPlace * 0x10_0000 + r .form * 0x1_0000 + r .returnTakes * 0x1000 + r .returnGives * 0x100 + r .takes * 0x10
+    r .family * 0x100_0000 + r .outOfPlace * 0x10_0000 + r .form * 0x1_0000 + r .returnTakes * 0x1000 + r .returnGives * 0x100 + r .takes *
+    0x10
     + r .gives
 
 unfoldable pub codeOf : ℕ → ℕ

@@ -85,11 +85,11 @@ abbrev pub tokenOf : ℕ → ℕ → Operand → ℕ → Token
 tokenOf n code o next = record { number = n; code = code; operand = o; next = next }
 
 -- what is left to say once it is known where the token ends
-unfoldable pub wholeOf : ℕ → ℕ → ℕ → Operand → ℕ → Decoded
-wholeOf length n code o next = pick (ltb length next) Cut (pick (listed code o) (Whole (tokenOf n code o next)) (Unlisted code))
+unfoldable pub tokenIfWhole : ℕ → ℕ → ℕ → Operand → ℕ → Decoded
+tokenIfWhole length n code o next = pick (ltb length next) Cut (pick (listed code o) (Whole (tokenOf n code o next)) (Unlisted code))
 
 unfoldable pub decodeOf : List ℕ → ℕ → Bool → ℕ → Decoded
 decodeOf rom length wide p =
-    wholeOf length (numberOf rom p) (codeOf (numberOf rom p))
+    tokenIfWhole length (numberOf rom p) (codeOf (numberOf rom p))
     (operandOf rom length wide (behindNumber rom p) (formIn (codeOf (numberOf rom p))))
     (behindOf rom wide (behindNumber rom p) (formIn (codeOf (numberOf rom p))))

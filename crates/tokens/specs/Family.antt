@@ -97,4 +97,5 @@ finishDevice = 24
 -- all of them, as the code has them
 abbrev pub families : List ℕ
 families =
-    unlisted ∷ plain ∷ finish ∷ always ∷ choice ∷ text ∷ widen ∷ divide ∷ pickUp ∷ rollUp ∷ maybe ∷ leave ∷ fetch ∷ store ∷ define ∷ kind ∷ assign ∷ call ∷ encodeInt ∷ encodeString ∷ join ∷ property ∷ titled ∷ newDevice ∷ finishDevice ∷ []
+    unlisted ∷ plain ∷ finish ∷ always ∷ choice ∷ text ∷ widen ∷ divide ∷ pickUp ∷ rollUp ∷ maybe ∷ leave ∷ fetch ∷ store ∷ define ∷ kind ∷
+    assign ∷ call ∷ encodeInt ∷ encodeString ∷ join ∷ property ∷ titled ∷ newDevice ∷ finishDevice ∷ []

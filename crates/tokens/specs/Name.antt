@@ -1,10 +1,8 @@
--- The names of the list as letters, and packed into two numbers for the code: eight letters in the first and what is left in the second, the last letter
--- lowest. Assumes nothing.
-use Prim.Native.Nat.{ℕ, zero, suc, _+_, _*_, _/_, _%_}
-use mathlib.Core.Bool.{true, false}
-use mathlib.Core.List.{List, [], _∷_, _++_}
+-- The names of the list as letters, and packed into two numbers for the code: eight letters in the first and what is left in the second,
+-- the last letter lowest. Assumes nothing.
+use Prim.Native.Nat.{ℕ, _+_, _*_}
+use mathlib.Core.List.{List, [], _∷_}
 use lib.ListN.{take, drop}
-use lib.Dec.{eqb}
 use Rattle.rom.specs.Words.{lettersOf}
 use Rattle.tokens.specs.Table.{rowOf}
 
@@ -21,8 +19,3 @@ frontOf n = packedFrom 0 (take 8 (nameOf n))
 
 unfoldable pub restOf : ℕ → ℕ
 restOf n = packedFrom 0 (drop 8 (nameOf n))
-
--- the letters that a number packs, so many at most
-unfoldable pub unpacked : ℕ → ℕ → List ℕ
-unpacked zero w = []
-unpacked (suc k) w = elim (eqb w 0) [ true ↦ [] | false ↦ unpacked k (w / 256) ++ (w % 256 ∷ []) ]

@@ -1,5 +1,5 @@
--- Walking a program from place to place: "The listing tool walks tokens with a reader that carries the ROM and its place." What stands at a place, and
--- what a walk from place 8 on comes past. Assumes nothing.
+-- Walking a program from place to place: "The listing tool walks tokens with a reader that carries the ROM and its place." What stands at a
+-- place, and what a walk from place 8 on comes past. Assumes nothing.
 use Prim.Native.Nat.{ℕ, zero, suc, _-_, _<_}
 use mathlib.Core.Path.{_≡_}
 use mathlib.Core.Bool.{Bool, true}
@@ -26,7 +26,8 @@ endOf rom = pick (ltb (length rom) (lengthOf rom)) (length rom) (lengthOf rom)
 abbrev pub widthBehind : Bool → ℕ → Bool
 widthBehind wide code = pick (eqb (familyIn code) widen) true wide
 
--- a token of the list; the bytes of a number that is not in it; or, where the end cuts a token off, all bytes that are left, which are that token's
+-- a token of the list; the bytes of a number that is not in it; or, where the end cuts a token off, all bytes that are left, which are that
+-- token's
 abbrev pub pieceIn : List ℕ → ℕ → Bool → ℕ → Decoded → Piece
 pieceIn rom end wide p Cut = Raw end
 pieceIn rom end wide p (Unlisted code) = Raw (behindNumber rom p)

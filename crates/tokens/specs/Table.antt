@@ -12,7 +12,8 @@ use Rattle.cells.specs.Comparison.{betweenOf, withinOf}
 use Rattle.tokens.specs.Family.{unlisted, finish, always, choice, text, widen, divide, pickUp, rollUp, maybe, leave, fetch, store}
 use Rattle.tokens.specs.Family.{define, kind, assign, call, encodeInt, encodeString, join, property, titled, newDevice, finishDevice}
 use Rattle.tokens.specs.Row.{Row, none, literal, string, offset, number, head, namedHead}
-use Rattle.tokens.specs.Row.{nowhere, inside, outside, everywhere, top, returned, says, operand, one, two, three, reckons, pure, works}
+use Rattle.tokens.specs.Row.{nowhere, inside, outside, everywhere, top, returned, says, operand, one, two, three, reckons, pure}
+use Rattle.tokens.specs.Row.{works}
 
 -- "00 end0, FF end1: finish"
 unfoldable pub ends : List (ℕ × Row)
@@ -142,8 +143,18 @@ abbrev pub notListed : Row
 notListed = works "" unlisted nowhere none 0 0 []
 
 -- "a new number outside 0x800-0xFFF" is none of a program
+abbrev pub firstProgram : ℕ
+firstProgram = 0x800
+
+abbrev pub lastProgram : ℕ
+lastProgram = 0xFFF
+
+-- how many there are, each with its place in the tables of numbers
+abbrev pub programsMost : ℕ
+programsMost = 2048
+
 abbrev pub isProgram : ℕ → Bool
-isProgram n = leb 0x800 n && leb n 0xFFF
+isProgram n = leb firstProgram n && leb n lastProgram
 
 unfoldable pub rowOf : ℕ → Row
 unfolding table

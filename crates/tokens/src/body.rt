@@ -4,7 +4,8 @@ ghost use mathlib.Core.Bool.{Bool, true};
 ghost use Rattle.rom.specs.Bytes.{byteOf};
 ghost use Rattle.tokens.specs.Decode.{isDouble};
 ghost use Rattle.tokens.specs.Place.{readOf};
-ghost use Rattle.tokens.specs.Body.{kindOf, numberIn, unknownOf, frequent, passedOf, endsAt, stoppedOf, bodyOf};
+ghost use Rattle.tokens.specs.Body.{kindOf, numberIn, unknownOf, bodyOf};
+ghost use Rattle.tokens.specs.Joints.Body.{frequent, passedOf, endsAt, stoppedOf};
 use crate::code::double_code;
 use crate::code::family_of;
 use crate::decoding::Operand;
@@ -15,6 +16,8 @@ use crate::decoding::behind_string;
 use crate::decoding::is_program;
 use crate::decoding::number_at;
 use crate::family;
+use crate::programs::FIRST_PROGRAM;
+use crate::programs::PROGRAMS_MOST;
 use crate::read::Read;
 use crate::read::out_of_place;
 use crate::read::read_at;
@@ -27,11 +30,11 @@ pub enum Body {
 }
 
 // The kind byte of a program number, of those that the list says are defined: 0 for none.
-pub fn kind_of(kinds: &[u8; 2048], number: u32) -> u8
+pub fn kind_of(kinds: &[u8; PROGRAMS_MOST], number: u32) -> u8
     ensures { λ r. ⌜ r ≡ kindOf (now (kinds .entry)) number ⌝ }
 {
     if is_program(number) {
-        let at = (number - 0x800) as usize;
+        let at = (number - FIRST_PROGRAM) as usize;
         kinds[at]
     } else {
         0
@@ -53,7 +56,7 @@ pub fn number_in(operand: Operand) -> u32
 }
 
 // Refusal 12: a program number that is not defined, or b(to) of what is no value.
-pub fn unknown(kinds: &[u8; 2048], token: Token) -> bool
+pub fn unknown(kinds: &[u8; PROGRAMS_MOST], token: Token) -> bool
     ensures { λ r. ⌜ r ≡ unknownOf (now (kinds .entry)) token ⌝ }
 {
     let work = family_of(token.code);
@@ -84,7 +87,7 @@ fn is_frequent(first: u8) -> bool
 }
 
 // `passed` where a token's number has two bytes.
-fn passed_double(rom: &[u8], kinds: &[u8; 2048], place: u32, first: u8) -> usize
+fn passed_double(rom: &[u8], kinds: &[u8; PROGRAMS_MOST], place: u32, first: u8) -> usize
     requires { ⌜ (first ≡ byteOf (now rom) place) × (isDouble first ≡ true) ⌝ }
     ensures { λ r. ⌜ ((wide : Bool) → r ≡ passedOf (now (rom .entry)) wide (now (kinds .entry)) place) ⌝ }
 {
@@ -97,7 +100,7 @@ fn passed_double(rom: &[u8], kinds: &[u8; 2048], place: u32, first: u8) -> usize
     if out_of_place(code, true) {
         return BEYOND;
     }
-    if number < 0x800 {
+    if number < FIRST_PROGRAM {
         return at + 2;
     }
     if kind_of(kinds, number) == 0 {
@@ -108,7 +111,7 @@ fn passed_double(rom: &[u8], kinds: &[u8; 2048], place: u32, first: u8) -> usize
 }
 
 // `passed` where b(to) stands.
-fn passed_to(rom: &[u8], kinds: &[u8; 2048], place: u32) -> usize
+fn passed_to(rom: &[u8], kinds: &[u8; PROGRAMS_MOST], place: u32) -> usize
     requires { ⌜ byteOf (now rom) place ≡ 0xC3 ⌝ }
     ensures { λ r. ⌜ ((wide : Bool) → r ≡ passedOf (now (rom .entry)) wide (now (kinds .entry)) place) ⌝ }
 {
@@ -123,7 +126,7 @@ fn passed_to(rom: &[u8], kinds: &[u8; 2048], place: u32) -> usize
 
 // The place behind the token at a place, if a body goes on there unless the program ends before: by one look at its first byte, since
 // nothing else is asked of most tokens of a body. Behind b(;), and behind what is refused by itself, there is none.
-fn passed(rom: &[u8], wide: bool, kinds: &[u8; 2048], place: u32) -> usize
+fn passed(rom: &[u8], wide: bool, kinds: &[u8; PROGRAMS_MOST], place: u32) -> usize
     ensures { λ r. ⌜ r ≡ passedOf (now (rom .entry)) wide (now (kinds .entry)) place ⌝ }
 {
     let at = place as usize;
@@ -179,7 +182,13 @@ fn stopped(rom: &[u8], length: u32, wide: bool, place: u32) -> Body
 }
 
 // Reads a body from a place on, token by token, in the offset width given and by the program numbers defined so far.
-pub fn read_body(rom: &[u8], length: u32, wide: bool, kinds: &[u8; 2048], place: u32) -> Body
+pub fn read_body(
+    rom: &[u8],
+    length: u32,
+    wide: bool,
+    kinds: &[u8; PROGRAMS_MOST],
+    place: u32,
+) -> Body
     ensures { λ r. ⌜ r ≡ bodyOf (now (rom .entry)) length wide (now (kinds .entry)) place ⌝ }
 {
     let mut at = place;

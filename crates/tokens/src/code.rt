@@ -1,5 +1,5 @@
-// The token list as numbers: of each token its family in two hexadecimal digits, where it is out of place (1 inside a body or an open
-// call, 2 outside, 3 everywhere), the form of its operand, the cells that it takes from and gives to the return stack, and those of the data
+// The token list as numbers: of each token its family in two hexadecimal digits, where it is out of place (1 inside a body or an open call,
+// 2 outside, 3 everywhere), the form of its operand, the cells that it takes from and gives to the return stack, and those of the data
 // stack. 0 is what is not in the list. specs/Table.antt is the list with its names; a `match` to a number can be one load.
 ghost use mathlib.Core.Path.{_≡_};
 ghost use Prim.Native.Nat.{_≤_};

@@ -5,8 +5,8 @@ ghost use mathlib.Core.Bool.{Bool, true};
 ghost use Prim.Native.Nat.{_<_, _^_};
 ghost use Rattle.rom.specs.Bytes.{byteOf};
 ghost use Rattle.tokens.specs.Decode.{isDouble};
-ghost use Rattle.tokens.specs.Glance.{nothingSeen, firstOf, endedOf, branchedOf, definedOf, seenFrom, glanceOf};
-ghost use Rattle.tokens.specs.Quick.{Codes};
+ghost use Rattle.tokens.specs.Joints.Glance.{nothingSeen, firstSays, endedOf, branchedOf, glanceDefined, seenFrom, glanceOf};
+ghost use Rattle.tokens.specs.Joints.Quick.{Codes};
 use crate::code::double_code;
 use crate::decoding::behind_number;
 use crate::decoding::behind_offset;
@@ -32,7 +32,7 @@ const TWO_BYTES: u32 = 0x00_07_00_00;
 
 // The codes of the numbers of one byte, again: this match has one caller, so that the compiler makes byte, code and form one jump there.
 fn first_code(first: u8) -> u32
-    ensures { λ r. ⌜ r ≡ firstOf first ⌝ }
+    ensures { λ r. ⌜ r ≡ firstSays first ⌝ }
 {
     match first {
         0x00 => 0x02_10_00_00, // end0
@@ -173,7 +173,7 @@ fn branched(rom: &[u8], length: u32, wide: bool, code: u32, number: u32, start: 
 // A definition, by its number at a place and the kind behind it.
 fn defined(rom: &[u8], length: u32, code: u32, at: usize) -> Glance
     requires { ⌜ at < 2 ^ 34 ⌝ }
-    ensures { λ r. ⌜ r ≡ definedOf (now (rom .entry)) length code at ⌝ }
+    ensures { λ r. ⌜ r ≡ glanceDefined (now (rom .entry)) length code at ⌝ }
 {
     let end = behind_number(rom, at);
     if (length as usize) < end + 1 {
@@ -228,7 +228,7 @@ fn doubled(rom: &[u8], length: u32, place: u32, first: u32) -> Glance
 
 // What stands at a place before the length, by its first byte and what the table says of that.
 pub fn glance_from(rom: &[u8], length: u32, wide: bool, place: u32, first: u8, code: u32) -> Glance
-    requires { ⌜ (place < length) × (first ≡ byteOf (now rom) place) × (code ≡ firstOf first) ⌝ }
+    requires { ⌜ (place < length) × (first ≡ byteOf (now rom) place) × (code ≡ firstSays first) ⌝ }
     ensures { λ r. ⌜ r ≡ glanceOf (now (rom .entry)) length wide place ⌝ }
 {
     if code / 0x1_0000 % 16 == 0 {

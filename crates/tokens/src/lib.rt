@@ -8,6 +8,7 @@ mod definition;
 pub mod family;
 mod glance;
 mod name;
+pub mod programs;
 mod quick;
 mod read;
 pub mod reader;

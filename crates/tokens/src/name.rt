@@ -1,5 +1,5 @@
-// The names of the tokens, as the list has them. A name's letters are packed into two numbers, eight into the first and what is left into the second, the
-// last letter lowest: a `match` to a number can be one load, where byte strings would be written out at each call.
+// The names of the tokens, as the list has them. A name's letters are packed into two numbers, eight into the first and what is left into
+// the second, the last letter lowest: a `match` to a number can be one load, where byte strings would be written out at each call.
 ghost use mathlib.Core.Path.{_≡_};
 ghost use Rattle.tokens.specs.Name.{frontOf, restOf};
 use crate::decoding::is_program;

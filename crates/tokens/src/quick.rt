@@ -2,8 +2,8 @@
 ghost use mathlib.Core.Path.{_≡_};
 ghost use Prim.Native.Nat.{_<_};
 ghost use Rattle.rom.specs.Bytes.{byteOf};
-ghost use Rattle.tokens.specs.Glance.{firstOf};
-ghost use Rattle.tokens.specs.Quick.{Codes, Quickly};
+ghost use Rattle.tokens.specs.Joints.Glance.{firstSays};
+ghost use Rattle.tokens.specs.Joints.Quick.{Codes, Quickly};
 use rom::byte;
 
 // A token's first byte, what the table says of it, and the place behind the token, 0 where it is none of those that are read quickly.
@@ -285,7 +285,8 @@ pub fn first_codes() -> [u32; 256]
 // byte, or a literal. Where another stands, `glance_from` goes on with what was read.
 pub fn quick_at(codes: &[u32; 256], rom: &[u8], length: u32, place: u32) -> Quick
     requires { ⌜ Codes (now codes) × (place < length) ⌝ }
-    ensures { λ r. ⌜ (r .first ≡ byteOf (now (rom .entry)) place) × (r .code ≡ firstOf (r .first)) × Quickly (now (rom .entry)) length place r ⌝ }
+    ensures { λ r. ⌜ (r .first ≡ byteOf (now (rom .entry)) place) × (r .code ≡ firstSays (r .first))
+        × Quickly (now (rom .entry)) length place r ⌝ }
 {
     let first = byte(rom, place as usize);
     let code = codes[first as usize];

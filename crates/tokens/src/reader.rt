@@ -1,5 +1,6 @@
-// The reader: it carries a ROM and a place in its program, and says what stands there. From place to place it comes past every byte of the program once,
-// whatever the bytes are. What stands at a place is worked out by `piece_at`, on a slice and numbers; the functions over the struct only hand on.
+// The reader: it carries a ROM and a place in its program, and says what stands there. From place to place it comes past every byte of the
+// program once, whatever the bytes are. What stands at a place is worked out by `piece_at`, on a slice and numbers; the functions over the
+// struct only hand on.
 ghost use mathlib.Core.Path.{_≡_};
 ghost use Rattle.tokens.specs.Reader.{endOf, pieceOf, widthBehind};
 ghost use Rattle.rom.specs.Header.{wideOf};
@@ -13,8 +14,8 @@ use crate::family;
 use rom::program_length;
 use rom::wide_start;
 
-// What stands at a place: nothing, at the program's end; bytes that no token of the list covers, up to a place; or a token of the list, with the place
-// behind its number, where its operand starts, and the offset width in force behind it.
+// What stands at a place: nothing, at the program's end; bytes that no token of the list covers, up to a place; or a token of the list,
+// with the place behind its number, where its operand starts, and the offset width in force behind it.
 pub enum Piece {
     End,
     Raw(u32),

@@ -1,5 +1,5 @@
--- The rows of a tree, written one by one from row 0 on: what holds before row k is written, at the start (`none`), after one row more (`one-more`)
--- and where none is left (`all`). Assumes nothing.
+-- The rows of a tree, written one by one from row 0 on: what holds before row k is written, at the start (`none`), after one row more
+-- (`one-more`) and where none is left (`all`). Assumes nothing.
 use Prim.Native.Nat.{ℕ, suc, _+_, _<_}
 use native.Mathlib.Omega.{arith}
 use mathlib.Core.List.{List}
@@ -7,8 +7,9 @@ use mathlib.Core.Path.{_≡_, refl, _∙_}
 use mathlib.Core.WellFounded.{WellFounded, InvImage·wf}
 use lib.ListN.{length, take, set, length-set}
 use lib.WfN.{Nat·lt-wfRel}
-use Rattle.tree.specs.Rows.{rowOf, rowsFrom, rowsOf}
-use Rattle.tree.specs.RowLaws.{column-none, column-set, column-all}
+use Rattle.tree.specs.Rows.{nodeRow, rowsFrom, rowsOf}
+use Rattle.tree.specs.Laws.Rows.{column-none, column-set, column-all}
+use Rattle.rom.specs.Sizes.{nodesMost}
 use Rattle.tree.specs.declared.tree.Tree.{Tree}
 use Rattle.tree.specs.declared.rows.Row.{Row}
 
@@ -18,8 +19,8 @@ module _ (tree : Tree) where
     pub k : ℕ
     pub left : ℕ
     pub rows : List Row
-    pub sum : k + left ≡ 32
-    pub size : length rows ≡ 32
+    pub sum : k + left ≡ nodesMost
+    pub size : length rows ≡ nodesMost
     pub written : take k rows ≡ rowsFrom tree k 0
 
   -- fewer are left
@@ -29,26 +30,26 @@ module _ (tree : Tree) where
   pub wf : WellFounded ≺
   wf = InvImage·wf (λ (u : Filled). u .left) (Nat·lt-wfRel .wf)
 
-  abbrev pub none : (rows : List Row) → length rows ≡ 32 → Filled
-  none rows e = record { k = 0; left = 32; rows = rows; sum = refl; size = e; written = column-none (λ r. r) tree rows }
+  abbrev pub none : (rows : List Row) → length rows ≡ nodesMost → Filled
+  none rows e = record { k = 0; left = nodesMost; rows = rows; sum = refl; size = e; written = column-none (λ r. r) tree rows }
 
   -- row k, where some are left
   module _ (u : Filled) (left : ℕ) (e : u .left ≡ suc left) where
-    pub below : u .k < 32
+    pub below : u .k < nodesMost
     below = omega (arith, u .sum, e)
 
     pub fewer : left < u .left
     fewer = omega (arith, e)
 
-    pub sums : u .k + 1 + left ≡ 32
+    pub sums : u .k + 1 + left ≡ nodesMost
     sums = omega (arith, u .sum, e)
 
-    pub sets : (r : Row) → r ≡ rowOf tree (u .k) → take (u .k + 1) (set (u .rows) (u .k) r) ≡ rowsFrom tree (u .k + 1) 0
+    pub sets : (r : Row) → r ≡ nodeRow tree (u .k) → take (u .k + 1) (set (u .rows) (u .k) r) ≡ rowsFrom tree (u .k + 1) 0
     sets r is =
         let within : u .k < length (u .rows) = omega (arith, below, u .size) in
         rw is (column-set (λ x. x) tree (u .rows) (u .k) within (u .written))
 
-    abbrev pub one-more : (r : Row) → r ≡ rowOf tree (u .k) → Filled
+    abbrev pub one-more : (r : Row) → r ≡ nodeRow tree (u .k) → Filled
     one-more r is = record {
       k = u .k + 1;
       left = left;
@@ -58,7 +59,7 @@ module _ (tree : Tree) where
       written = sets r is;
     }
 
-  pub all : (u : Filled) → u .left ≡ 0 → (u .k ≡ 32) × (u .rows ≡ rowsOf tree)
+  pub all : (u : Filled) → u .left ≡ 0 → (u .k ≡ nodesMost) × (u .rows ≡ rowsOf tree)
   all u e =
-      let f : u .k ≡ 32 = omega (arith, u .sum, e) in
-      (f, column-all (λ r. r) tree (u .rows) 32 (omega (arith, u .size)) (rw f at (u .written)))
+      let f : u .k ≡ nodesMost = omega (arith, u .sum, e) in
+      (f, column-all (λ r. r) tree (u .rows) nodesMost (omega (arith, u .size)) (rw f at (u .written)))

@@ -4,9 +4,11 @@
 use Prim.Native.Nat.{ℕ, zero, suc, _+_}
 use mathlib.Core.Bool.{Bool, true, false, _&&_}
 use mathlib.Core.List.{List, [], _∷_, _++_}
-use lib.ListN.{length, getD}
+use lib.ListN.{getD}
 use lib.Dec.{eqb}
 use Rattle.memory.specs.Window.{partOf}
+use Rattle.cells.specs.Choice.{pick}
+use Rattle.tree.specs.declared.property.Found.{Found}
 use Rattle.tree.specs.declared.tree.Tree.{Tree}
 
 pub record Property : Type 0 where
@@ -19,10 +21,10 @@ abbrev pub ownerOf : Tree → ℕ → ℕ
 ownerOf t i = getD (t .owners) i 0
 
 abbrev pub nameSize : Tree → ℕ → ℕ
-nameSize t i = getD (t .names) i 0
+nameSize t i = getD (t .«name_sizes») i 0
 
 abbrev pub valueSize : Tree → ℕ → ℕ
-valueSize t i = getD (t .values) i 0
+valueSize t i = getD (t .«value_sizes») i 0
 
 -- the property of record i, whose bytes start at a place of the store
 abbrev pub propertyAt : Tree → List ℕ → ℕ → ℕ → Property
@@ -43,11 +45,11 @@ heldOf t store = heldFrom t store (t .held) 0 0
 
 -- the live bytes of so many records from record i on
 unfoldable pub liveAmong : List ℕ → List ℕ → ℕ → ℕ → ℕ
-liveAmong names values zero i = 0
-liveAmong names values (suc k) i = getD names i 0 + getD values i 0 + liveAmong names values k (i + 1)
+liveAmong nameSizes valueSizes zero i = 0
+liveAmong nameSizes valueSizes (suc k) i = getD nameSizes i 0 + getD valueSizes i 0 + liveAmong nameSizes valueSizes k (i + 1)
 
 abbrev pub liveFrom : Tree → ℕ → ℕ → ℕ
-liveFrom t k i = liveAmong (t .names) (t .values) k i
+liveFrom t k i = liveAmong (t .«name_sizes») (t .«value_sizes») k i
 
 abbrev pub liveOf : Tree → ℕ
 liveOf t = liveFrom t (t .held) 0
@@ -64,10 +66,6 @@ sameBytes [] (y ∷ ys) = false
 sameBytes (x ∷ xs) [] = false
 sameBytes (x ∷ xs) (y ∷ ys) = eqb x y && sameBytes xs ys
 
--- whether they are the same at one byte, so many behind a place
-abbrev pub alikeFrom : List ℕ → List ℕ → ℕ → ℕ → Bool
-alikeFrom a b k i = eqb (getD a (k + i) 0) (getD b (k + i) 0)
-
 -- whether a property is the one of a node and a name
 abbrev pub matches : Property → ℕ → List ℕ → Bool
 matches p node name = eqb (p .node) node && sameBytes (p .name) name
@@ -76,3 +74,10 @@ matches p node name = eqb (p .node) node && sameBytes (p .name) name
 unfoldable pub indexOf : List Property → ℕ → List ℕ → ℕ
 indexOf [] node name = 0
 indexOf (p ∷ ps) node name = elim (matches p node name) [ true ↦ 0 | false ↦ suc (indexOf ps node name) ]
+
+-- the first of so many records from record i on that is the one of a node and a name
+unfoldable pub foundFrom : Tree → List ℕ → ℕ → List ℕ → ℕ → ℕ → ℕ → Found
+foundFrom t store node name zero i at = record { index = i; at = at }
+foundFrom t store node name (suc k) i at =
+    pick (matches (propertyAt t store i at) node name) (record { index = i; at = at })
+    (foundFrom t store node name k (i + 1) (at + nameSize t i + valueSize t i))

@@ -1,6 +1,6 @@
--- Lookups: "A path is "/" or "/a/b"; each part is matched with a child's "name" value less one final null, the oldest match at each level, no
--- going back. Any other form, empty parts included, gives 29. Lookups test 6, 7, 29, 30." 29, 30: "path malformed; no such node or property".
--- Assumes nothing.
+-- Lookups: "A path is "/" or "/a/b"; each part is matched with a child's "name" value less one final null, the oldest match at each level,
+-- no going back. Any other form, empty parts included, gives 29. Lookups test 6, 7, 29, 30." 29, 30: "path malformed; no such node or
+-- property". Assumes nothing.
 use Prim.Native.Nat.{ℕ, zero, suc, _+_, _-_}
 use mathlib.Core.Bool.{Bool, true, false, not, _&&_, _||_}
 use mathlib.Core.List.{List, [], _∷_}
@@ -10,9 +10,8 @@ use lib.Dec.{ltb, eqb}
 use Rattle.cells.specs.Choice.{pick}
 use Rattle.rom.specs.Sizes.{storeSize}
 use Rattle.rom.specs.Words.{lettersOf}
-use Rattle.tree.specs.Held.{Property, nameSize, valueSize, heldOf, matches, sameBytes}
+use Rattle.tree.specs.Held.{Property, nameSize, valueSize, heldOf, matches, sameBytes, foundFrom}
 use Rattle.tree.specs.Whole.{parentOf, wholeTree}
-use Rattle.tree.specs.Steps.{foundFrom}
 use Rattle.tree.specs.declared.tree.Tree.{Tree}
 use Rattle.tree.specs.declared.property.Found.{Found}
 use Rattle.tree.specs.declared.lookup.NodeSought.{NodeSought}
@@ -102,13 +101,13 @@ abbrev pub valuePlace : Tree → Found → ValueSought
 valuePlace t f =
     pick (ltb (f .index) (t .held)) (Value (f .at + nameSize t (f .index)) (valueSize t (f .index))) (Unfound 30)
 
-unfoldable pub placeOf : Tree → List ℕ → ℕ → List ℕ → ValueSought
-placeOf t store node name = valuePlace t (foundFrom t store node name (t .held) 0 0)
+unfoldable pub namedPlace : Tree → List ℕ → ℕ → List ℕ → ValueSought
+namedPlace t store node name = valuePlace t (foundFrom t store node name (t .held) 0 0)
 
 -- the property of a path and a name, whose name is not judged
 unfoldable pub findPropertyOf : Tree → List ℕ → List ℕ → List ℕ → ValueSought
 findPropertyOf t store path name =
-    elim (findNodeOf t store path) [ Node k ↦ placeOf t store k name | Refused why ↦ Unfound why ]
+    elim (findNodeOf t store path) [ Node k ↦ namedPlace t store k name | Refused why ↦ Unfound why ]
 
 -- its bytes; none where it is refused
 unfoldable pub propertyValueOf : Tree → List ℕ → List ℕ → List ℕ → List ℕ
@@ -118,7 +117,8 @@ propertyValueOf t store path name =
       | Refused why ↦ []
     ]
 
--- the bytes of a node's own property, the node known by its number; none where there is none, or where the store has another size or the tree is damaged
+-- the bytes of a node's own property, the node known by its number; none where there is none, or where the store has another size or the
+-- tree is damaged
 abbrev pub bytesOr : Option (List ℕ) → List ℕ
 bytesOr none = []
 bytesOr (some value) = value

@@ -1,5 +1,5 @@
--- The node table: "For the installer, one lent row per node gives parent and property count; 32 rows or refusal 6, unused rows zero; 6, then 7, write
--- none." The rows are lent as a slice of structs, or as two slices of numbers, the parents and the counts. Assumes nothing.
+-- The node table: "For the installer, one lent row per node gives parent and property count; 32 rows or refusal 6, unused rows zero; 6,
+-- then 7, write none." The rows are lent as a slice of structs, or as two slices of numbers, the parents and the counts. Assumes nothing.
 use Prim.Native.Nat.{ℕ, zero, suc, _+_}
 use mathlib.Core.Bool.{Bool, not, _&&_}
 use mathlib.Core.List.{List, [], _∷_}
@@ -20,14 +20,14 @@ abbrev pub countOf : Tree → ℕ → ℕ
 countOf t node = countFrom (t .owners) node (t .held) 0
 
 -- "unused rows zero"
-abbrev pub rowOf : Tree → ℕ → Row
-rowOf t k =
+abbrev pub nodeRow : Tree → ℕ → Row
+nodeRow t k =
     pick (ltb k (t .nodes)) (record { parent = parentOf t k; count = countOf t k }) (record { parent = 0; count = 0 })
 
 -- of so many rows from row k on, what each is asked for: one column, or all of the row
 unfoldable pub columnFrom : {A : Type 0} → (Row → A) → Tree → ℕ → ℕ → List A
 columnFrom column t zero k = []
-columnFrom column t (suc n) k = column (rowOf t k) ∷ columnFrom column t n (k + 1)
+columnFrom column t (suc n) k = column (nodeRow t k) ∷ columnFrom column t n (k + 1)
 
 abbrev pub parentsOf : Tree → List ℕ
 parentsOf t = columnFrom (λ r. r .parent) t nodesMost 0
@@ -44,14 +44,14 @@ abbrev pub rowsOf : Tree → List Row
 rowsOf t = rowsFrom t nodesMost 0
 
 -- 0, or "6, then 7": whether there are 32 rows, then whether the tree is whole
-abbrev pub refusalOf : Bool → Tree → ℕ
-refusalOf sized t = pick (not sized) 6 (pick (not (wholeTree t)) 7 0)
+abbrev pub lentRefusal : Bool → Tree → ℕ
+lentRefusal sized t = pick (not sized) 6 (pick (not (wholeTree t)) 7 0)
 
 unfoldable pub tableRefusal : Tree → List ℕ → List ℕ → ℕ
-tableRefusal t parents counts = refusalOf (eqb (length parents) nodesMost && eqb (length counts) nodesMost) t
+tableRefusal t parents counts = lentRefusal (eqb (length parents) nodesMost && eqb (length counts) nodesMost) t
 
 unfoldable pub rowsRefusal : Tree → ℕ → ℕ
-rowsRefusal t size = refusalOf (eqb size nodesMost) t
+rowsRefusal t size = lentRefusal (eqb size nodesMost) t
 
 -- what the rows, or a column of them, hold then: "6, then 7, write none"
 abbrev pub rowsThen : {A : Type 0} → ℕ → List A → List A → List A

@@ -1,6 +1,7 @@
--- The part of refusal 7 that speaks of the tree: "damaged state: a .. count (nodes: 2 to 32), property length .. outside its limit, .. the active or
--- a record's node absent, node 0 active, a parent not older than its node (the root's is 0), or live property bytes above 16,384". What
--- lies past a count is not judged. A name has 1 to 31 bytes, a value at most as many as the store. Assumes nothing.
+-- The part of refusal 7 that speaks of the tree: "damaged state: a .. count (nodes: 2 to 32), property length .. outside its limit, .. a
+-- record's node absent, .. a parent not older than its node (the root's is 0), or live property bytes above 16,384". Which node is active
+-- is judged of the state, not here. What lies past a count is not judged. A name has 1 to 31 bytes, a value at most as many as the store.
+-- Assumes nothing.
 use Prim.Native.Nat.{ℕ, zero, suc}
 use mathlib.Core.List.{List}
 use mathlib.Core.Bool.{Bool, true, _&&_}
@@ -35,16 +36,16 @@ abbrev pub soundWith : ℕ → ℕ → ℕ → ℕ → Bool
 soundWith nodes owner name value = ltb owner nodes && leb 1 name && leb name nameMost && leb value storeSize
 
 abbrev pub soundAmong : ℕ → List ℕ → List ℕ → List ℕ → ℕ → Bool
-soundAmong nodes owners names values i = soundWith nodes (getD owners i 0) (getD names i 0) (getD values i 0)
+soundAmong nodes owners nameSizes valueSizes i = soundWith nodes (getD owners i 0) (getD nameSizes i 0) (getD valueSizes i 0)
 
 abbrev pub sound : Tree → ℕ → Bool
-sound t i = soundAmong (t .nodes) (t .owners) (t .names) (t .values) i
+sound t i = soundAmong (t .nodes) (t .owners) (t .«name_sizes») (t .«value_sizes») i
 
--- counts in their limits, and an active node that is there and not the root
-abbrev pub counted : ℕ → ℕ → ℕ → Bool
-counted nodes active held = leb 2 nodes && leb nodes nodesMost && leb 1 active && ltb active nodes && leb held propertiesMost
+-- counts in their limits
+abbrev pub counted : ℕ → ℕ → Bool
+counted nodes held = leb 2 nodes && leb nodes nodesMost && leb held propertiesMost
 
 unfoldable pub wholeTree : Tree → Bool
 wholeTree t =
-    counted (t .nodes) (t .active) (t .held)
+    counted (t .nodes) (t .held)
     && (everyBelow (t .nodes) (older t) && (everyBelow (t .held) (sound t) && leb (liveOf t) storeSize))

@@ -7,8 +7,10 @@ ghost use lib.ListN.{length, getD};
 ghost use Rattle.memory.specs.Writing.{movedOf};
 ghost use Rattle.tree.specs.Held.{liveAmong};
 ghost use Rattle.tree.specs.Property.{badName, valueOf};
-ghost use Rattle.tree.specs.Steps.{zeroedOf, appendedOf, replacedOf};
-ghost use Rattle.tree.specs.Apart.{refusedWith, doneWith, tailOf, EndsAs, Tallied, Finds, Missing, Puts, Opens, Closes};
+ghost use Rattle.tree.specs.Joints.Steps.{zeroedOf, appendedOf, replacedOf};
+ghost use Rattle.tree.specs.Joints.Apart.{refusedWith, doneWith, tailOf, EndsAs, Tallied, Finds, Missing, Puts, Opens, Closes};
+ghost use Rattle.rom.specs.Sizes.{propertiesMost, storeSize};
+ghost use Rattle.tree.specs.Whole.{nameMost};
 use crate::property::Found;
 use crate::property::bad_name;
 use crate::property::is_named;
@@ -49,11 +51,15 @@ pub struct Closed {
 }
 
 // The tail of records that are offered with their store.
-pub fn tail_of(names: &[u32; PROPERTIES_MOST], values: &[u32; PROPERTIES_MOST], held: usize) -> Tail
-    requires { ⌜ held ≤ 128 ⌝ }
-    ensures { λ r. ⌜ r ≡ tailOf (now (names .entry)) (now (values .entry)) held ⌝ }
+pub fn tail_of(
+    name_sizes: &[u32; PROPERTIES_MOST],
+    value_sizes: &[u32; PROPERTIES_MOST],
+    held: usize,
+) -> Tail
+    requires { ⌜ held ≤ propertiesMost ⌝ }
+    ensures { λ r. ⌜ r ≡ tailOf (now («name_sizes» .entry)) (now («value_sizes» .entry)) held ⌝ }
 {
-    let live = live_bytes(names, values, held);
+    let live = live_bytes(name_sizes, value_sizes, held);
     Tail {
         live: live,
         zeros: STORE_SIZE,
@@ -74,7 +80,8 @@ fn clear_up_to(memory: &mut [u8], at: usize, end: usize)
 
 // A property more, at the live end. What is zero already is not cleared again.
 fn append(store: &mut [u8], tail: Tail, name: &[u8], value: &[u8], null: bool)
-    requires { ⌜ (length (now store) ≡ 16384) × EndsAs (now store) tail × (length (now name) ≤ 31) × (length (now value) ≤ 16384) ⌝ }
+    requires { ⌜ (length (now store) ≡ storeSize) × EndsAs (now store) tail × (length (now name) ≤ nameMost)
+        × (length (now value) ≤ storeSize) ⌝ }
     ensures { λ r. ⌜ now (store .exit)
         ≡ appendedOf (now (store .entry)) (tail .live) (now (name .entry)) (valueOf (now (value .entry)) null) ⌝ }
 {
@@ -87,7 +94,7 @@ fn append(store: &mut [u8], tail: Tail, name: &[u8], value: &[u8], null: bool)
 
 // Bytes moved to another place. Those that stay where they stand, as behind a value of the old one's size, cost nothing.
 fn move_part(store: &mut [u8], from: usize, to: usize, count: usize)
-    requires { ⌜ (from + count ≤ length (now store)) × (length (now store) ≤ 16384) × (to ≤ 32769) ⌝ }
+    requires { ⌜ (from + count ≤ length (now store)) × (length (now store) ≤ storeSize) × (to ≤ 32769) ⌝ }
     ensures { λ r. ⌜ now (store .exit) ≡ movedOf (now (store .entry)) from to count ⌝ }
 {
     if from == to {
@@ -98,7 +105,7 @@ fn move_part(store: &mut [u8], from: usize, to: usize, count: usize)
 
 // Another value in the place of the old one, and what stands behind it moved with it. It is cleared as far as for a property more.
 fn replace(store: &mut [u8], tail: Tail, at: usize, old: usize, value: &[u8], null: bool)
-    requires { ⌜ (length (now store) ≡ 16384) × EndsAs (now store) tail × (at + old ≤ tail .live) × (length (now value) ≤ 16384) ⌝ }
+    requires { ⌜ (length (now store) ≡ storeSize) × EndsAs (now store) tail × (at + old ≤ tail .live) × (length (now value) ≤ storeSize) ⌝ }
     ensures { λ r. ⌜ now (store .exit) ≡ replacedOf (now (store .entry)) (tail .live) at old (valueOf (now (value .entry)) null) ⌝ }
 {
     let behind = tail.live - (at + old);
@@ -112,24 +119,24 @@ fn replace(store: &mut [u8], tail: Tail, at: usize, old: usize, value: &[u8], nu
 fn find_among(
     store: &[u8],
     owners: &[u32; PROPERTIES_MOST],
-    names: &[u32; PROPERTIES_MOST],
-    values: &[u32; PROPERTIES_MOST],
+    name_sizes: &[u32; PROPERTIES_MOST],
+    value_sizes: &[u32; PROPERTIES_MOST],
     held: usize,
     node: u32,
     name: &[u8],
 ) -> Found
-    requires { ⌜ (held ≤ 128) × (liveAmong (now names) (now values) held 0 ≤ length (now store)) ⌝ }
-    ensures { λ r. ⌜ Finds (now (store .entry)) (now (owners .entry)) (now (names .entry)) (now (values .entry)) held
+    requires { ⌜ (held ≤ propertiesMost) × (liveAmong (now «name_sizes») (now «value_sizes») held 0 ≤ length (now store)) ⌝ }
+    ensures { λ r. ⌜ Finds (now (store .entry)) (now (owners .entry)) (now («name_sizes» .entry)) (now («value_sizes» .entry)) held
         node (now (name .entry)) r ⌝ }
 {
     let mut i = 0;
     let mut at = 0;
     while i < held {
-        let end = at + wide(names[i]);
+        let end = at + wide(name_sizes[i]);
         if is_named(store, owners[i], at, end, node, name) {
             return Found { index: i, at: at };
         }
-        at = end + wide(values[i]);
+        at = end + wide(value_sizes[i]);
         i += 1;
     }
     Found { index: i, at: at }
@@ -164,20 +171,21 @@ fn done_with(held: usize, live: usize) -> Kept
 fn add_property(
     store: &mut [u8],
     owners: &mut [u32; PROPERTIES_MOST],
-    names: &mut [u32; PROPERTIES_MOST],
-    values: &mut [u32; PROPERTIES_MOST],
+    name_sizes: &mut [u32; PROPERTIES_MOST],
+    value_sizes: &mut [u32; PROPERTIES_MOST],
     held: usize,
     tail: Tail,
-    active: u32,
+    node: u32,
     name: &[u8],
     value: &[u8],
     null: bool,
 ) -> Kept
-    requires { ⌜ Tallied (now store) (now names) (now values) held tail × (badName (now name) ≡ false) × (length (now value) ≤ 16384)
-        × Missing (now store) (now owners) (now names) (now values) held active (now name) ⌝ }
-    ensures { λ r. ⌜ Puts active (now (name .entry)) (valueOf (now (value .entry)) null)
-        (now (store .entry)) (now (owners .entry)) (now (names .entry)) (now (values .entry)) held
-        r (now (store .exit)) (now (owners .exit)) (now (names .exit)) (now (values .exit)) ⌝ }
+    requires { ⌜ Tallied (now store) (now «name_sizes») (now «value_sizes») held tail × (badName (now name) ≡ false)
+        × (length (now value) ≤ storeSize)
+        × Missing (now store) (now owners) (now «name_sizes») (now «value_sizes») held node (now name) ⌝ }
+    ensures { λ r. ⌜ Puts node (now (name .entry)) (valueOf (now (value .entry)) null)
+        (now (store .entry)) (now (owners .entry)) (now («name_sizes» .entry)) (now («value_sizes» .entry)) held
+        r (now (store .exit)) (now (owners .exit)) (now («name_sizes» .exit)) (now («value_sizes» .exit)) ⌝ }
 {
     if PROPERTIES_MOST <= held {
         return refused_with(27, held, tail);
@@ -188,30 +196,30 @@ fn add_property(
         return refused_with(27, held, tail);
     }
     append(store, tail, name, value, null);
-    owners[held] = active;
-    names[held] = name.len() as u32;
-    values[held] = size as u32;
+    owners[held] = node;
+    name_sizes[held] = name.len() as u32;
+    value_sizes[held] = size as u32;
     done_with(held + 1, live)
 }
 
-// Writes a property of the active node. The value is the bytes given, and a null behind them where it is asked for. A record that is there
+// Writes a property of a node. The value is the bytes given, and a null behind them where it is asked for. A record that is there
 // keeps its node and name. It is lent the store and the records' arrays one by one, as they lie in a state that is taken apart.
 pub fn put_in(
     store: &mut [u8],
     owners: &mut [u32; PROPERTIES_MOST],
-    names: &mut [u32; PROPERTIES_MOST],
-    values: &mut [u32; PROPERTIES_MOST],
+    name_sizes: &mut [u32; PROPERTIES_MOST],
+    value_sizes: &mut [u32; PROPERTIES_MOST],
     held: usize,
     tail: Tail,
-    active: u32,
+    node: u32,
     name: &[u8],
     value: &[u8],
     null: bool,
 ) -> Kept
-    requires { ⌜ Tallied (now store) (now names) (now values) held tail ⌝ }
-    ensures { λ r. ⌜ Puts active (now (name .entry)) (valueOf (now (value .entry)) null)
-        (now (store .entry)) (now (owners .entry)) (now (names .entry)) (now (values .entry)) held
-        r (now (store .exit)) (now (owners .exit)) (now (names .exit)) (now (values .exit)) ⌝ }
+    requires { ⌜ Tallied (now store) (now «name_sizes») (now «value_sizes») held tail ⌝ }
+    ensures { λ r. ⌜ Puts node (now (name .entry)) (valueOf (now (value .entry)) null)
+        (now (store .entry)) (now (owners .entry)) (now («name_sizes» .entry)) (now («value_sizes» .entry)) held
+        r (now (store .exit)) (now (owners .exit)) (now («name_sizes» .exit)) (now («value_sizes» .exit)) ⌝ }
 {
     if bad_name(name) {
         return refused_with(26, held, tail);
@@ -219,30 +227,38 @@ pub fn put_in(
     if STORE_SIZE < value.len() {
         return refused_with(27, held, tail);
     }
-    let found = find_among(&*store, &*owners, &*names, &*values, held, active, name);
+    let found = find_among(
+        &*store,
+        &*owners,
+        &*name_sizes,
+        &*value_sizes,
+        held,
+        node,
+        name,
+    );
     let index = found.index;
     if index == held {
         return add_property(
             store,
             owners,
-            names,
-            values,
+            name_sizes,
+            value_sizes,
             held,
             tail,
-            active,
+            node,
             name,
             value,
             null,
         );
     }
     let size = size_of(value.len(), null);
-    let old = wide(values[index]);
+    let old = wide(value_sizes[index]);
     let live = tail.live - old + size;
     if STORE_SIZE < live {
         return refused_with(27, held, tail);
     }
     replace(store, tail, found.at + name.len(), old, value, null);
-    values[index] = size as u32;
+    value_sizes[index] = size as u32;
     done_with(held, live)
 }
 
@@ -271,11 +287,11 @@ pub fn open_child(parents: &mut [u32; NODES_MOST], nodes: usize, active: u32) ->
     }
 }
 
-// The parent becomes active; 20 at node 1.
-pub fn close_child(parents: &[u32; NODES_MOST], active: u32) -> Closed
-    ensures { λ r. ⌜ Closes (now (parents .entry)) active r ⌝ }
+// The parent becomes active; 20 at the first node.
+pub fn close_child(parents: &[u32; NODES_MOST], first: u32, active: u32) -> Closed
+    ensures { λ r. ⌜ Closes (now (parents .entry)) first active r ⌝ }
 {
-    if active == 1 {
+    if active == first {
         return Closed {
             outcome: Outcome::Refused(20),
             active: active,

@@ -6,9 +6,11 @@ ghost use lib.ListN.{length, drop};
 ghost use lib.Dec.{eqb};
 ghost use Rattle.tree.specs.Held.{liveOf};
 ghost use Rattle.tree.specs.Whole.{parentOf};
-ghost use Rattle.tree.specs.Path.{splitOf, anyEmpty, malformed as Path·malformed, lessNull, isCalled, childNamed, downFrom, placeOf, findNodeOf, findPropertyOf, propertyValueOf};
+ghost use Rattle.tree.specs.Path.{splitOf, anyEmpty, malformed as Path·malformed, lessNull, isCalled, childNamed, downFrom};
+ghost use Rattle.tree.specs.Path.{namedPlace, findNodeOf, findPropertyOf, propertyValueOf};
 ghost use Rattle.tree.specs.Path.{ownValueOf};
-ghost use Rattle.tree.specs.PathLaws.{endOf, childSought};
+ghost use Rattle.tree.specs.Laws.Path.{partEnd, childSought};
+ghost use Rattle.rom.specs.Sizes.{nodesMost, propertiesMost};
 use crate::property::find;
 use crate::property::name_size;
 use crate::property::same_bytes;
@@ -34,7 +36,7 @@ pub enum ValueSought {
 // Where the part that starts at a place ends: at the next slash, or with the path.
 fn part_end(path: &[u8], at: usize) -> usize
     requires { ⌜ at ≤ length (now path) ⌝ }
-    ensures { λ r. ⌜ (r ≡ at + endOf (drop at (now (path .entry)))) × (r ≤ length (now (path .entry))) ⌝ }
+    ensures { λ r. ⌜ (r ≡ at + partEnd (drop at (now (path .entry)))) × (r ≤ length (now (path .entry))) ⌝ }
 {
     let mut end = at;
     while end < path.len() {
@@ -82,8 +84,8 @@ fn malformed(path: &[u8]) -> bool
 
 // Where a node's property has its value, the oldest of that name.
 fn place_of(store: &[u8], tree: Tree, node: u32, name: &[u8]) -> ValueSought
-    requires { ⌜ (tree .held ≤ 128) × (liveOf tree ≤ length (now store)) ⌝ }
-    ensures { λ r. ⌜ r ≡ placeOf tree (now (store .entry)) node (now (name .entry)) ⌝ }
+    requires { ⌜ (tree .held ≤ propertiesMost) × (liveOf tree ≤ length (now store)) ⌝ }
+    ensures { λ r. ⌜ r ≡ namedPlace tree (now (store .entry)) node (now (name .entry)) ⌝ }
 {
     let found = find(store, tree, node, name);
     let index = found.index;
@@ -110,7 +112,7 @@ fn less_null<'a>(value: &'a [u8]) -> &'a [u8]
 
 // Whether a node's name is a part of a path; a node without a name is called nothing.
 fn is_called(store: &[u8], tree: Tree, node: u32, part: &[u8]) -> bool
-    requires { ⌜ (tree .held ≤ 128) × (liveOf tree ≤ length (now store)) ⌝ }
+    requires { ⌜ (tree .held ≤ propertiesMost) × (liveOf tree ≤ length (now store)) ⌝ }
     ensures { λ r. ⌜ r ≡ isCalled tree (now (store .entry)) node (now (part .entry)) ⌝ }
 {
     match place_of(store, tree, node, b"name") {
@@ -120,7 +122,7 @@ fn is_called(store: &[u8], tree: Tree, node: u32, part: &[u8]) -> bool
 }
 
 fn is_child(store: &[u8], tree: Tree, k: usize, node: u32, part: &[u8]) -> bool
-    requires { ⌜ (k < 32) × (tree .held ≤ 128) × (liveOf tree ≤ length (now store)) ⌝ }
+    requires { ⌜ (k < nodesMost) × (tree .held ≤ propertiesMost) × (liveOf tree ≤ length (now store)) ⌝ }
     ensures { λ r. ⌜ r ≡ eqb (parentOf tree k) node && isCalled tree (now (store .entry)) k (now (part .entry)) ⌝ }
 {
     if tree.parents[k] != node {
@@ -131,7 +133,7 @@ fn is_child(store: &[u8], tree: Tree, k: usize, node: u32, part: &[u8]) -> bool
 
 // The oldest child with that name, or 30. The root is nobody's child, so the search starts at node 1.
 fn child_named(store: &[u8], tree: Tree, node: u32, part: &[u8]) -> NodeSought
-    requires { ⌜ (tree .nodes ≤ 32) × (tree .held ≤ 128) × (liveOf tree ≤ length (now store)) ⌝ }
+    requires { ⌜ (tree .nodes ≤ nodesMost) × (tree .held ≤ propertiesMost) × (liveOf tree ≤ length (now store)) ⌝ }
     ensures { λ r. ⌜ r ≡ childSought (childNamed tree (now (store .entry)) node (now (part .entry))) ⌝ }
 {
     let mut k = 1;
@@ -146,7 +148,8 @@ fn child_named(store: &[u8], tree: Tree, node: u32, part: &[u8]) -> NodeSought
 
 // From the root down, a child for each part of the path from a place on.
 fn down(store: &[u8], tree: Tree, path: &[u8], from: usize) -> NodeSought
-    requires { ⌜ (tree .nodes ≤ 32) × (tree .held ≤ 128) × (liveOf tree ≤ length (now store)) × (from ≤ length (now path)) ⌝ }
+    requires { ⌜ (tree .nodes ≤ nodesMost) × (tree .held ≤ propertiesMost) × (liveOf tree ≤ length (now store))
+        × (from ≤ length (now path)) ⌝ }
     ensures { λ r. ⌜ r ≡ downFrom tree (now (store .entry)) 0 (splitOf (drop from (now (path .entry)))) ⌝ }
 {
     let mut node = 0;
@@ -203,8 +206,8 @@ pub fn property_value<'a>(store: &'a [u8], tree: Tree, path: &[u8], name: &[u8])
     }
 }
 
-// The value of a node's own property, for whoever knows the node by its number: a part of the store, the oldest of that name; the empty part where there is
-// none, or where the store has another size or the tree is damaged.
+// The value of a node's own property, for whoever knows the node by its number: a part of the store, the oldest of that name; the empty
+// part where there is none, or where the store has another size or the tree is damaged.
 pub fn own_value<'a>(store: &'a [u8], tree: Tree, node: u32, name: &[u8]) -> &'a [u8]
     ensures { λ r. ⌜ now r ≡ ownValueOf tree (now (store .entry)) node (now (name .entry)) ⌝ }
 {

@@ -12,10 +12,9 @@ pub fn no_tree() -> Tree
     Tree {
         parents: [0; NODES_MOST],
         nodes: 0,
-        active: 0,
         owners: [0; PROPERTIES_MOST],
-        names: [0; PROPERTIES_MOST],
-        values: [0; PROPERTIES_MOST],
+        name_sizes: [0; PROPERTIES_MOST],
+        value_sizes: [0; PROPERTIES_MOST],
         held: 0,
     }
 }
@@ -25,7 +24,6 @@ pub fn fresh_tree() -> Tree
 {
     let mut t = no_tree();
     t.nodes = 2;
-    t.active = 1;
     t
 }
 

@@ -6,10 +6,12 @@ ghost use lib.Dec.{eqb};
 ghost use lib.ListN.{length};
 ghost use Rattle.memory.specs.Window.{partOf};
 ghost use Rattle.memory.specs.Writing.{writtenOf};
-ghost use Rattle.tree.specs.Held.{sameBytes, alikeFrom, nameSize, valueSize, liveOf};
+ghost use Rattle.tree.specs.Held.{sameBytes, nameSize, valueSize, liveOf, foundFrom};
 ghost use Rattle.tree.specs.Whole.{everyBelow};
 ghost use Rattle.tree.specs.Property.{valueOf, nameByte, allNameBytes, badName};
-ghost use Rattle.tree.specs.Steps.{foundFrom, sizeOf};
+ghost use Rattle.tree.specs.Joints.Steps.{sizeOf};
+ghost use Rattle.tree.specs.Laws.Same.{alikeFrom};
+ghost use Rattle.rom.specs.Sizes.{propertiesMost, storeSize};
 use crate::tree::NAME_MOST;
 use crate::tree::Tree;
 use crate::tree::wide;
@@ -121,17 +123,17 @@ pub fn is_named(store: &[u8], owner: u32, start: usize, end: usize, node: u32, n
 
 // The record of a node with this name, the oldest first.
 pub fn find(store: &[u8], tree: Tree, node: u32, name: &[u8]) -> Found
-    requires { ⌜ (tree .held ≤ 128) × (liveOf tree ≤ length (now store)) ⌝ }
+    requires { ⌜ (tree .held ≤ propertiesMost) × (liveOf tree ≤ length (now store)) ⌝ }
     ensures { λ r. ⌜ r ≡ foundFrom tree (now (store .entry)) node (now (name .entry)) (tree .held) 0 0 ⌝ }
 {
     let mut i = 0;
     let mut at = 0;
     while i < tree.held {
-        let end = at + wide(tree.names[i]);
+        let end = at + wide(tree.name_sizes[i]);
         if is_named(store, tree.owners[i], at, end, node, name) {
             return Found { index: i, at: at };
         }
-        at = end + wide(tree.values[i]);
+        at = end + wide(tree.value_sizes[i]);
         i += 1;
     }
     Found { index: i, at: at }
@@ -139,14 +141,14 @@ pub fn find(store: &[u8], tree: Tree, node: u32, name: &[u8]) -> Found
 
 // The bytes of a value, with its null.
 pub fn size_of(count: usize, null: bool) -> usize
-    requires { ⌜ count ≤ 16384 ⌝ }
+    requires { ⌜ count ≤ storeSize ⌝ }
     ensures { λ r. ⌜ (r ≡ sizeOf count null) × (r ≤ count + 1) ⌝ }
 {
     if null { count + 1 } else { count }
 }
 
 pub fn lay_value(store: &mut [u8], at: usize, value: &[u8], null: bool)
-    requires { ⌜ (at ≤ 32768) × (length (now value) ≤ 16384) ⌝ }
+    requires { ⌜ (at ≤ 32768) × (length (now value) ≤ storeSize) ⌝ }
     ensures { λ r. ⌜ now (store .exit) ≡ writtenOf (now (store .entry)) at (valueOf (now (value .entry)) null) ⌝ }
 {
     copy_in(store, at as u32, value);
@@ -160,7 +162,7 @@ pub fn value_size(tree: Tree, index: usize) -> usize
     ensures { λ r. ⌜ (r ≡ valueSize tree index) × (r < 4294967296) ⌝ }
 {
     if index < PROPERTIES_MOST {
-        wide(tree.values[index])
+        wide(tree.value_sizes[index])
     } else {
         0
     }
@@ -170,7 +172,7 @@ pub fn name_size(tree: Tree, index: usize) -> usize
     ensures { λ r. ⌜ r ≡ nameSize tree index ⌝ }
 {
     if index < PROPERTIES_MOST {
-        wide(tree.names[index])
+        wide(tree.name_sizes[index])
     } else {
         0
     }

@@ -2,7 +2,8 @@
 ghost use mathlib.Core.Path.{_≡_};
 ghost use Prim.Native.Nat.{_≤_, _<_};
 ghost use lib.ListN.{length};
-ghost use Rattle.tree.specs.Rows.{countFrom, rowOf, tableRefusal, rowsRefusal, rowsThen, parentsOf, countsOf, rowsOf};
+ghost use Rattle.tree.specs.Rows.{countFrom, nodeRow, tableRefusal, rowsRefusal, rowsThen, parentsOf, countsOf, rowsOf};
+ghost use Rattle.rom.specs.Sizes.{nodesMost, propertiesMost};
 use crate::node::parent;
 use crate::tree::Tree;
 use crate::tree::is_whole;
@@ -16,7 +17,7 @@ pub struct Row {
 
 // How many of the records are a node's.
 fn count_of(owners: &[u32; PROPERTIES_MOST], held: usize, node: u32) -> u32
-    requires { ⌜ held ≤ 128 ⌝ }
+    requires { ⌜ held ≤ propertiesMost ⌝ }
     ensures { λ r. ⌜ r ≡ countFrom (now (owners .entry)) node held 0 ⌝ }
 {
     let mut count = 0;
@@ -32,8 +33,8 @@ fn count_of(owners: &[u32; PROPERTIES_MOST], held: usize, node: u32) -> u32
 
 // A node's row; a row of no node is zero.
 fn row_of(tree: Tree, k: usize) -> Row
-    requires { ⌜ (k < 32) × (tree .held ≤ 128) ⌝ }
-    ensures { λ r. ⌜ r ≡ rowOf tree k ⌝ }
+    requires { ⌜ (k < nodesMost) × (tree .held ≤ propertiesMost) ⌝ }
+    ensures { λ r. ⌜ r ≡ nodeRow tree k ⌝ }
 {
     if tree.nodes <= k {
         return Row {
@@ -49,7 +50,7 @@ fn row_of(tree: Tree, k: usize) -> Row
 }
 
 fn fill_rows(tree: Tree, parents: &mut [u32], counts: &mut [u32])
-    requires { ⌜ (tree .held ≤ 128) × (length (now parents) ≡ 32) × (length (now counts) ≡ 32) ⌝ }
+    requires { ⌜ (tree .held ≤ propertiesMost) × (length (now parents) ≡ nodesMost) × (length (now counts) ≡ nodesMost) ⌝ }
     ensures { λ r. ⌜ (now (parents .exit) ≡ parentsOf tree) × (now (counts .exit) ≡ countsOf tree) ⌝ }
 {
     let mut k = 0;
@@ -93,9 +94,11 @@ fn rows_refusal(tree: Tree, size: usize) -> u32
     0
 }
 
-// The rows in a lent slice of structs: 0, or 6 and then 7 with all rows as they were. What a row holds is decided in `row_of`; this walk only stores.
+// The rows in a lent slice of structs: 0, or 6 and then 7 with all rows as they were. What a row holds is decided in `row_of`; this walk
+// only stores.
 pub fn node_rows(tree: Tree, rows: &mut [Row]) -> u32
-    ensures { λ r. ⌜ (r ≡ rowsRefusal tree (length (now (rows .entry)))) × (now (rows .exit) ≡ rowsThen r (now (rows .entry)) (rowsOf tree)) ⌝ }
+    ensures { λ r. ⌜ (r ≡ rowsRefusal tree (length (now (rows .entry))))
+        × (now (rows .exit) ≡ rowsThen r (now (rows .entry)) (rowsOf tree)) ⌝ }
 {
     let why = rows_refusal(tree, rows.len());
     if why != 0 {

@@ -3,21 +3,21 @@ ghost use mathlib.Core.Path.{_≡_};
 ghost use Prim.Native.Nat.{_≤_, _<_};
 ghost use Rattle.tree.specs.Held.{liveAmong};
 ghost use Rattle.tree.specs.Whole.{olderAmong, soundWith, soundAmong, everyBelow, counted as Whole·counted, wholeTree};
+ghost use Rattle.rom.specs.Sizes.{nodesMost, propertiesMost};
 use rom::sizes::NODES_MOST;
 use rom::sizes::PROPERTIES_MOST;
 use rom::sizes::STORE_SIZE;
 
 pub const NAME_MOST: usize = 31;
 
-// Node k has the parent parents[k]. Record i says that a property of the node owners[i] has a name and a value of these lengths; their bytes lie in
-// the store, one record's behind the other's.
+// Node k has the parent parents[k]. Record i says that a property of the node owners[i] has a name and a value of these lengths; their
+// bytes lie in the store, one record's behind the other's.
 pub struct Tree {
     pub parents: [u32; NODES_MOST],
     pub nodes: usize,
-    pub active: u32,
     pub owners: [u32; PROPERTIES_MOST],
-    pub names: [u32; PROPERTIES_MOST],
-    pub values: [u32; PROPERTIES_MOST],
+    pub name_sizes: [u32; PROPERTIES_MOST],
+    pub value_sizes: [u32; PROPERTIES_MOST],
     pub held: usize,
 }
 
@@ -34,7 +34,7 @@ pub fn wide(x: u32) -> usize
 }
 
 fn is_older(parents: &[u32; NODES_MOST], k: usize) -> bool
-    requires { ⌜ k < 32 ⌝ }
+    requires { ⌜ k < nodesMost ⌝ }
     ensures { λ r. ⌜ r ≡ olderAmong (now (parents .entry)) k ⌝ }
 {
     let parent = wide(parents[k]);
@@ -42,7 +42,7 @@ fn is_older(parents: &[u32; NODES_MOST], k: usize) -> bool
 }
 
 fn all_older(parents: &[u32; NODES_MOST], nodes: usize) -> bool
-    requires { ⌜ nodes ≤ 32 ⌝ }
+    requires { ⌜ nodes ≤ nodesMost ⌝ }
     ensures { λ r. ⌜ r ≡ everyBelow nodes (olderAmong (now (parents .entry))) ⌝ }
 {
     let mut k = 0;
@@ -73,16 +73,22 @@ fn is_sound(nodes: usize, owner: usize, name: usize, value: usize) -> bool
 fn all_sound(
     nodes: usize,
     owners: &[u32; PROPERTIES_MOST],
-    names: &[u32; PROPERTIES_MOST],
-    values: &[u32; PROPERTIES_MOST],
+    name_sizes: &[u32; PROPERTIES_MOST],
+    value_sizes: &[u32; PROPERTIES_MOST],
     held: usize,
 ) -> bool
-    requires { ⌜ held ≤ 128 ⌝ }
-    ensures { λ r. ⌜ r ≡ everyBelow held (soundAmong nodes (now (owners .entry)) (now (names .entry)) (now (values .entry))) ⌝ }
+    requires { ⌜ held ≤ propertiesMost ⌝ }
+    ensures { λ r. ⌜ r
+        ≡ everyBelow held (soundAmong nodes (now (owners .entry)) (now («name_sizes» .entry)) (now («value_sizes» .entry))) ⌝ }
 {
     let mut i = 0;
     while i < held {
-        if !is_sound(nodes, wide(owners[i]), wide(names[i]), wide(values[i])) {
+        if !is_sound(
+            nodes,
+            wide(owners[i]),
+            wide(name_sizes[i]),
+            wide(value_sizes[i]),
+        ) {
             return false;
         }
         i += 1;
@@ -92,36 +98,30 @@ fn all_sound(
 
 // The live bytes. 128 lengths of 32 bits do not overflow, so the sum needs no lengths in their limits.
 pub fn live_bytes(
-    names: &[u32; PROPERTIES_MOST],
-    values: &[u32; PROPERTIES_MOST],
+    name_sizes: &[u32; PROPERTIES_MOST],
+    value_sizes: &[u32; PROPERTIES_MOST],
     held: usize,
 ) -> usize
-    requires { ⌜ held ≤ 128 ⌝ }
-    ensures { λ r. ⌜ r ≡ liveAmong (now (names .entry)) (now (values .entry)) held 0 ⌝ }
+    requires { ⌜ held ≤ propertiesMost ⌝ }
+    ensures { λ r. ⌜ r ≡ liveAmong (now («name_sizes» .entry)) (now («value_sizes» .entry)) held 0 ⌝ }
 {
     let mut sum = 0;
     let mut i = 0;
     while i < held {
-        sum += wide(names[i]) + wide(values[i]);
+        sum += wide(name_sizes[i]) + wide(value_sizes[i]);
         i += 1;
     }
     sum
 }
 
-// Whether the counts are in their limits and the active node is there.
-fn counted(nodes: usize, active: usize, held: usize) -> bool
-    ensures { λ r. ⌜ r ≡ Whole·counted nodes active held ⌝ }
+// Whether the counts are in their limits.
+fn counted(nodes: usize, held: usize) -> bool
+    ensures { λ r. ⌜ r ≡ Whole·counted nodes held ⌝ }
 {
     if nodes < 2 {
         return false;
     }
     if NODES_MOST < nodes {
-        return false;
-    }
-    if active < 1 {
-        return false;
-    }
-    if nodes <= active {
         return false;
     }
     held <= PROPERTIES_MOST
@@ -131,7 +131,7 @@ fn counted(nodes: usize, active: usize, held: usize) -> bool
 pub fn is_whole(tree: Tree) -> bool
     ensures { λ r. ⌜ r ≡ wholeTree tree ⌝ }
 {
-    if !counted(tree.nodes, wide(tree.active), tree.held) {
+    if !counted(tree.nodes, tree.held) {
         return false;
     }
     let parents = tree.parents;
@@ -139,10 +139,10 @@ pub fn is_whole(tree: Tree) -> bool
         return false;
     }
     let owners = tree.owners;
-    let names = tree.names;
-    let values = tree.values;
-    if !all_sound(tree.nodes, &owners, &names, &values, tree.held) {
+    let name_sizes = tree.name_sizes;
+    let value_sizes = tree.value_sizes;
+    if !all_sound(tree.nodes, &owners, &name_sizes, &value_sizes, tree.held) {
         return false;
     }
-    live_bytes(&names, &values, tree.held) <= STORE_SIZE
+    live_bytes(&name_sizes, &value_sizes, tree.held) <= STORE_SIZE
 }

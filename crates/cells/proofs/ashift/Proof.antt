@@ -1,5 +1,5 @@
 use borrow.Author.Needs.{needs}
-use Rattle.cells.specs.Laws.{ashift-low, ashift-high}
+use Rattle.cells.specs.Laws.Cells.{ashift-low, ashift-high}
 use Rattle.cells.proofs.ashift.Statement.{statement}
 use Rattle.cells.proofs.ashift.Tie as tie
 
@@ -11,5 +11,10 @@ ashift-spec =
     (λ c κs. search needs)
     (λ c κs. search needs)
     (λ c κs. search needs)
-    (λ c. simp (c .invert2 .ensures, c .before .rshift .ensures, c .before .before .invert .ensures, ashift-high (c .before .before .before .before .args .a) (c .before .before .before .before .args .n) (search needs)))
-    (λ c. simp (c .rshift2 .ensures, ashift-low (c .before .before .args .a) (c .before .before .args .n) (search needs))))
+    (λ c.
+    let invert = c .before .before .invert in
+    let args = c .before .before .before .before .args in
+    simp (c .invert2 .ensures, c .before .rshift .ensures, invert .ensures, ashift-high (args .a) (args .n) (search needs)))
+    (λ c.
+    let args = c .before .before .args in
+    simp (c .rshift2 .ensures, ashift-low (args .a) (args .n) (search needs))))

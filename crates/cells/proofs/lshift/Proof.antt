@@ -1,7 +1,7 @@
 use mathlib.Core.Path.{sym}
 use borrow.Author.Needs.{needs}
 use Rattle.cells.specs.Arithmetic.{lshiftOf}
-use Rattle.cells.specs.Tests.{chosen-below, chosen-from}
+use Rattle.cells.specs.Laws.Tests.{chosen-below, chosen-from}
 use Rattle.cells.proofs.lshift.Statement.{statement}
 use Rattle.cells.proofs.lshift.Tie as tie
 

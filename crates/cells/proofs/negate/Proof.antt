@@ -1,6 +1,6 @@
 use mathlib.Core.Path.{_∙_, sym}
 use borrow.Author.Needs.{needs}
-use Rattle.cells.specs.Laws.{negate-is}
+use Rattle.cells.specs.Laws.Cells.{negate-is}
 use Rattle.cells.proofs.negate.Statement.{statement}
 use Rattle.cells.proofs.negate.Tie as tie
 

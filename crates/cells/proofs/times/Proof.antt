@@ -1,5 +1,5 @@
 use borrow.Author.Needs.{needs}
-use Rattle.cells.specs.Laws.{product-below}
+use Rattle.cells.specs.Laws.Cells.{product-below}
 use Rattle.cells.proofs.times.Statement.{statement}
 use Rattle.cells.proofs.times.Tie as tie
 

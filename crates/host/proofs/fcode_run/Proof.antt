@@ -31,7 +31,8 @@ returns : tie.Need-returns
 returns c =
     let a = c .before .before .before .before .before .before .before .before .before .before .before .before .args in
     let o = c .before .before .before .before .before .before .«open» in
-    host-refused (now (a .rom)) (now (a .work)) (now (a .store)) (a .budget) (o .result) _ _ (o .ensures) _ (c .before .number-of .ensures) (search needs)
+    host-refused (now (a .rom)) (now (a .work)) (now (a .store)) (a .budget) (o .result) _ _ (o .ensures) _ (c .before .number-of .ensures)
+    (search needs)
 
 -- src/lib.rt:48:9
 run-requires : tie.Need-run-requires
@@ -52,10 +53,14 @@ same-length-4 c = search needs
 -- src/lib.rt:35:1
 returns-2 : tie.Need-returns-2
 returns-2 c =
-    let a = c .before .before .before .before .before .before .before .before .before .before .before .before .before .before .before .before .before .before .before .before .before .args in
-    let o = c .before .before .before .before .before .before .before .before .before .before .before .before .before .before .before .«open» in
+    let if1 = c .before .before .before .before .before .before .before .before .before .if1 in
+    let number-of = c .before .before .before .before .before .before .before .before .before .before .number-of in
+    let c₁ = c .before .before .before .before .before .before .before .before .before .before .before .before in
+    let a = c₁ .before .before .before .before .before .before .before .before .before .args in
+    let o = c₁ .before .before .before .«open» in
     let r = c .before .before .before .before .before .run in
-    host-ran (now (a .rom)) (now (a .work)) (now (a .store)) (a .budget) (o .result) _ _ (o .ensures) (sym (c .before .before .before .before .before .before .before .before .before .before .number-of .ensures) ∙ c .before .before .before .before .before .before .before .before .before .if1 .left) (r .result) _ _ (r .ensures) _ (c .number-of2 .ensures)
+    host-ran (now (a .rom)) (now (a .work)) (now (a .store)) (a .budget) (o .result) _ _ (o .ensures) (sym (number-of .ensures) ∙ if1 .left)
+    (r .result) _ _ (r .ensures) _ (c .number-of2 .ensures)
 
 pub fcode-run-spec : {M : Type 1} → statement M
 fcode-run-spec =

@@ -1,9 +1,7 @@
-use denote.Ref.{now}
-use mathlib.Core.Path.{ap, sym, _∙_}
+use mathlib.Core.Path.{ap, sym}
 use borrow.Author.Needs.{needs}
-use Rattle.screen.specs.Screen.{numberOf}
-use Rattle.screen.specs.Exactly.{promise-kept, one-result}
 use Rattle.host.proofs.fcode_screen.Statement.{statement}
+use Rattle.screen.specs.Promise.{verdictNumber}
 use Rattle.host.proofs.fcode_screen.Tie as tie
 use Rattle.host.proofs.fcode_screen.Reads as reads
 use Rattle.host.proofs.fcode_screen.Lts as lts
@@ -28,9 +26,7 @@ same-length c = search needs
 -- src/lib.rt:23:1
 returns : tie.Need-returns
 returns c =
-    let a = c .before .before .before .before .before .before .before .before .args in
-    let k = one-result (c .before .before .before .before .screen .ensures) (promise-kept (now (a .rom)) (now (a .marks))) in
-    (ap numberOf (sym (c .enum-told .given .1) ∙ k .0), k .1)
+    let k = c .before .before .before .before .screen in (k .result, ap verdictNumber (sym (c .enum-told .given .1)), k .ensures)
 
 -- src/lib.rt:23:1
 same-length-2 : tie.Need-same-length-2
@@ -39,9 +35,7 @@ same-length-2 c = search needs
 -- src/lib.rt:23:1
 returns-2 : tie.Need-returns-2
 returns-2 c =
-    let a = c .before .before .before .before .before .before .before .before .before .args in
-    let k = one-result (c .before .before .before .before .before .screen .ensures) (promise-kept (now (a .rom)) (now (a .marks))) in
-    (ap numberOf (sym (c .before .why .given .1) ∙ k .0), k .1)
+    let k = c .before .before .before .before .before .screen in (k .result, ap verdictNumber (sym (c .before .why .given .1)), k .ensures)
 
 pub fcode-screen-spec : {M : Type 1} → statement M
 fcode-screen-spec =

@@ -10,5 +10,9 @@ why-at-spec =
     (λ c κs. search needs)
     (λ c. search needs)
     (λ c. search needs)
-    (λ c. rw (← c .before .before .before .read-at .ensures, c .before .why .given .1))
-    (λ c. rw (← c .before .before .read-at .ensures, c .enum-told .given .1)))
+    (λ c.
+    let read-at = c .before .before .before .read-at in
+    rw (← read-at .ensures, c .before .why .given .1))
+    (λ c.
+    let read-at = c .before .before .read-at in
+    rw (← read-at .ensures, c .enum-told .given .1)))

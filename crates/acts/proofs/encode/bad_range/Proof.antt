@@ -12,11 +12,14 @@ bad-range-spec =
     (λ c. search needs)
     (λ c. search needs)
     (λ c.
+    let window-of = c .before .before .window-of in
     let k = c .before .before .before .before .before in
-    rw (← range-is _ _ _ _ _ (k .pre), ← c .before .before .window-of .ensures, c .enum-told .given .1))
+    rw (← range-is _ _ _ _ _ (k .pre), ← window-of .ensures, c .enum-told .given .1))
     (λ c.
+    let window-of = c .before .before .window-of in
     let k = c .before .before .before .before .before in
-    rw (← range-is _ _ _ _ _ (k .pre), ← c .before .before .window-of .ensures, c .enum-told2 .given .1))
+    rw (← range-is _ _ _ _ _ (k .pre), ← window-of .ensures, c .enum-told2 .given .1))
     (λ c.
+    let window-of = c .before .before .window-of in
     let k = c .before .before .before .before .before in
-    rw (← range-is _ _ _ _ _ (k .pre), ← c .before .before .window-of .ensures, c .enum-told3 .given .1)))
+    rw (← range-is _ _ _ _ _ (k .pre), ← window-of .ensures, c .enum-told3 .given .1)))

@@ -18,31 +18,37 @@ lay-string-spec =
     (λ c. search needs)
     (λ c. search needs)
     (λ c.
+    let start = c .before .before .start in
     let k1 = c .before .before .before .before in
     let k2 = k1 .before .before .before in
-    let a : c .before .before .start .given .0 .0 + k2 .args .count ≤ length (now (k2 .args .rom)) = in-rom (now (k2 .args .rom))
+    let a : start .given .0 .0 + k2 .args .count ≤ length (now (k2 .args .rom)) = in-rom (now (k2 .args .rom))
     (now (k2 .args .work)) (now (k2 .args .rom)) (k2 .args .size) (k2 .args .address) (k2 .args .count) (k2 .args .at) (k2 .pre)
-    (k1 .window-of .result) (k1 .window-of .ensures) _ (c .before .before .start .given .1) in
+    (k1 .window-of .result) (k1 .window-of .ensures) _ (start .given .1) in
     search needs)
     (λ c κs. search needs)
     (λ c. search needs)
     (λ c.
+    let copy-in = c .before .before .copy-in in
     let k1 = c .before .before .before .before .before .before in
     let k2 = k1 .before .before in
     let k3 = k2 .before .before .before in
-    laid-rom _ _ _ (k3 .args .size) (k3 .args .address) (k3 .args .count) (k3 .args .at) (k3 .pre) (k2 .window-of .result) (k2 .window-of .ensures) _
-    (k1 .start .given .1) (c .before .before .copy-in .ensures))
+    laid-rom _ _ _ (k3 .args .size) (k3 .args .address) (k3 .args .count) (k3 .args .at) (k3 .pre) (k2 .window-of .result)
+    (k2 .window-of .ensures) _
+    (k1 .start .given .1) (copy-in .ensures))
     (λ c. search needs)
     (λ c κs. search needs)
     (λ c. search needs)
     (λ c.
+    let copy-within = c .before .before .copy-within in
     let k1 = c .before .before .before .before .before in
     let k2 = k1 .before .before in
     let k3 = k2 .before .before .before in
-    laid-work _ _ _ (k3 .args .size) (k3 .args .address) (k3 .args .count) (k3 .args .at) (k3 .pre) (k2 .window-of .result) (k2 .window-of .ensures) _
-    (k1 .start2 .given .1) (c .before .before .copy-within .ensures))
+    laid-work _ _ _ (k3 .args .size) (k3 .args .address) (k3 .args .count) (k3 .args .at) (k3 .pre) (k2 .window-of .result)
+    (k2 .window-of .ensures) _
+    (k1 .start2 .given .1) (copy-within .ensures))
     (λ c. search needs)
     (λ c.
+    let window-of = c .before .before .window-of in
     let k = c .before .before .before .before .before in
-    laid-none _ _ _ (k .args .size) (k .args .address) (k .args .count) (k .args .at) (k .pre) (c .before .before .window-of .result)
-    (c .before .before .window-of .ensures) (c .enum-told .given .1) refl))
+    laid-none _ _ _ (k .args .size) (k .args .address) (k .args .count) (k .args .at) (k .pre) (window-of .result)
+    (window-of .ensures) (c .enum-told .given .1) refl))

@@ -1,5 +1,5 @@
 use Rattle.acts.proofs.Pops.{paired}
-use Rattle.state.specs.Apart.{onStack, joined}
+use Rattle.state.specs.Joints.Apart.{onStack, joined}
 use denote.Ref.{now}
 use borrow.Author.Needs.{needs}
 use Rattle.acts.proofs.flow.pair.Statement.{statement}
@@ -11,4 +11,9 @@ pair-spec =
     (tie.spec
     (λ c κs. search needs)
     (λ c κs. search needs)
-    (λ c. λ a. paired (joined (onStack (now (c .before .before .before .before .before .args .cells)) a) (c .before .before .before .before .before .args .core)) _ _ _ _ _ (c .before .before .before .before .before .pre) (c .before .before .before .push .ensures a) (c .push2 .ensures a)))
+    (λ c.
+    let push = c .before .before .before .push in
+    let c₁ = c .before .before .before .before .before in
+    let args = c₁ .args in
+    let pre = c₁ .pre in
+    λ a. paired (joined (onStack (now (args .cells)) a) (args .core)) _ _ _ _ _ (pre) (push .ensures a) (c .push2 .ensures a)))

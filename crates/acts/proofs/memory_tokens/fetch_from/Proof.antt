@@ -2,8 +2,8 @@ use Rattle.acts.proofs.Backs.{via}
 use Rattle.acts.proofs.Cold.{fetch-low}
 use Rattle.acts.proofs.Memories.{fetch-refused, fetch-good}
 use Rattle.acts.proofs.Pops.{first-pop, pushed-on}
-use Rattle.state.specs.Apart.{onStack, joined, takenOn}
-use Rattle.state.specs.Done.{stopped}
+use Rattle.state.specs.Joints.Apart.{onStack, joined, takenOn}
+use Rattle.state.specs.Laws.Done.{stopped}
 use denote.Ref.{now}
 use mathlib.Core.Path.{refl, sym}
 use native.Mathlib.Omega.{arith}
@@ -23,12 +23,34 @@ fetch-from-spec =
     (λ c κs. search needs)
     (λ c. search needs)
     (λ c κs. search needs)
-    (λ c. λ a o store.
-    let p = first-pop (joined (onStack (now (c .before .before .before .before .before .before .before .before .before .before .before .args .cells)) a) (c .before .before .before .before .before .before .before .before .before .before .before .args .core)) (takenOn (onStack (now (c .before .before .before .before .before .before .before .before .before .before .before .args .cells)) a) (c .before .before .before .before .before .pop .result)) (c .before .before .before .before .before .before .before .if1 .left) (c .before .before .before .before .before .pop .ensures a) in
+    (λ c.
+    let why = c .before .before .why in
+    let fetched = c .before .before .before .before .fetched in
+    let pop = c .before .before .before .before .before .pop in
+    let if1 = c .before .before .before .before .before .before .before .if1 in
+    let c₁ = c .before .before .before .before .before .before .before .before .before .before .before in
+    let args = c₁ .args in
+    let pre = c₁ .pre in
+    λ a o store.
+    let p = first-pop (joined (onStack (now (args .cells)) a) (args .core)) (takenOn (onStack (now (args .cells)) a) (pop .result))
+    (if1 .left) (pop .ensures a) in
     rw (c .stop2 .ensures)
-    (sym (fetch-refused _ _ store (joined (onStack (now (c .before .before .before .before .before .before .before .before .before .before .before .args .cells)) a) (c .before .before .before .before .before .before .before .before .before .before .before .args .core)) _ o (c .before .before .before .before .before .before .before .before .before .before .before .args .next) (c .before .before .before .before .before .before .before .before .before .before .before .pre) (c .before .before .before .before .before .before .before .if1 .left) (c .before .before .before .before .fetched .result) (c .before .before .before .before .before .pop .result .cell) (p .0) (c .before .before .before .before .fetched .ensures) _ (c .before .before .why .given .1))))
-    (λ c. λ a o store.
-    let p = first-pop (joined (onStack (now (c .before .before .before .before .before .before .before .before .before .before .before .before .before .args .cells)) a) (c .before .before .before .before .before .before .before .before .before .before .before .before .before .args .core)) (takenOn (onStack (now (c .before .before .before .before .before .before .before .before .before .before .before .before .before .args .cells)) a) (c .before .before .before .before .before .before .before .pop .result)) (c .before .before .before .before .before .before .before .before .before .if1 .left) (c .before .before .before .before .before .before .before .pop .ensures a) in
-    let h = c .before .before .before .before .before .before .before .before .before .before .before .before .before .pre in
-    via _ _ _ store _ (pushed-on (joined (onStack (now (c .before .before .before .before .before .before .before .before .before .before .before .before .before .args .cells)) a) (c .before .before .before .before .before .before .before .before .before .before .before .before .before .args .core)) 1 (c .before .before .before .before .before .before .before .before .before .before .before .before .before .args .next) _ (joined (onStack (now (c .before .before .before .before .before .before .before .before .before .before .before .before .before .args .cells)) a) (c .before .before .before .before .before .before .before .pop .result .core)) _ (omega arith) (p .1) (c .push .ensures a))
-    (sym (fetch-good _ _ store (joined (onStack (now (c .before .before .before .before .before .before .before .before .before .before .before .before .before .args .cells)) a) (c .before .before .before .before .before .before .before .before .before .before .before .before .before .args .core)) _ o (c .before .before .before .before .before .before .before .before .before .before .before .before .before .args .next) (c .before .before .before .before .before .before .before .before .before .before .before .before .before .pre) (c .before .before .before .before .before .before .before .before .before .if1 .left) (c .before .before .before .before .before .before .fetched .result) (c .before .before .before .before .before .before .before .pop .result .cell) (p .0) (c .before .before .before .before .before .before .fetched .ensures) _ (c .before .before .before .before .cell .given .1)))))
+    (sym (fetch-refused _ _ store (joined (onStack (now (args .cells)) a) (args .core)) _ o (args .next) (pre) (if1 .left) (fetched .result)
+    (pop .result .cell) (p .0) (fetched .ensures) _ (why .given .1))))
+    (λ c.
+    let cell′ = c .before .before .before .before .cell in
+    let fetched = c .before .before .before .before .before .before .fetched in
+    let pop = c .before .before .before .before .before .before .before .pop in
+    let if1 = c .before .before .before .before .before .before .before .before .before .if1 in
+    let c₁ = c .before .before .before .before .before .before .before .before .before .before .before .before in
+    let c₂ = c₁ .before in
+    let args = c₂ .args in
+    let pre = c₂ .pre in
+    λ a o store.
+    let p = first-pop (joined (onStack (now (args .cells)) a) (args .core)) (takenOn (onStack (now (args .cells)) a) (pop .result))
+    (if1 .left) (pop .ensures a) in
+    let h = c₂ .pre in
+    via _ _ _ store _ (pushed-on (joined (onStack (now (args .cells)) a) (args .core)) 1 (args .next) _
+    (joined (onStack (now (args .cells)) a) (pop .result .core)) _ (omega arith) (p .1) (c .push .ensures a))
+    (sym (fetch-good _ _ store (joined (onStack (now (args .cells)) a) (args .core)) _ o (args .next) (pre) (if1 .left) (fetched .result)
+    (pop .result .cell) (p .0) (fetched .ensures) _ (cell′ .given .1)))))

@@ -8,6 +8,10 @@ fetched-spec =
     (tie.spec
     (λ c κs. search needs)
     (λ c κs. search needs)
-    (λ c. rw (← c .before .before .is-cell .ensures, c .before .if1 .taken) (c .fetch-cell .ensures))
+    (λ c.
+    let is-cell = c .before .before .is-cell in
+    rw (← is-cell .ensures, c .before .if1 .taken) (c .fetch-cell .ensures))
     (λ c κs. search needs)
-    (λ c. rw (← c .before .before .is-cell .ensures, c .before .if1 .left) (c .fetch-byte .ensures)))
+    (λ c.
+    let is-cell = c .before .before .is-cell in
+    rw (← is-cell .ensures, c .before .if1 .left) (c .fetch-byte .ensures)))

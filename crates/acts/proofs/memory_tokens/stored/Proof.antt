@@ -10,10 +10,16 @@ stored-spec =
     (λ c κs. search needs)
     (λ c. search needs)
     (λ c.
-    let k = c .before .before .before .before .before in
-    rw (← k .is-cell .ensures, c .before .before .before .before .if1 .taken) (c .before .before .store-cell .ensures))
+    let store-cell = c .before .before .store-cell in
+    let c₁ = c .before .before .before .before in
+    let if1 = c₁ .if1 in
+    let k = c₁ .before in
+    rw (← k .is-cell .ensures, if1 .taken) (store-cell .ensures))
     (λ c κs. search needs)
     (λ c. search needs)
     (λ c.
-    let k = c .before .before .before .before .before in
-    rw (← k .is-cell .ensures, c .before .before .before .before .if1 .left) (c .before .before .store-byte .ensures)))
+    let store-byte = c .before .before .store-byte in
+    let c₁ = c .before .before .before .before in
+    let if1 = c₁ .if1 in
+    let k = c₁ .before in
+    rw (← k .is-cell .ensures, if1 .left) (store-byte .ensures)))

@@ -11,4 +11,6 @@ file-kept-spec =
     (λ c. search needs)
     (λ c κs. search needs)
     (λ c. rw (c .before .enum-told .given .1))
-    (λ c. rw (c .before .before .outcome .given .1) (c .refuse .ensures)))
+    (λ c.
+    let outcome = c .before .before .outcome in
+    rw (outcome .given .1) (c .refuse .ensures)))

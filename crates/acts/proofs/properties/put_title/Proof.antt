@@ -14,8 +14,18 @@ put-title-spec =
     (λ c. search needs)
     (λ c κs. search needs)
     (λ c. search needs)
-    (λ c. rw (c .before .before .before .before .before .before .before .before .match .keys1) (c .before .before .put-in .ensures))
+    (λ c.
+    let put-in = c .before .before .put-in in
+    let match = c .before .before .before .before .before .before .before .before .match in
+    rw (match .keys1) (put-in .ensures))
     (λ c. search needs)
-    (λ c. rw (c .before .before .before .before .before .before .before .before .match .keys2) (c .before .before .put-in2 .ensures))
+    (λ c.
+    let put-in2 = c .before .before .put-in2 in
+    let match = c .before .before .before .before .before .before .before .before .match in
+    rw (match .keys2) (put-in2 .ensures))
     (λ c. search needs)
-    (λ c. rw (other-title (c .before .before .before .before .before .before .before .before .before .before .before .args .number) (c .before .before .before .before .before .before .before .before .match .rest)) (c .before .before .put-in3 .ensures)))
+    (λ c.
+    let put-in3 = c .before .before .put-in3 in
+    let match = c .before .before .before .before .before .before .before .before .match in
+    let args = c .before .before .before .before .before .before .before .before .before .before .before .args in
+    rw (other-title (args .number) (match .rest)) (put-in3 .ensures)))

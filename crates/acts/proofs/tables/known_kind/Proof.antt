@@ -1,6 +1,6 @@
 use mathlib.Core.Path.{sym}
 use mathlib.Core.List.{_∷_, []}
-use Rattle.cells.specs.Tests.{find-none}
+use Rattle.cells.specs.Laws.Tests.{find-none}
 use Rattle.tokens.specs.Definition.{colon, constant, value}
 use Rattle.acts.proofs.tables.known_kind.Statement.{statement}
 use Rattle.acts.proofs.tables.known_kind.Tie as tie

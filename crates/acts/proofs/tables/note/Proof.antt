@@ -9,4 +9,6 @@ note-spec =
     (λ c κs. search needs)
     (λ c κs. search needs)
     (λ c κs. search needs)
-    (λ c. (c .before .before .before .put-slot .ensures, rw (c .before .known-kind .ensures) at (c .put-kind .ensures))))
+    (λ c.
+    let put-slot = c .before .before .before .put-slot in
+    (put-slot .ensures, rw (c .before .known-kind .ensures) at (c .put-kind .ensures))))

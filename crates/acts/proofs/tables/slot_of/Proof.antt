@@ -1,4 +1,4 @@
-use Rattle.state.specs.Seeking.{program-bounds}
+use Rattle.state.specs.Laws.Seeking.{program-bounds}
 use mathlib.Core.Path.{sym, _∙_}
 use native.Mathlib.Omega.{arith}
 use borrow.Author.Needs.{needs}
@@ -10,10 +10,17 @@ slot-of-spec =
     tie.close
     (tie.spec
     (λ c κs. search needs)
-    (λ c. (program-bounds (c .before .before .args .number) (sym (c .before .is-program .ensures) ∙ c .if1 .taken)) .0)
+    (λ c.
+    let args = c .before .before .args in
+    (program-bounds (args .number) (sym (c .before .is-program .ensures) ∙ c .if1 .taken)) .0)
     (λ c. search needs)
     (λ c. search needs)
-    (λ c. let r = program-bounds (c .before .before .args .number) (sym (c .before .is-program .ensures) ∙ c .if1 .taken) in omega arith)
+    (λ c.
+    let args = c .before .before .args in
+    let r = program-bounds (args .number) (sym (c .before .is-program .ensures) ∙ c .if1 .taken) in omega arith)
     (λ c κs. search needs)
-    (λ c. rw (← c .before .before .before .is-program .ensures, c .before .before .if1 .taken) (c .wide .ensures))
+    (λ c.
+    let if1 = c .before .before .if1 in
+    let is-program = c .before .before .before .is-program in
+    rw (← is-program .ensures, if1 .taken) (c .wide .ensures))
     (λ c. rw (← c .before .is-program .ensures, c .if1 .left)))

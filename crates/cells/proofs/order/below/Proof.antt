@@ -1,5 +1,5 @@
 use borrow.Author.Needs.{needs}
-use Rattle.cells.specs.Laws.{signed-lt}
+use Rattle.cells.specs.Laws.Cells.{signed-lt}
 use Rattle.cells.proofs.order.below.Statement.{statement}
 use Rattle.cells.proofs.order.below.Tie as tie
 
@@ -9,4 +9,6 @@ below-spec =
     (tie.spec
     (λ c κs. search needs)
     (λ c κs. search needs)
-    (λ c. rw (c .rank2 .ensures, c .before .rank .ensures, signed-lt (c .before .before .args .a) (c .before .before .args .b) (search needs) (search needs))))
+    (λ c.
+    let args = c .before .before .args in
+    rw (c .rank2 .ensures, c .before .rank .ensures, signed-lt (args .a) (args .b) (search needs) (search needs))))

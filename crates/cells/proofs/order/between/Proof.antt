@@ -9,5 +9,8 @@ between-spec =
     (λ c κs. search needs)
     (λ c κs. search needs)
     (λ c κs. search needs)
-    (λ c. simp (c .flag-of .ensures, c .before .up-to2 .ensures, ← c .before .before .before .up-to .ensures, c .before .before .if1 .taken))
+    (λ c.
+    let if1 = c .before .before .if1 in
+    let up-to = c .before .before .before .up-to in
+    simp (c .flag-of .ensures, c .before .up-to2 .ensures, ← up-to .ensures, if1 .taken))
     (λ c. simp (← c .before .up-to .ensures, c .if1 .left)))

@@ -1,5 +1,5 @@
 use borrow.Author.Needs.{needs}
-use Rattle.cells.specs.Laws.{signed-le}
+use Rattle.cells.specs.Laws.Cells.{signed-le}
 use Rattle.cells.proofs.order.up_to.Statement.{statement}
 use Rattle.cells.proofs.order.up_to.Tie as tie
 
@@ -9,4 +9,6 @@ up-to-spec =
     (tie.spec
     (λ c κs. search needs)
     (λ c κs. search needs)
-    (λ c. rw (c .rank2 .ensures, c .before .rank .ensures, signed-le (c .before .before .args .a) (c .before .before .args .b) (search needs) (search needs))))
+    (λ c.
+    let args = c .before .before .args in
+    rw (c .rank2 .ensures, c .before .rank .ensures, signed-le (args .a) (args .b) (search needs) (search needs))))

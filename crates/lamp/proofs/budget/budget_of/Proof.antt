@@ -3,7 +3,7 @@ use mathlib.Core.Path.{_≡_, _∙_}
 use lib.ListN.{length, drop}
 use denote.Ref.{now}
 use Rattle.lamp.specs.Budget.{stepsFrom, budgetOf}
-use Rattle.lamp.specs.BudgetLaws.{digit-low, digit-high, too-many, digit-more, digits-end, budget-none, budget-some}
+use Rattle.lamp.specs.Laws.Budget.{digit-low, digit-high, too-many, digit-more, digits-end, budget-none, budget-some}
 use borrow.Author.Needs.{needs}
 use Rattle.lamp.proofs.budget.budget_of.Statement.{statement}
 use Rattle.lamp.proofs.budget.budget_of.Tie as tie
@@ -20,11 +20,15 @@ abbrev μ-loop : tie.MeasureT-loop
 
 -- src/budget.rt:24:9
 returns : tie.Need-returns Inv-loop μ-loop
-returns c = budget-none (now (c .before .before .args .word)) (search needs)
+returns c =
+    let args = c .before .before .args in
+    budget-none (now (args .word)) (search needs)
 
 -- src/budget.rt:28:5
 loop-holds : tie.Need-loop-holds Inv-loop μ-loop
-loop-holds c = (search needs, search needs, budget-some (now (c .before .before .args .word)) (search needs))
+loop-holds c =
+    let args = c .before .before .args in
+    (search needs, search needs, budget-some (now (args .word)) (search needs))
 
 -- src/budget.rt:29:17
 shared-slice-read-b : tie.Need-shared-slice-read-b Inv-loop μ-loop
@@ -33,14 +37,16 @@ shared-slice-read-b c = search needs
 -- src/budget.rt:31:13
 returns-2 : tie.Need-returns-2 Inv-loop μ-loop
 returns-2 c =
+    let args = c .before .before .before .before .before .before .args in
     let l = c .before .before .before .loop in
-    digit-low (now (c .before .before .before .before .before .before .args .word)) (l .k) (l .sum) (search needs) (search needs) ∙ l .inv .2
+    digit-low (now (args .word)) (l .k) (l .sum) (search needs) (search needs) ∙ l .inv .2
 
 -- src/budget.rt:34:13
 returns-3 : tie.Need-returns-3 Inv-loop μ-loop
 returns-3 c =
+    let args = c .before .before .before .before .before .before .before .args in
     let l = c .before .before .before .before .loop in
-    digit-high (now (c .before .before .before .before .before .before .before .args .word)) (l .k) (l .sum) (search needs) (search needs) (search needs) ∙ l .inv .2
+    digit-high (now (args .word)) (l .k) (l .sum) (search needs) (search needs) (search needs) ∙ l .inv .2
 
 -- src/budget.rt:36:15
 mul-sum : tie.Need-mul-sum Inv-loop μ-loop
@@ -57,9 +63,11 @@ add-sum c = search needs
 -- src/budget.rt:38:13
 returns-4 : tie.Need-returns-4 Inv-loop μ-loop
 returns-4 c =
+    let args = c .before .before .before .before .before .before .before .before .before .args in
     let l = c .before .before .before .before .before .before .loop in
     let h = c .if4 .taken in
-    too-many (now (c .before .before .before .before .before .before .before .before .before .args .word)) (l .k) (l .sum) (search needs) (search needs) (search needs) (rw (c .before .value .ensures .0) at h) ∙ l .inv .2
+    too-many (now (args .word)) (l .k) (l .sum) (search needs) (search needs) (search needs) (rw (c .before .value .ensures .0) at h)
+    ∙ l .inv .2
 
 -- src/budget.rt:40:9
 add-k : tie.Need-add-k Inv-loop μ-loop
@@ -72,11 +80,13 @@ loop-less c = search needs
 -- src/budget.rt:28:5
 loop-again : tie.Need-loop-again Inv-loop μ-loop
 loop-again c =
+    let args = c .before .before .before .before .before .before .before .before .before .args in
     let l = c .before .before .before .before .before .before .loop in
     let h = c .if4 .left in (
       search needs,
       search needs,
-      rw (c .before .value .ensures .0) (digit-more (now (c .before .before .before .before .before .before .before .before .before .args .word)) (l .k) (l .sum) (search needs) (search needs) (search needs) (rw (c .before .value .ensures .0) at h) ∙ l .inv .2),
+      rw (c .before .value .ensures .0) (digit-more (now (args .word)) (l .k) (l .sum) (search needs) (search needs) (search needs)
+          (rw (c .before .value .ensures .0) at h) ∙ l .inv .2),
     )
 
 -- src/budget.rt:42:19
@@ -86,8 +96,9 @@ cast-t13 c = search needs
 -- src/budget.rt:20:1
 returns-5 : tie.Need-returns-5 Inv-loop μ-loop
 returns-5 c =
+    let args = c .before .before .before .before .args in
     let l = c .before .loop in
-    digits-end (now (c .before .before .before .before .args .word)) (l .k) (l .sum) (search needs) ∙ l .inv .2
+    digits-end (now (args .word)) (l .k) (l .sum) (search needs) ∙ l .inv .2
 
 pub budget-of-spec : {M : Type 1} → statement M
 budget-of-spec =

@@ -3,14 +3,14 @@ use native.Mathlib.Omega.{arith}
 use borrow.Author.Needs.{needs}
 use borrow.Fn.Kinds.{In}
 use borrow.Fn.PlainCycle.{Measures, is, falls, and}
-use Rattle.lines.specs.Laws.{decimal-one, decimal-more}
-use Rattle.lines.specs.Wrote.{wrote-then}
+use Rattle.lines.specs.Laws.Texts.{decimal-one, decimal-more}
 use Rattle.lines.proofs.digits.decimal.Reads as decimal
 use Rattle.lines.proofs.digits.decimal.Kinds as decimal-kinds
 use Rattle.lines.proofs.digits.+decimal.Lts-decimal as decimal-lts
 use Rattle.lines.proofs.words.letter.Reads as letter-reads
 use Rattle.lines.proofs.digits.+decimal.{statement}
 use Rattle.lines.proofs.digits.+decimal.Tie.{close}
+use Rattle.lines.specs.Laws.Wrote.{wrote-then}
 
 -- the number itself: a tenth of it is less
 abbrev μ-decimal : Measures 1 decimal-kinds.ps ℕ
@@ -34,10 +34,19 @@ pub +decimal-spec : {M : Type 1} → statement M
     (λ c. search needs)
     (λ c κs. search needs)
     (λ c. search needs)
-    (λ c. rw (decimal-one 9 (c .before .before .before .before .before .before .args .n) (search needs)) (c .before .before .letter .ensures))
-    (λ c κs. omega (arith, c .before .before .before .pre .0))
+    (λ c.
+    let letter = c .before .before .letter in
+    let args = c .before .before .before .before .before .before .args in
+    rw (decimal-one 9 (args .n) (search needs)) (letter .ensures))
+    (λ c κs.
+    let pre = c .before .before .before .pre in
+    omega (arith, pre .0))
     (λ c. search needs)
     (λ c. search needs)
     (λ c κs. search needs)
     (λ c. search needs)
-    (λ c. rw (decimal-more (c .before .before .before .before .before .before .before .before .before .before .args .n) (search needs) (search needs)) (wrote-then (c .before .before .before .before .before .before .decimal .ensures) (c .before .before .letter2 .ensures))))
+    (λ c.
+    let letter2 = c .before .before .letter2 in
+    let decimal = c .before .before .before .before .before .before .decimal in
+    let args = c .before .before .before .before .before .before .before .before .before .before .args in
+    rw (decimal-more (args .n) (search needs) (search needs)) (wrote-then (decimal .ensures) (letter2 .ensures))))

@@ -3,9 +3,9 @@ use lib.ListN.{length, getD, drop}
 use denote.Ref.{now}
 use borrow.Author.Needs.{needs}
 use Rattle.lines.specs.Digits.{hexPair, hexOf}
-use Rattle.lines.specs.Laws.{hex-more, hex-none}
-use Rattle.lines.specs.Wrote.{Ahead, ahead-all, ahead-on, ahead-none}
+use Rattle.lines.specs.Laws.Texts.{hex-more, hex-none}
 use Rattle.lines.proofs.digits.hex.Statement.{statement}
+use Rattle.lines.specs.Laws.Wrote.{Ahead, ahead-all, ahead-on, ahead-none}
 use Rattle.lines.proofs.digits.hex.Tie as tie
 
 abbrev Inv-loop : tie.InvT-loop
@@ -26,8 +26,15 @@ hex-spec =
     (λ c. search needs)
     (λ c. search needs)
     (λ c.
-    let value = now (c .before .before .before .before .before .before .before .before .before .args .value) in
-    let l = c .before .before .before .before .before .before .loop in
-    (search needs, ahead-on (hexPair (getD value (l .k) 0)) (hexOf (drop (l .k + 1) value)) (rw (hex-more value (l .k) (search needs)) at (l .inv .1)) (c .before .before .hex-byte .ensures)))
+    let hex-byte = c .before .before .hex-byte in
+    let args = c .before .before .before .before .before .before .before .before .before .args in
+    let value = now (args .value) in
+    let l = c .before .before .before .before .before .before .loop in (
+      search needs,
+      ahead-on (hexPair (getD value (l .k) 0)) (hexOf (drop (l .k + 1) value))
+          (rw (hex-more value (l .k) (search needs)) at (l .inv .1)) (hex-byte .ensures),
+    ))
     (λ c. c .before .loop .inv .1 .size)
-    (λ c. let l = c .before .loop in ahead-none (rw (hex-none (now (c .before .before .before .before .args .value)) (l .k) (search needs)) at (l .inv .1))))
+    (λ c.
+    let args = c .before .before .before .before .args in
+    let l = c .before .loop in ahead-none (rw (hex-none (now (args .value)) (l .k) (search needs)) at (l .inv .1))))

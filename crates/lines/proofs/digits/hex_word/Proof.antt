@@ -1,7 +1,7 @@
 use borrow.Author.Needs.{needs}
 use Rattle.lines.specs.Digits.{hexWord}
-use Rattle.lines.specs.Wrote.{wrote-none, wrote-then}
 use Rattle.lines.proofs.digits.hex_word.Statement.{statement}
+use Rattle.lines.specs.Laws.Wrote.{wrote-none, wrote-then}
 use Rattle.lines.proofs.digits.hex_word.Tie as tie
 
 pub hex-word-spec : {M : Type 1} → statement M
@@ -14,4 +14,7 @@ hex-word-spec =
     (λ c. search needs)
     (λ c κs. search needs)
     (λ c. search needs)
-    (λ c. wrote-then (c .before .before .before .before .before .before .hex-byte .ensures) (c .before .before .hex-byte2 .ensures)))
+    (λ c.
+    let hex-byte2 = c .before .before .hex-byte2 in
+    let hex-byte = c .before .before .before .before .before .before .hex-byte in
+    wrote-then (hex-byte .ensures) (hex-byte2 .ensures)))

@@ -13,7 +13,13 @@ end-words-spec =
     (λ c. search needs)
     (λ c κs. search needs)
     (λ c. search needs)
-    (λ c. rw (eq-eqb _ _ (c .before .before .before .before .before .if1 .taken)) (c .before .before .say .ensures))
+    (λ c.
+    let say = c .before .before .say in
+    let if1 = c .before .before .before .before .before .if1 in
+    rw (eq-eqb _ _ (if1 .taken)) (say .ensures))
     (λ c κs. search needs)
     (λ c. search needs)
-    (λ c. rw (ne-eqb _ _ (c .before .before .before .before .if1 .left)) (c .before .before .verdict .ensures)))
+    (λ c.
+    let verdict = c .before .before .verdict in
+    let if1 = c .before .before .before .before .if1 in
+    rw (ne-eqb _ _ (if1 .left)) (verdict .ensures)))

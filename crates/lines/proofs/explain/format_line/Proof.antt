@@ -1,8 +1,8 @@
 use Rattle.lines.specs.Explain.{formatLine}
 use borrow.Author.Needs.{needs}
 use Rattle.rom.specs.Words.{lettersOf}
-use Rattle.lines.specs.Wrote.{wrote-then}
 use Rattle.lines.proofs.explain.format_line.Statement.{statement}
+use Rattle.lines.specs.Laws.Wrote.{wrote-then}
 use Rattle.lines.proofs.explain.format_line.Tie as tie
 
 pub format-line-spec : {M : Type 1} → statement M
@@ -16,4 +16,9 @@ format-line-spec =
     (λ c κs. search needs)
     (λ c κs. search needs)
     (λ c. search needs)
-    (λ c. rw (← c .before .before .before .before .before .before .before .byte .ensures) (wrote-then (c .before .before .before .before .before .before .before .before .before .before .before .say .ensures) (wrote-then (c .before .before .before .before .before .before .hex-byte .ensures) (c .before .before .letter .ensures)))))
+    (λ c.
+    let letter = c .before .before .letter in
+    let hex-byte = c .before .before .before .before .before .before .hex-byte in
+    let byte = c .before .before .before .before .before .before .before .byte in
+    let say = c .before .before .before .before .before .before .before .before .before .before .before .say in
+    rw (← byte .ensures) (wrote-then (say .ensures) (wrote-then (hex-byte .ensures) (letter .ensures)))))

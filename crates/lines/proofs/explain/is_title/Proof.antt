@@ -10,4 +10,6 @@ is-title-spec =
     (λ c. rw (lt-leb _ _ (c .if1 .taken)))
     (λ c. rw (le-leb _ _ (c .before .if1 .left), lt-leb _ _ (c .if2 .taken)))
     (λ c κs. search needs)
-    (λ c. rw (le-leb _ _ (c .before .before .if1 .left), le-leb _ _ (c .before .if2 .left)) (c .is-text .ensures)))
+    (λ c.
+    let if1 = c .before .before .if1 in
+    rw (le-leb _ _ (if1 .left), le-leb _ _ (c .before .if2 .left)) (c .is-text .ensures)))

@@ -2,8 +2,8 @@ use borrow.Author.Tests.{eq-eqb, ne-eqb}
 use Rattle.lines.specs.Explain.{pathLine}
 use borrow.Author.Needs.{needs}
 use Rattle.rom.specs.Words.{lettersOf}
-use Rattle.lines.specs.Wrote.{wrote-then}
 use Rattle.lines.proofs.explain.path_line.Statement.{statement}
+use Rattle.lines.specs.Laws.Wrote.{wrote-then}
 use Rattle.lines.proofs.explain.path_line.Tie as tie
 
 pub path-line-spec : {M : Type 1} → statement M
@@ -14,9 +14,17 @@ path-line-spec =
     (λ c κs. search needs)
     (λ c κs. search needs)
     (λ c. search needs)
-    (λ c. rw (eq-eqb _ _ (c .before .before .before .before .before .before .before .before .if1 .taken)) (wrote-then (c .before .before .before .before .before .before .letter .ensures) (c .before .before .letter2 .ensures)))
+    (λ c.
+    let letter2 = c .before .before .letter2 in
+    let letter = c .before .before .before .before .before .before .letter in
+    let if1 = c .before .before .before .before .before .before .before .before .if1 in
+    rw (eq-eqb _ _ (if1 .taken)) (wrote-then (letter .ensures) (letter2 .ensures)))
     (λ c. search needs)
     (λ c κs. search needs)
     (λ c κs. search needs)
     (λ c. search needs)
-    (λ c. rw (ne-eqb _ _ (c .before .before .before .before .before .before .before .before .if1 .left)) (wrote-then (c .before .before .before .before .before .before .path-to .ensures) (c .before .before .letter3 .ensures))))
+    (λ c.
+    let letter3 = c .before .before .letter3 in
+    let path-to = c .before .before .before .before .before .before .path-to in
+    let if1 = c .before .before .before .before .before .before .before .before .if1 in
+    rw (ne-eqb _ _ (if1 .left)) (wrote-then (path-to .ensures) (letter3 .ensures))))

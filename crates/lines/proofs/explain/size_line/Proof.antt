@@ -1,8 +1,8 @@
 use Rattle.lines.specs.Explain.{sizeLine}
 use borrow.Author.Needs.{needs}
 use Rattle.rom.specs.Words.{lettersOf}
-use Rattle.lines.specs.Wrote.{wrote-then}
 use Rattle.lines.proofs.explain.size_line.Statement.{statement}
+use Rattle.lines.specs.Laws.Wrote.{wrote-then}
 use Rattle.lines.proofs.explain.size_line.Tie as tie
 
 pub size-line-spec : {M : Type 1} → statement M
@@ -17,4 +17,10 @@ size-line-spec =
     (λ c κs. search needs)
     (λ c κs. search needs)
     (λ c. search needs)
-    (λ c. wrote-then (c .before .before .before .before .before .before .before .before .before .before .before .before .before .before .before .say .ensures) (wrote-then (c .before .before .before .before .before .before .before .before .before .before .before .decimal .ensures) (wrote-then (c .before .before .before .before .before .before .say2 .ensures) (c .before .before .letter .ensures)))))
+    (λ c.
+    let letter = c .before .before .letter in
+    let say2 = c .before .before .before .before .before .before .say2 in
+    let decimal = c .before .before .before .before .before .before .before .before .before .before .before .decimal in
+    let c₁ = c .before .before .before .before .before .before .before .before .before .before .before .before in
+    let say = c₁ .before .before .before .say in
+    wrote-then (say .ensures) (wrote-then (decimal .ensures) (wrote-then (say2 .ensures) (letter .ensures)))))

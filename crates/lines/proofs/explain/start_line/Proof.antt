@@ -1,8 +1,8 @@
 use Rattle.lines.specs.Explain.{startLine}
 use borrow.Author.Needs.{needs}
 use Rattle.rom.specs.Words.{lettersOf}
-use Rattle.lines.specs.Wrote.{wrote-then}
 use Rattle.lines.proofs.explain.start_line.Statement.{statement}
+use Rattle.lines.specs.Laws.Wrote.{wrote-then}
 use Rattle.lines.proofs.explain.start_line.Tie as tie
 
 pub start-line-spec : {M : Type 1} → statement M
@@ -17,4 +17,12 @@ start-line-spec =
     (λ c κs. search needs)
     (λ c κs. search needs)
     (λ c. search needs)
-    (λ c. rw (← c .before .before .before .before .before .before .before .before .before .before .before .before .before .before .before .before .before .byte .ensures) (wrote-then (c .before .before .before .before .before .before .before .before .before .before .before .before .before .before .say .ensures) (wrote-then (c .before .before .before .before .before .before .before .before .before .before .hex-byte .ensures) (wrote-then (c .before .before .before .before .before .before .start-words .ensures) (c .before .before .letter .ensures))))))
+    (λ c.
+    let letter = c .before .before .letter in
+    let start-words = c .before .before .before .before .before .before .start-words in
+    let hex-byte = c .before .before .before .before .before .before .before .before .before .before .hex-byte in
+    let c₁ = c .before .before .before .before .before .before .before .before .before .before .before .before in
+    let say = c₁ .before .before .say in
+    let byte = c₁ .before .before .before .before .before .byte in
+    rw (← byte .ensures) (wrote-then (say .ensures)
+    (wrote-then (hex-byte .ensures) (wrote-then (start-words .ensures) (letter .ensures))))))

@@ -12,12 +12,23 @@ start-words-spec =
     (λ c. search needs)
     (λ c κs. search needs)
     (λ c. search needs)
-    (λ c. rw (eq-eqb _ _ (c .before .before .before .before .before .if1 .taken)) (c .before .before .say .ensures))
+    (λ c.
+    let say = c .before .before .say in
+    let if1 = c .before .before .before .before .before .if1 in
+    rw (eq-eqb _ _ (if1 .taken)) (say .ensures))
     (λ c. search needs)
     (λ c κs. search needs)
     (λ c. search needs)
-    (λ c. rw (ne-eqb _ _ (c .before .before .before .before .before .before .if1 .left), eq-eqb _ _ (c .before .before .before .before .before .if2 .taken)) (c .before .before .say2 .ensures))
+    (λ c.
+    let say2 = c .before .before .say2 in
+    let if2 = c .before .before .before .before .before .if2 in
+    let if1 = c .before .before .before .before .before .before .if1 in
+    rw (ne-eqb _ _ (if1 .left), eq-eqb _ _ (if2 .taken)) (say2 .ensures))
     (λ c. search needs)
     (λ c κs. search needs)
     (λ c. search needs)
-    (λ c. rw (ne-eqb _ _ (c .before .before .before .before .before .before .if1 .left), ne-eqb _ _ (c .before .before .before .before .before .if2 .left)) (c .before .before .say3 .ensures)))
+    (λ c.
+    let say3 = c .before .before .say3 in
+    let if2 = c .before .before .before .before .before .if2 in
+    let if1 = c .before .before .before .before .before .before .if1 in
+    rw (ne-eqb _ _ (if1 .left), ne-eqb _ _ (if2 .left)) (say3 .ensures)))

@@ -1,7 +1,7 @@
 use borrow.Author.Needs.{needs}
 use Rattle.rom.specs.Words.{lettersOf}
-use Rattle.lines.specs.Wrote.{wrote-then}
 use Rattle.lines.proofs.explain.tree_line.Statement.{statement}
+use Rattle.lines.specs.Laws.Wrote.{wrote-then}
 use Rattle.lines.proofs.explain.tree_line.Tie as tie
 
 pub tree-line-spec : {M : Type 1} → statement M
@@ -13,4 +13,7 @@ tree-line-spec =
     (λ c κs. search needs)
     (λ c κs. search needs)
     (λ c. search needs)
-    (λ c. wrote-then (c .before .before .before .before .before .before .say .ensures) (c .before .before .letter .ensures)))
+    (λ c.
+    let letter = c .before .before .letter in
+    let say = c .before .before .before .before .before .before .say in
+    wrote-then (say .ensures) (letter .ensures)))

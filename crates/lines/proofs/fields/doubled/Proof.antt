@@ -2,14 +2,15 @@ use Prim.Native.Nat.{_+_, _-_, _≤_}
 use lib.ListN.{length, getD, drop}
 use denote.Ref.{now}
 use borrow.Author.Needs.{needs}
-use Rattle.lines.specs.FieldLaws.{each-more, each-none}
-use Rattle.lines.specs.Fields.{doubled, doubledByte}
-use Rattle.lines.specs.Wrote.{Ahead, ahead-all, ahead-on, ahead-none}
+use Rattle.lines.specs.Laws.Fields.{each-more, each-none}
+use Rattle.lines.specs.Fields.{quotesDoubled, doubledByte}
 use Rattle.lines.proofs.fields.doubled.Statement.{statement}
+use Rattle.lines.specs.Laws.Wrote.{Ahead, ahead-all, ahead-on, ahead-none}
 use Rattle.lines.proofs.fields.doubled.Tie as tie
 
 abbrev Inv-loop : tie.InvT-loop
-Inv-loop text₀ at bytes end₀ k₀ text end k = (k ≤ length bytes) × Ahead text₀ at (doubled bytes) text end (doubled (drop k bytes))
+Inv-loop text₀ at bytes end₀ k₀ text end k =
+    (k ≤ length bytes) × Ahead text₀ at (quotesDoubled bytes) text end (quotesDoubled (drop k bytes))
 
 abbrev μ-loop : tie.MeasureT-loop
 μ-loop text₀ at bytes end₀ k₀ text end k = length bytes - k
@@ -26,13 +27,16 @@ doubled-spec =
     (λ c. search needs)
     (λ c. search needs)
     (λ c.
-    let bytes = now (c .before .before .before .before .before .before .before .before .before .args .bytes) in
+    let doubled-byte = c .before .before .doubled-byte in
+    let args = c .before .before .before .before .before .before .before .before .before .args in
+    let bytes = now (args .bytes) in
     let l = c .before .before .before .before .before .before .loop in
     let more = rw (each-more doubledByte bytes (l .k) (search needs)) at (l .inv .1) in
-    let here = c .before .before .doubled-byte .ensures in
-    (search needs, ahead-on (doubledByte (getD bytes (l .k) 0)) (doubled (drop (l .k + 1) bytes)) more here))
+    let here = doubled-byte .ensures in
+    (search needs, ahead-on (doubledByte (getD bytes (l .k) 0)) (quotesDoubled (drop (l .k + 1) bytes)) more here))
     (λ c. c .before .loop .inv .1 .size)
     (λ c.
+    let args = c .before .before .before .before .args in
     let l = c .before .loop in
-    let bytes = now (c .before .before .before .before .args .bytes) in
+    let bytes = now (args .bytes) in
     ahead-none (rw (each-none doubledByte bytes (l .k) (search needs)) at (l .inv .1))))

@@ -12,12 +12,14 @@ doubled-byte-spec =
     (λ c κs. tt)
     (λ c. search needs)
     (λ c.
+    let say = c .before .before .say in
     let t = c .before .before .before .before .before in
     rw (eq-eqb _ _ (t .if1 .taken))
-    (c .before .before .say .ensures))
+    (say .ensures))
     (λ c κs. tt)
     (λ c. search needs)
     (λ c.
+    let letter = c .before .before .letter in
     let t = c .before .before .before .before in
     rw (ne-eqb _ _ (t .if1 .left))
-    (c .before .before .letter .ensures)))
+    (letter .ensures)))

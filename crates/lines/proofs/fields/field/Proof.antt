@@ -1,8 +1,8 @@
 use borrow.Author.Needs.{needs}
 use Rattle.rom.specs.Words.{lettersOf}
 use Rattle.lines.specs.Fields.{field}
-use Rattle.lines.specs.Wrote.{wrote-then}
 use Rattle.lines.proofs.fields.field.Statement.{statement}
+use Rattle.lines.specs.Laws.Wrote.{wrote-then}
 use Rattle.lines.proofs.fields.field.Tie as tie
 
 pub field-spec : {M : Type 1} → statement M

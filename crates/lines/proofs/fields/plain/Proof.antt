@@ -3,14 +3,14 @@ use mathlib.Core.List.{[], _∷_}
 use lib.ListN.{length, getD, drop}
 use denote.Ref.{now}
 use borrow.Author.Needs.{needs}
-use Rattle.lines.specs.FieldLaws.{each-more, each-none}
-use Rattle.lines.specs.Fields.{plain, plainByte}
-use Rattle.lines.specs.Wrote.{Ahead, ahead-all, ahead-on, ahead-none}
+use Rattle.lines.specs.Laws.Fields.{each-more, each-none}
+use Rattle.lines.specs.Fields.{plainField, plainByte}
 use Rattle.lines.proofs.fields.plain.Statement.{statement}
+use Rattle.lines.specs.Laws.Wrote.{Ahead, ahead-all, ahead-on, ahead-none}
 use Rattle.lines.proofs.fields.plain.Tie as tie
 
 abbrev Inv-loop : tie.InvT-loop
-Inv-loop text₀ at bytes end₀ k₀ text end k = (k ≤ length bytes) × Ahead text₀ at (plain bytes) text end (plain (drop k bytes))
+Inv-loop text₀ at bytes end₀ k₀ text end k = (k ≤ length bytes) × Ahead text₀ at (plainField bytes) text end (plainField (drop k bytes))
 
 abbrev μ-loop : tie.MeasureT-loop
 μ-loop text₀ at bytes end₀ k₀ text end k = length bytes - k
@@ -28,13 +28,17 @@ plain-spec =
     (λ c. search needs)
     (λ c. search needs)
     (λ c.
-    let bytes = now (c .before .before .before .before .before .before .before .before .before .before .args .bytes) in
+    let letter = c .before .before .letter in
+    let plain-byte = c .before .before .before .plain-byte in
+    let args = c .before .before .before .before .before .before .before .before .before .before .args in
+    let bytes = now (args .bytes) in
     let l = c .before .before .before .before .before .before .before .loop in
     let more = rw (each-more (λ b. plainByte b ∷ []) bytes (l .k) (search needs)) at (l .inv .1) in
-    let here = rw (c .before .before .before .plain-byte .ensures) at (c .before .before .letter .ensures) in
-    (search needs, ahead-on (plainByte (getD bytes (l .k) 0) ∷ []) (plain (drop (l .k + 1) bytes)) more here))
+    let here = rw (plain-byte .ensures) at (letter .ensures) in
+    (search needs, ahead-on (plainByte (getD bytes (l .k) 0) ∷ []) (plainField (drop (l .k + 1) bytes)) more here))
     (λ c. c .before .loop .inv .1 .size)
     (λ c.
+    let args = c .before .before .before .before .args in
     let l = c .before .loop in
-    let bytes = now (c .before .before .before .before .args .bytes) in
+    let bytes = now (args .bytes) in
     ahead-none (rw (each-none (λ b. plainByte b ∷ []) bytes (l .k) (search needs)) at (l .inv .1))))

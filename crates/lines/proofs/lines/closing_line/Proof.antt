@@ -13,7 +13,13 @@ closing-line-spec =
     (λ c. search needs)
     (λ c κs. search needs)
     (λ c. search needs)
-    (λ c. rw (eq-eqb (c .before .before .before .before .before .before .before .args .number) 0 (omega arith)) (c .before .before .say .ensures))
+    (λ c.
+    let say = c .before .before .say in
+    let args = c .before .before .before .before .before .before .before .args in
+    rw (eq-eqb (args .number) 0 (omega arith)) (say .ensures))
     (λ c κs. search needs)
     (λ c. search needs)
-    (λ c. rw (ne-eqb (c .before .before .before .before .before .before .args .number) 0 (λ e. omega arith)) (c .before .before .refused-line .ensures)))
+    (λ c.
+    let refused-line = c .before .before .refused-line in
+    let args = c .before .before .before .before .before .before .args in
+    rw (ne-eqb (args .number) 0 (λ e. omega arith)) (refused-line .ensures)))

@@ -8,9 +8,9 @@ use borrow.Author.Needs.{needs}
 use Rattle.tree.specs.Held.{heldOf}
 use Rattle.tree.specs.Whole.{parentOf}
 use Rattle.lines.specs.Lines.{nodeLine, ownLines, nodeLines}
-use Rattle.lines.specs.Laws.{nodes-more, nodes-none}
-use Rattle.lines.specs.Wrote.{Ahead, ahead-all, ahead-on, ahead-none}
+use Rattle.lines.specs.Laws.Texts.{nodes-more, nodes-none}
 use Rattle.lines.proofs.lines.node_lines.Statement.{statement}
+use Rattle.lines.specs.Laws.Wrote.{Ahead, ahead-all, ahead-on, ahead-none}
 use Rattle.lines.proofs.lines.node_lines.Tie as tie
 
 abbrev Inv-loop : tie.InvT-loop
@@ -44,11 +44,14 @@ own-ahead : (c : tie.After-node-line Inv-loop μ-loop)
     Ahead (now (a .text)) (a .at) (nodeLines t ps (t .nodes) 0) (c .node-line .last .0) (c .node-line .result)
     (ownLines false ps (l .k) ++ nodeLines t ps (t .nodes - (l .k + 1)) (l .k + 1))
 own-ahead c =
-    let k = c .before .before .before .before .loop .k in
+    let before-here = c .before .before .before in
+    let loop = c .before .before .before .before .loop in
+    let k = loop .k in
     let a = c .before .before .before .before .before .before .before .args in
     let t = a .t4 in
     let ps = heldOf t (now (a .store)) in
-    ahead-on (nodeLine k (parentOf t k)) (ownLines false ps k ++ nodeLines t ps (t .nodes - (k + 1)) (k + 1)) (ahead (c .before .before .before)) (c .node-line .ensures)
+    ahead-on (nodeLine k (parentOf t k)) (ownLines false ps k ++ nodeLines t ps (t .nodes - (k + 1)) (k + 1)) (ahead (before-here))
+    (c .node-line .ensures)
 
 pub node-lines-spec : {M : Type 1} → statement M
 node-lines-spec =
@@ -57,7 +60,8 @@ node-lines-spec =
     Inv-loop
     μ-loop
     (λ c.
-    let t = c .before .before .args .t4 in
+    let args = c .before .before .args in
+    let t = args .t4 in
     let e : t .nodes - 0 ≡ t .nodes = omega arith in
     (search needs, rw e ahead-all))
     (λ c. search needs)
@@ -69,11 +73,18 @@ node-lines-spec =
     (λ c. search needs)
     (λ c. search needs)
     (λ c.
-    let k = c .before .before .before .before .before .before .before .before .before .before .loop .k in
-    let a = c .before .before .before .before .before .before .before .before .before .before .before .before .before .args in
+    let own-lines = c .before .before .own-lines in
+    let before-here = c .before .before .before .before .before .before in
+    let loop = c .before .before .before .before .before .before .before .before .before .before .loop in
+    let c₁ = c .before .before .before .before .before .before .before .before .before .before .before .before in
+    let k = loop .k in
+    let a = c₁ .before .args in
     let t = a .t4 in
-    let ps = heldOf t (now (a .store)) in
-    (search needs, ahead-on (ownLines false ps k) (nodeLines t ps (t .nodes - (k + 1)) (k + 1)) (own-ahead (c .before .before .before .before .before .before)) (c .before .before .own-lines .ensures)))
+    let ps = heldOf t (now (a .store)) in (
+      search needs,
+      ahead-on (ownLines false ps k) (nodeLines t ps (t .nodes - (k + 1)) (k + 1)) (own-ahead (before-here))
+          (own-lines .ensures),
+    ))
     (λ c. c .before .loop .inv .1 .size)
     (λ c.
     let l = c .before .loop in

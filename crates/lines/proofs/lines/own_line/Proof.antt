@@ -1,8 +1,8 @@
 use native.Mathlib.Omega.{arith}
 use borrow.Author.Needs.{needs}
 use borrow.Author.Tests.{eq-eqb, ne-eqb}
-use Rattle.lines.specs.Wrote.{wrote-none}
 use Rattle.lines.proofs.lines.own_line.Statement.{statement}
+use Rattle.lines.specs.Laws.Wrote.{wrote-none}
 use Rattle.lines.proofs.lines.own_line.Tie as tie
 
 pub own-line-spec : {M : Type 1} → statement M
@@ -13,10 +13,14 @@ own-line-spec =
     (λ c κs. search needs)
     (λ c. search needs)
     (λ c.
+    let read-line = c .before .before .read-line in
+    let if2 = c .before .before .before .before .if2 in
     let a = c .before .before .before .before .before .before .before .before .before .args in
-    rw (eq-eqb (a .owner) (a .node) (omega arith), c .before .before .before .before .if2 .taken) (c .before .before .read-line .ensures))
+    rw (eq-eqb (a .owner) (a .node) (omega arith), if2 .taken) (read-line .ensures))
     (λ c κs. search needs)
     (λ c. search needs)
     (λ c.
+    let property-line = c .before .before .property-line in
+    let if2 = c .before .before .before .before .if2 in
     let a = c .before .before .before .before .before .before .before .before .before .args in
-    rw (eq-eqb (a .owner) (a .node) (omega arith), c .before .before .before .before .if2 .left) (c .before .before .property-line .ensures)))
+    rw (eq-eqb (a .owner) (a .node) (omega arith), if2 .left) (property-line .ensures)))

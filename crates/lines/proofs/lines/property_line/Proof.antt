@@ -2,9 +2,9 @@ use native.Mathlib.Omega.{arith}
 use denote.Ref.{now}
 use borrow.Author.Needs.{needs}
 use Rattle.lines.specs.Lines.{propertyLine}
-use Rattle.lines.specs.Fits.{length-property-line}
-use Rattle.lines.specs.Wrote.{wrote-then}
+use Rattle.lines.specs.Laws.Fits.{length-property-line}
 use Rattle.lines.proofs.lines.property_line.Statement.{statement}
+use Rattle.lines.specs.Laws.Wrote.{wrote-then}
 use Rattle.lines.proofs.lines.property_line.Tie as tie
 
 pub property-line-spec : {M : Type 1} → statement M
@@ -16,4 +16,8 @@ property-line-spec =
     (λ c κs. search needs)
     (λ c κs. search needs)
     (λ c. search needs)
-    (λ c. wrote-then (c .before .before .before .before .before .before .before .before .before .before .say .ensures) (wrote-then (c .before .before .before .before .before .before .shown .ensures) (c .before .before .letter .ensures))))
+    (λ c.
+    let letter = c .before .before .letter in
+    let shown = c .before .before .before .before .before .before .shown in
+    let say = c .before .before .before .before .before .before .before .before .before .before .say in
+    wrote-then (say .ensures) (wrote-then (shown .ensures) (letter .ensures))))

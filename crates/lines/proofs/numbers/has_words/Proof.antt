@@ -1,4 +1,4 @@
-use Rattle.lines.specs.NumberLaws.{has-words}
+use Rattle.lines.specs.Laws.Numbers.{has-words}
 use Rattle.lines.proofs.numbers.has_words.Statement.{statement}
 use Rattle.lines.proofs.numbers.has_words.Tie as tie
 

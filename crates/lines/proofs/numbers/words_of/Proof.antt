@@ -1,6 +1,6 @@
-use Rattle.lines.specs.NumberLaws.{words-opening, words-naming, words-moving, words-running, words-other}
-use Rattle.lines.specs.Wrote.{length-wrote}
+use Rattle.lines.specs.Laws.Numbers.{words-opening, words-naming, words-moving, words-running, words-other}
 use Rattle.lines.proofs.numbers.words_of.Statement.{statement}
+use Rattle.lines.specs.Laws.Wrote.{length-wrote}
 use Rattle.lines.proofs.numbers.words_of.Tie as tie
 
 pub words-of-spec : {M : Type 1} → statement M
@@ -8,32 +8,47 @@ words-of-spec =
     tie.close
     (tie.spec
     (λ c κs. tt)
-    (λ c. length-wrote (c .before .before .opening-words .ensures))
     (λ c.
+    let opening-words = c .before .before .opening-words in
+    length-wrote (opening-words .ensures))
+    (λ c.
+    let opening-words = c .before .before .opening-words in
     let t = c .before .before .before .before in
     rw (words-opening (t .before .before .args .number) (t .if1 .taken))
-    (c .before .before .opening-words .ensures))
+    (opening-words .ensures))
     (λ c κs. tt)
-    (λ c. length-wrote (c .before .before .naming-words .ensures))
     (λ c.
+    let naming-words = c .before .before .naming-words in
+    length-wrote (naming-words .ensures))
+    (λ c.
+    let naming-words = c .before .before .naming-words in
     let t = c .before .before .before .before in
     rw (words-naming (t .before .before .before .args .number) (t .before .if1 .left) (t .if2 .taken))
-    (c .before .before .naming-words .ensures))
+    (naming-words .ensures))
     (λ c κs. tt)
-    (λ c. length-wrote (c .before .before .moving-words .ensures))
     (λ c.
+    let moving-words = c .before .before .moving-words in
+    length-wrote (moving-words .ensures))
+    (λ c.
+    let moving-words = c .before .before .moving-words in
     let t = c .before .before .before .before in
     rw (words-moving (t .before .before .before .before .args .number) (t .before .if2 .left) (t .if3 .taken))
-    (c .before .before .moving-words .ensures))
+    (moving-words .ensures))
     (λ c κs. tt)
-    (λ c. length-wrote (c .before .before .running-words .ensures))
     (λ c.
+    let running-words = c .before .before .running-words in
+    length-wrote (running-words .ensures))
+    (λ c.
+    let running-words = c .before .before .running-words in
     let t = c .before .before .before .before in
     rw (words-running (t .before .before .before .before .before .args .number) (t .before .if3 .left) (t .if4 .taken))
-    (c .before .before .running-words .ensures))
+    (running-words .ensures))
     (λ c κs. tt)
-    (λ c. length-wrote (c .before .before .other-words .ensures))
     (λ c.
+    let other-words = c .before .before .other-words in
+    length-wrote (other-words .ensures))
+    (λ c.
+    let other-words = c .before .before .other-words in
     let t = c .before .before .before .before in
     rw (words-other (t .before .before .before .before .before .args .number) (t .if4 .left))
-    (c .before .before .other-words .ensures)))
+    (other-words .ensures)))

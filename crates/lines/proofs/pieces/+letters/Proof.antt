@@ -3,14 +3,14 @@ use mathlib.Core.Path.{_≡_}
 use borrow.Author.Needs.{needs}
 use borrow.Fn.Kinds.{In}
 use borrow.Fn.PlainCycle.{Measures, is, falls, and}
-use Rattle.tokens.specs.NameLaws.{unpacked-none, unpacked-more}
-use Rattle.lines.specs.Wrote.{wrote-none, wrote-then}
+use Rattle.tokens.specs.Laws.Name.{unpacked-none, unpacked-more}
 use Rattle.lines.proofs.pieces.letters.Reads as letters
 use Rattle.lines.proofs.pieces.letters.Kinds as letters-kinds
 use Rattle.lines.proofs.pieces.+letters.Lts-letters as letters-lts
 use Rattle.lines.proofs.words.letter.Reads as letter-reads
 use Rattle.lines.proofs.pieces.+letters.{statement}
 use Rattle.lines.proofs.pieces.+letters.Tie.{close}
+use Rattle.lines.specs.Laws.Wrote.{wrote-none, wrote-then}
 
 -- the number itself: without its last letter it is less
 abbrev μ-letters : Measures 1 letters-kinds.ps ℕ
@@ -30,11 +30,18 @@ pub +letters-spec : {M : Type 1} → statement M
     letters-lts.spec (letters-below t, letters.Post, letter-reads.Asked, letter-reads.Learnt)
     (letters-at t)
     letters.Post
-    (λ c. let e : c .before .before .args .packed ≡ 0 = search needs in rw (e, unpacked-none 8) wrote-none)
-    (λ c κs. search (needs, c .before .before .before .pre .0))
+    (λ c.
+    let args = c .before .before .args in
+    let e : args .packed ≡ 0 = search needs in rw (e, unpacked-none 8) wrote-none)
+    (λ c κs.
+    let pre = c .before .before .before .pre in
+    search (needs, pre .0))
     (λ c. search needs)
     (λ c κs. search needs)
     (λ c. search needs)
     (λ c.
-    rw (unpacked-more (c .before .before .before .before .before .before .before .before .before .before .args .packed) (search needs) (search needs))
-    (wrote-then (c .before .before .before .before .before .before .letters .ensures) (c .before .before .letter .ensures))))
+    let letter = c .before .before .letter in
+    let letters = c .before .before .before .before .before .before .letters in
+    let args = c .before .before .before .before .before .before .before .before .before .before .args in
+    rw (unpacked-more (args .packed) (search needs) (search needs))
+    (wrote-then (letters .ensures) (letter .ensures))))

@@ -19,5 +19,6 @@ cuts-of-spec =
     (λ c. rw (c .match .keys2))
     (λ c. rw (c .before .match .keys3, ← c .byte .ensures))
     (λ c.
-    let f = c .before .before .args .form in
+    let args = c .before .before .args in
+    let f = args .form in
     rw (ne-eqb f 2 (c .match .rest .0 .0 .1), ne-eqb f 5 (c .match .rest .0 .1), ne-eqb f 6 (c .match .rest .1))))

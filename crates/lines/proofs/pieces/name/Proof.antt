@@ -1,7 +1,7 @@
 use borrow.Author.Needs.{needs}
-use Rattle.tokens.specs.NameLaws.{name-unpacked}
-use Rattle.lines.specs.Wrote.{wrote-then}
+use Rattle.tokens.specs.Laws.Name.{name-unpacked}
 use Rattle.lines.proofs.pieces.name.Statement.{statement}
+use Rattle.lines.specs.Laws.Wrote.{wrote-then}
 use Rattle.lines.proofs.pieces.name.Tie as tie
 
 pub name-spec : {M : Type 1} → statement M
@@ -14,5 +14,10 @@ name-spec =
     (λ c κs. search needs)
     (λ c. search needs)
     (λ c.
-    rw (← name-unpacked (c .before .before .before .before .before .before .before .before .before .before .before .args .number), ← c .before .before .before .before .before .before .before .before .name-front .ensures, ← c .before .before .before .name-rest .ensures)
-    (wrote-then (c .before .before .before .before .before .before .before .letters .ensures) (c .before .before .letters2 .ensures))))
+    let letters2 = c .before .before .letters2 in
+    let name-rest = c .before .before .before .name-rest in
+    let letters = c .before .before .before .before .before .before .before .letters in
+    let name-front = c .before .before .before .before .before .before .before .before .name-front in
+    let args = c .before .before .before .before .before .before .before .before .before .before .before .args in
+    rw (← name-unpacked (args .number), ← name-front .ensures, ← name-rest .ensures)
+    (wrote-then (letters .ensures) (letters2 .ensures))))

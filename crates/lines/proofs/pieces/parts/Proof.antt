@@ -1,7 +1,7 @@
 use borrow.Author.Needs.{needs}
 use Rattle.lines.specs.TokenLines.{allShown}
-use Rattle.lines.specs.Wrote.{wrote-none, wrote-then}
 use Rattle.lines.proofs.pieces.parts.Statement.{statement}
+use Rattle.lines.specs.Laws.Wrote.{wrote-none, wrote-then}
 use Rattle.lines.proofs.pieces.parts.Tie as tie
 
 pub parts-spec : {M : Type 1} → statement M
@@ -27,5 +27,10 @@ parts-spec =
     (λ c κs. search needs)
     (λ c. search needs)
     (λ c.
-    wrote-then (c .before .before .before .before .before .before .before .before .before .before .before .before .before .before .before .before .before .shown .ensures)
-    (wrote-then (c .before .before .before .before .before .before .before .before .before .before .before .before .shown2 .ensures) (wrote-then (c .before .before .before .before .before .before .before .shown3 .ensures) (wrote-then (c .before .before .shown4 .ensures) wrote-none)))))
+    let shown4 = c .before .before .shown4 in
+    let shown3 = c .before .before .before .before .before .before .before .shown3 in
+    let shown2 = c .before .before .before .before .before .before .before .before .before .before .before .before .shown2 in
+    let c₁ = c .before .before .before .before .before .before .before .before .before .before .before .before in
+    let shown = c₁ .before .before .before .before .before .shown in
+    wrote-then (shown .ensures)
+    (wrote-then (shown2 .ensures) (wrote-then (shown3 .ensures) (wrote-then (shown4 .ensures) wrote-none)))))

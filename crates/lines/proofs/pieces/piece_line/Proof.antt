@@ -5,9 +5,10 @@ use denote.Ref.{now}
 use borrow.Author.Needs.{needs}
 use borrow.Author.Tests.{lt-ltb, le-ltb}
 use Rattle.lines.specs.TokenLines.{pieceText, nextOf, wideBehind}
-use Rattle.lines.specs.TokenLaws.{raw-lies, listed-lies}
-use Rattle.lines.specs.Wrote.{wrote-none}
+use Rattle.lines.specs.Laws.Tokens.{raw-lies, listed-lies}
 use Rattle.lines.proofs.pieces.piece_line.Statement.{statement}
+use Rattle.lines.specs.Laws.Wrote.{wrote-none}
+use Rattle.rom.specs.Sizes.{romMost}
 use Rattle.lines.proofs.pieces.piece_line.Tie as tie
 
 pub piece-line-spec : {M : Type 1} → statement M
@@ -15,19 +16,41 @@ unfolding pieceText nextOf wideBehind
 piece-line-spec =
     tie.close
     (tie.spec
-    (λ c. rw (lt-ltb 16384 (length (now (c .before .before .before .args .rom))) (omega arith)) (wrote-none, refl, refl))
+    (λ c.
+    let args = c .before .before .before .args in
+    rw (lt-ltb romMost (length (now (args .rom))) (omega arith)) (wrote-none, refl, refl))
     (λ c κs. search needs)
     (λ c. search needs)
     (λ c. search needs)
     (λ c κs.
+    let next = c .before .before .next in
+    let read-piece = c .before .before .before .before .read-piece in
     let a = c .before .before .before .before .before .before .before .before .args in
-    raw-lies (now (a .rom)) (a .wide) (a .place) _ (sym (c .before .before .before .before .read-piece .ensures) ∙ c .before .before .next .given .1))
+    raw-lies (now (a .rom)) (a .wide) (a .place) _ (sym (read-piece .ensures) ∙ next .given .1))
     (λ c. search needs)
     (λ c κs.
+    let token = c .before .before .token in
+    let read-piece = c .before .before .before .before .read-piece in
     let a = c .before .before .before .before .before .before .before .before .args in
-    listed-lies (now (a .rom)) (a .wide) (a .place) (omega arith) _ _ _ (sym (c .before .before .before .before .read-piece .ensures) ∙ c .before .before .token .given .1))
-    (λ c. rw (le-ltb 16384 (length (now (c .before .before .before .before .before .before .args .rom))) (omega arith), sym (c .before .before .read-piece .ensures) ∙ c .enum-told .given .1) (wrote-none, refl, refl))
+    listed-lies (now (a .rom)) (a .wide) (a .place) (omega arith) _ _ _ (sym (read-piece .ensures) ∙ token .given .1))
+    (λ c.
+    let read-piece = c .before .before .read-piece in
+    let args = c .before .before .before .before .before .before .args in
+    rw (le-ltb romMost (length (now (args .rom))) (omega arith), sym (read-piece .ensures) ∙ c .enum-told .given .1)
+    (wrote-none, refl, refl))
     (λ c. search needs)
-    (λ c. rw (le-ltb 16384 (length (now (c .before .before .before .before .before .before .before .before .before .before .before .args .rom))) (omega arith), sym (c .before .before .before .before .before .before .before .read-piece .ensures) ∙ c .before .before .before .before .before .next .given .1) (c .before .before .raw-line .ensures, refl, refl))
+    (λ c.
+    let raw-line = c .before .before .raw-line in
+    let next = c .before .before .before .before .before .next in
+    let read-piece = c .before .before .before .before .before .before .before .read-piece in
+    let args = c .before .before .before .before .before .before .before .before .before .before .before .args in
+    rw (le-ltb romMost (length (now (args .rom))) (omega arith), sym (read-piece .ensures) ∙ next .given .1)
+    (raw-line .ensures, refl, refl))
     (λ c. search needs)
-    (λ c. rw (le-ltb 16384 (length (now (c .before .before .before .before .before .before .before .before .before .before .before .args .rom))) (omega arith), sym (c .before .before .before .before .before .before .before .read-piece .ensures) ∙ c .before .before .before .before .before .token .given .1) (c .before .before .token-line .ensures, refl, refl)))
+    (λ c.
+    let token-line = c .before .before .token-line in
+    let token = c .before .before .before .before .before .token in
+    let read-piece = c .before .before .before .before .before .before .before .read-piece in
+    let args = c .before .before .before .before .before .before .before .before .before .before .before .args in
+    rw (le-ltb romMost (length (now (args .rom))) (omega arith), sym (read-piece .ensures) ∙ token .given .1)
+    (token-line .ensures, refl, refl)))

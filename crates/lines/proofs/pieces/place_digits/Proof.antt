@@ -1,12 +1,12 @@
 use borrow.Author.Needs.{needs}
 use Rattle.lines.specs.Digits.{hexOf}
-use Rattle.lines.specs.TokenLines.{placeOf}
-use Rattle.lines.specs.Wrote.{wrote-then}
+use Rattle.lines.specs.TokenLines.{placeText}
 use Rattle.lines.proofs.pieces.place_digits.Statement.{statement}
+use Rattle.lines.specs.Laws.Wrote.{wrote-then}
 use Rattle.lines.proofs.pieces.place_digits.Tie as tie
 
 pub place-digits-spec : {M : Type 1} → statement M
-unfolding placeOf hexOf
+unfolding placeText hexOf
 place-digits-spec =
     tie.close
     (tie.spec
@@ -15,4 +15,7 @@ place-digits-spec =
     (λ c. search needs)
     (λ c κs. search needs)
     (λ c. search needs)
-    (λ c. wrote-then (c .before .before .before .before .before .before .hex-byte .ensures) (c .before .before .hex-byte2 .ensures)))
+    (λ c.
+    let hex-byte2 = c .before .before .hex-byte2 in
+    let hex-byte = c .before .before .before .before .before .before .hex-byte in
+    wrote-then (hex-byte .ensures) (hex-byte2 .ensures)))

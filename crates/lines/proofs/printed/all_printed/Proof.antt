@@ -2,9 +2,9 @@ use Prim.Native.Nat.{_-_, _≤_}
 use mathlib.Core.Path.{_≡_, refl, sym, _∙_}
 use lib.ListN.{length, drop}
 use denote.Ref.{now}
-use Rattle.cells.specs.Facts.{not-off, not-on}
+use Rattle.cells.specs.Laws.Facts.{not-off, not-on}
 use Rattle.lines.specs.Printed.{allPrinted}
-use Rattle.lines.specs.Laws.{printed-more, printed-stops, printed-end}
+use Rattle.lines.specs.Laws.Texts.{printed-more, printed-stops, printed-end}
 use borrow.Author.Needs.{needs}
 use Rattle.lines.proofs.printed.all_printed.Statement.{statement}
 use Rattle.lines.proofs.printed.all_printed.Tie as tie
@@ -36,5 +36,6 @@ all-printed-spec =
     let b = c .before .is-printed in
     (search needs, printed-more _ (l .k) (search needs) (sym (b .ensures) ∙ not-on (b .result) (c .if1 .left)) ∙ l .inv .1))
     (λ c.
+    let args = c .before .before .before .args in
     let l = c .before .loop in
-    sym (printed-end (now (c .before .before .before .args .bytes)) (l .k) (search needs)) ∙ l .inv .1))
+    sym (printed-end (now (args .bytes)) (l .k) (search needs)) ∙ l .inv .1))

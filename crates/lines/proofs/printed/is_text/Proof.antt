@@ -12,7 +12,10 @@ is-text-spec =
     (λ c. rw (eq-eqb _ 0 (c .if1 .taken)))
     (λ c κs. search needs)
     (λ c. search needs)
-    (λ c. rw (ne-eqb _ 0 (c .before .before .before .if1 .left), ← c .before .before .last-of .ensures, ne-eqb _ 0 (c .if2 .taken)))
+    (λ c.
+    let last-of = c .before .before .last-of in
+    let if1 = c .before .before .before .if1 in
+    rw (ne-eqb _ 0 (if1 .left), ← last-of .ensures, ne-eqb _ 0 (c .if2 .taken)))
     (λ c κs. search needs)
     (λ c κs. search needs)
     (λ c.

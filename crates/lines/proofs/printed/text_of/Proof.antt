@@ -10,5 +10,7 @@ text-of-spec =
     tie.close
     (tie.spec
     (λ c κs. search needs)
-    (λ c. let l = length-take (c .before .last-of .result) (now (c .before .before .before .args .value)) in omega arith)
+    (λ c.
+    let args = c .before .before .before .args in
+    let l = length-take (c .before .last-of .result) (now (args .value)) in omega arith)
     (λ c. rw (c .before .last-of .ensures)))

@@ -9,7 +9,11 @@ raw-more-spec =
     (tie.spec
     (λ c. search needs)
     (λ c. search needs)
-    (λ c. rw (eq-eqb _ _ (c .before .before .if1 .taken)))
+    (λ c.
+    let if1 = c .before .before .if1 in
+    rw (eq-eqb _ _ (if1 .taken)))
     (λ c. search needs)
     (λ c. search needs)
-    (λ c. rw (ne-eqb _ _ (c .before .before .if1 .left))))
+    (λ c.
+    let if1 = c .before .before .if1 in
+    rw (ne-eqb _ _ (if1 .left))))

@@ -4,9 +4,9 @@ use native.Mathlib.Omega.{arith}
 use denote.Ref.{now}
 use borrow.Author.Needs.{needs}
 use Rattle.tokens.specs.Reader.{endOf}
-use Rattle.tokens.specs.ReaderLaws.{piece-end, walkAt}
+use Rattle.tokens.specs.Laws.Reader.{piece-end, walkAt}
 use Rattle.lines.specs.Tally.{tallyFrom, tallyOf}
-use Rattle.lines.specs.TallyLaws.{raw-ahead, token-ahead, tally-end, tally-raw, tally-token}
+use Rattle.lines.specs.Laws.Tally.{raw-ahead, token-ahead, tally-end, tally-raw, tally-token}
 use Rattle.lines.proofs.tally.tally_of.Statement.{statement}
 use Rattle.lines.proofs.tally.tally_of.Tie as tie
 
@@ -31,26 +31,36 @@ tally-of-spec =
     (λ c κs. search needs)
     (λ c. search needs)
     (λ c.
+    let read-piece = c .before .before .read-piece in
+    let args = c .before .before .before .before .before .before .before .before .args in
     let l = c .before .before .before .before .loop in
-    sym (tally-end (now (c .before .before .before .before .before .before .before .before .args .rom)) (l .wide) (l .place) (l .so) (sym (c .before .before .read-piece .ensures) ∙ c .enum-told .given .1)) ∙ l .inv .2)
+    sym (tally-end (now (args .rom)) (l .wide) (l .place) (l .so) (sym (read-piece .ensures) ∙ c .enum-told .given .1)) ∙ l .inv .2)
     (λ c. search needs)
     (λ c κs. (omega arith, omega arith))
     (λ c.
-    let r = now (c .before .before .before .before .before .before .before .before .before .before .args .rom) in
+    let next′ = c .before .before .next in
+    let read-piece = c .before .before .before .before .read-piece in
+    let program-end = c .before .before .before .before .before .before .before .before .program-end in
+    let args = c .before .before .before .before .before .before .before .before .before .before .args in
+    let r = now (args .rom) in
     let l = c .before .before .before .before .before .before .loop in
-    let e = c .before .before .before .before .before .before .before .before .program-end .ensures in
-    let x = sym (c .before .before .before .before .read-piece .ensures) ∙ c .before .before .next .given .1 in
-    let next = c .before .before .next .given .0 .0 in
+    let e = program-end .ensures in
+    let x = sym (read-piece .ensures) ∙ next′ .given .1 in
+    let next = next′ .given .0 .0 in
     let y = raw-ahead r (l .wide) (l .place) next x in
     let u = y .0 in
     let v = y .1 in
     omega arith)
     (λ c.
-    let r = now (c .before .before .before .before .before .before .before .before .before .before .args .rom) in
+    let next′ = c .before .before .next in
+    let read-piece = c .before .before .before .before .read-piece in
+    let program-end = c .before .before .before .before .before .before .before .before .program-end in
+    let args = c .before .before .before .before .before .before .before .before .before .before .args in
+    let r = now (args .rom) in
     let l = c .before .before .before .before .before .before .loop in
-    let e = c .before .before .before .before .before .before .before .before .program-end .ensures in
-    let x = sym (c .before .before .before .before .read-piece .ensures) ∙ c .before .before .next .given .1 in
-    let next = c .before .before .next .given .0 .0 in
+    let e = program-end .ensures in
+    let x = sym (read-piece .ensures) ∙ next′ .given .1 in
+    let next = next′ .given .0 .0 in
     let y = raw-ahead r (l .wide) (l .place) next x in
     let u = y .0 in
     let v = y .1 in
@@ -59,29 +69,39 @@ tally-of-spec =
     (λ c. search needs)
     (λ c κs. omega arith)
     (λ c.
-    let r = now (c .before .before .before .before .before .before .before .before .before .before .args .rom) in
+    let token = c .before .before .token in
+    let read-piece = c .before .before .before .before .read-piece in
+    let program-end = c .before .before .before .before .before .before .before .before .program-end in
+    let args = c .before .before .before .before .before .before .before .before .before .before .args in
+    let r = now (args .rom) in
     let l = c .before .before .before .before .before .before .loop in
-    let e = c .before .before .before .before .before .before .before .before .program-end .ensures in
-    let g = c .before .before .token .given .0 in
-    let x = sym (c .before .before .before .before .read-piece .ensures) ∙ c .before .before .token .given .1 in
+    let e = program-end .ensures in
+    let g = token .given .0 in
+    let x = sym (read-piece .ensures) ∙ token .given .1 in
     let y = token-ahead r (l .wide) (l .place) (g .0) (g .1 .0) (g .1 .1 .0) x in
     let u = y .0 in
     let v = y .1 in
     omega arith)
     (λ c.
-    let r = now (c .before .before .before .before .before .before .before .before .before .before .args .rom) in
+    let token = c .before .before .token in
+    let read-piece = c .before .before .before .before .read-piece in
+    let program-end = c .before .before .before .before .before .before .before .before .program-end in
+    let args = c .before .before .before .before .before .before .before .before .before .before .args in
+    let r = now (args .rom) in
     let l = c .before .before .before .before .before .before .loop in
-    let e = c .before .before .before .before .before .before .before .before .program-end .ensures in
-    let g = c .before .before .token .given .0 in
-    let x = sym (c .before .before .before .before .read-piece .ensures) ∙ c .before .before .token .given .1 in
+    let e = program-end .ensures in
+    let g = token .given .0 in
+    let x = sym (read-piece .ensures) ∙ token .given .1 in
     let y = token-ahead r (l .wide) (l .place) (g .0) (g .1 .0) (g .1 .1 .0) x in
     let u = y .0 in
     let v = y .1 in
     let m = c .token-more .ensures in
     rw m (omega arith, omega arith, sym (tally-token r (l .wide) (l .place) (l .so) (g .0) (g .1 .0) (g .1 .1 .0) x) ∙ l .inv .2))
     (λ c.
-    let r = now (c .before .before .before .before .before .args .rom) in
+    let program-end = c .before .before .before .program-end in
+    let args = c .before .before .before .before .before .args in
+    let r = now (args .rom) in
     let l = c .before .loop in
-    let e = c .before .before .before .program-end .ensures in
+    let e = program-end .ensures in
     let h : endOf r ≤ l .place = omega arith in
     sym (tally-end r (l .wide) (l .place) (l .so) (piece-end r (l .wide) (l .place) h)) ∙ l .inv .2))

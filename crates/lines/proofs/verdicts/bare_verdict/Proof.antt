@@ -15,13 +15,15 @@ bare-verdict-spec =
     (λ c κs. tt)
     (λ c. search needs)
     (λ c.
+    let say = c .before .before .say in
     let t = c .before .before .before .before .before in
     rw (eq-eqb _ _ (t .if1 .taken))
-    (c .before .before .say .ensures))
+    (say .ensures))
     (λ c. refl)
     (λ c κs. tt)
     (λ c. search needs)
     (λ c.
+    let say2 = c .before .before .say2 in
     let t = c .before .before .before .before .before in
     rw (ne-eqb _ _ (t .if1 .left))
-    (c .before .before .say2 .ensures)))
+    (say2 .ensures)))

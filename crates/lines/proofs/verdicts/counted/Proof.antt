@@ -1,6 +1,6 @@
 use borrow.Author.Needs.{needs}
-use Rattle.lines.specs.Wrote.{wrote-then}
 use Rattle.lines.proofs.verdicts.counted.Statement.{statement}
+use Rattle.lines.specs.Laws.Wrote.{wrote-then}
 use Rattle.lines.proofs.verdicts.counted.Tie as tie
 
 pub counted-spec : {M : Type 1} → statement M

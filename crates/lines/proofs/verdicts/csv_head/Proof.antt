@@ -12,4 +12,6 @@ csv-head-spec =
     (λ c. refl)
     (λ c κs. tt)
     (λ c. search needs)
-    (λ c. c .before .before .say .ensures))
+    (λ c.
+    let say = c .before .before .say in
+    say .ensures))

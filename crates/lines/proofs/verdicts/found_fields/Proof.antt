@@ -1,8 +1,8 @@
 use borrow.Author.Needs.{needs}
 use Rattle.rom.specs.Words.{lettersOf}
 use Rattle.lines.specs.Verdicts.{foundFields}
-use Rattle.lines.specs.Wrote.{wrote-then}
 use Rattle.lines.proofs.verdicts.found_fields.Statement.{statement}
+use Rattle.lines.specs.Laws.Wrote.{wrote-then}
 use Rattle.lines.proofs.verdicts.found_fields.Tie as tie
 
 pub found-fields-spec : {M : Type 1} → statement M

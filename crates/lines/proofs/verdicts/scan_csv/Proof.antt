@@ -1,8 +1,8 @@
 use borrow.Author.Needs.{needs}
 use Rattle.rom.specs.Words.{lettersOf}
 use Rattle.lines.specs.Verdicts.{scanCsv}
-use Rattle.lines.specs.Wrote.{wrote-then}
 use Rattle.lines.proofs.verdicts.scan_csv.Statement.{statement}
+use Rattle.lines.specs.Laws.Wrote.{wrote-then}
 use Rattle.lines.proofs.verdicts.scan_csv.Tie as tie
 
 pub scan-csv-spec : {M : Type 1} → statement M

@@ -1,10 +1,10 @@
 use mathlib.Core.Path.{refl}
 use borrow.Author.Needs.{needs}
-use Rattle.cells.specs.Facts.{not-off, not-on}
+use Rattle.cells.specs.Laws.Facts.{not-off, not-on}
 use Rattle.rom.specs.Words.{lettersOf}
 use Rattle.lines.specs.Verdicts.{stepsPart}
-use Rattle.lines.specs.Wrote.{wrote-none, wrote-then}
 use Rattle.lines.proofs.verdicts.steps_part.Statement.{statement}
+use Rattle.lines.specs.Laws.Wrote.{wrote-none, wrote-then}
 use Rattle.lines.proofs.verdicts.steps_part.Tie as tie
 
 pub steps-part-spec : {M : Type 1} → statement M
@@ -12,7 +12,9 @@ unfolding stepsPart lettersOf
 steps-part-spec =
     tie.close
     (tie.spec
-    (λ c. rw (not-off (c .before .before .args .ran) (c .if1 .taken)) wrote-none)
+    (λ c.
+    let args = c .before .before .args in
+    rw (not-off (args .ran) (c .if1 .taken)) wrote-none)
     (λ c. refl)
     (λ c κs. tt)
     (λ c κs. tt)

@@ -3,8 +3,8 @@ use borrow.Author.Needs.{needs}
 use borrow.Author.Tests.{eq-eqb, ne-eqb}
 use Rattle.rom.specs.Words.{lettersOf}
 use Rattle.lines.specs.Verdicts.{verdictOf}
-use Rattle.lines.specs.Wrote.{wrote-then}
 use Rattle.lines.proofs.verdicts.verdict.Statement.{statement}
+use Rattle.lines.specs.Laws.Wrote.{wrote-then}
 use Rattle.lines.proofs.verdicts.verdict.Tie as tie
 
 pub verdict-spec : {M : Type 1} → statement M
@@ -16,9 +16,10 @@ verdict-spec =
     (λ c κs. tt)
     (λ c. search needs)
     (λ c.
+    let say = c .before .before .say in
     let t = c .before .before .before .before .before in
     rw (eq-eqb _ _ (t .if1 .taken))
-    (c .before .before .say .ensures))
+    (say .ensures))
     (λ c. refl)
     (λ c κs. tt)
     (λ c κs. tt)

@@ -1,9 +1,9 @@
 use borrow.Author.Needs.{needs}
 use Rattle.rom.specs.Words.{lettersOf}
-use Rattle.lines.specs.FieldLaws.{words-doubled}
+use Rattle.lines.specs.Laws.Fields.{words-doubled}
 use Rattle.lines.specs.Fields.{field}
-use Rattle.lines.specs.Wrote.{wrote-then}
 use Rattle.lines.proofs.verdicts.words_field.Statement.{statement}
+use Rattle.lines.specs.Laws.Wrote.{wrote-then}
 use Rattle.lines.proofs.verdicts.words_field.Tie as tie
 
 pub words-field-spec : {M : Type 1} → statement M

@@ -1,7 +1,7 @@
 use mathlib.Core.Path.{refl}
 use borrow.Author.Needs.{needs}
-use Rattle.lines.specs.Wrote.{wrote-one, wrote-out}
 use Rattle.lines.proofs.words.letter.Statement.{statement}
+use Rattle.lines.specs.Laws.Wrote.{wrote-one, wrote-out}
 use Rattle.lines.proofs.words.letter.Tie as tie
 
 pub letter-spec : {M : Type 1} → statement M

@@ -3,9 +3,9 @@ use mathlib.Core.List.{[], _∷_}
 use lib.ListN.{length, getD, drop}
 use denote.Ref.{now}
 use borrow.Author.Needs.{needs}
-use Rattle.lines.specs.Laws.{drop-more, drop-none}
-use Rattle.lines.specs.Wrote.{Ahead, ahead-all, ahead-on, ahead-none}
+use Rattle.lines.specs.Laws.Texts.{drop-more, drop-none}
 use Rattle.lines.proofs.words.say.Statement.{statement}
+use Rattle.lines.specs.Laws.Wrote.{Ahead, ahead-all, ahead-on, ahead-none}
 use Rattle.lines.proofs.words.say.Tie as tie
 
 abbrev Inv-loop : tie.InvT-loop
@@ -26,8 +26,15 @@ say-spec =
     (λ c. search needs)
     (λ c. search needs)
     (λ c.
-    let words = now (c .before .before .before .before .before .before .before .before .before .args .words) in
-    let l = c .before .before .before .before .before .before .loop in
-    (search needs, ahead-on (getD words (l .k) 0 ∷ []) (drop (l .k + 1) words) (rw (drop-more words (l .k) (search needs)) at (l .inv .1)) (c .before .before .letter .ensures)))
+    let letter = c .before .before .letter in
+    let args = c .before .before .before .before .before .before .before .before .before .args in
+    let words = now (args .words) in
+    let l = c .before .before .before .before .before .before .loop in (
+      search needs,
+      ahead-on (getD words (l .k) 0 ∷ []) (drop (l .k + 1) words) (rw (drop-more words (l .k) (search needs)) at (l .inv .1))
+          (letter .ensures),
+    ))
     (λ c. c .before .loop .inv .1 .size)
-    (λ c. let l = c .before .loop in ahead-none (rw (drop-none (now (c .before .before .before .before .args .words)) (l .k) (search needs)) at (l .inv .1))))
+    (λ c.
+    let args = c .before .before .before .before .args in
+    let l = c .before .loop in ahead-none (rw (drop-none (now (args .words)) (l .k) (search needs)) at (l .inv .1))))

@@ -1,5 +1,6 @@
 use denote.Ref.{now}
-use Rattle.listing.specs.Laws.{wrong-text, wrong-buffer, wrong-marks, wrong-work, wrong-store, refused, passed, judged-as, passed-header, and-inside}
+use Rattle.listing.specs.Laws.Listing.{wrong-text, wrong-buffer, wrong-marks, wrong-work, wrong-store, refused, passed, judged-as}
+use Rattle.listing.specs.Laws.Listing.{passed-header, and-inside}
 use borrow.Author.Needs.{needs}
 use Rattle.listing.proofs.listing.list.Statement.{statement}
 use Rattle.listing.proofs.listing.list.Tie as tie
@@ -13,7 +14,8 @@ use Rattle.screen.proofs.screen.Reads as screen-reads
 returns : tie.Need-returns
 returns c =
     let a = c .before .before .before .before .before .before .args in
-    and-inside (now (a .rom)) (now (a .marks)) (now (a .work)) (now (a .store)) (a .budget) (now (a .text)) (wrong-text (now (a .rom)) (now (a .marks)) (now (a .work)) (now (a .store)) (a .budget) (now (a .text)) (c .if1 .taken))
+    and-inside (now (a .rom)) (now (a .marks)) (now (a .work)) (now (a .store)) (a .budget) (now (a .text))
+    (wrong-text (now (a .rom)) (now (a .marks)) (now (a .work)) (now (a .store)) (a .budget) (now (a .text)) (c .if1 .taken))
 
 -- src/listing.rt:54:9
 refused-text-requires : tie.Need-refused-text-requires
@@ -26,8 +28,13 @@ same-length c = search needs
 -- src/listing.rt:54:9
 returns-2 : tie.Need-returns-2
 returns-2 c =
+    let refused-text = c .before .before .refused-text in
+    let if2 = c .before .before .before .before .if2 in
+    let if1 = c .before .before .before .before .before .if1 in
     let a = c .before .before .before .before .before .before .before .before .before .before .before .args in
-    and-inside (now (a .rom)) (now (a .marks)) (now (a .work)) (now (a .store)) (a .budget) (now (a .text)) (wrong-buffer (now (a .rom)) (now (a .marks)) (now (a .work)) (now (a .store)) (a .budget) (now (a .text)) (c .before .before .before .before .before .if1 .left) (wrong-marks (now (a .marks)) (now (a .work)) (now (a .store)) (c .before .before .before .before .if2 .taken)) _ _ (c .before .before .refused-text .ensures))
+    and-inside (now (a .rom)) (now (a .marks)) (now (a .work)) (now (a .store)) (a .budget) (now (a .text))
+    (wrong-buffer (now (a .rom)) (now (a .marks)) (now (a .work)) (now (a .store)) (a .budget) (now (a .text)) (if1 .left)
+    (wrong-marks (now (a .marks)) (now (a .work)) (now (a .store)) (if2 .taken)) _ _ (refused-text .ensures))
 
 -- src/listing.rt:57:9
 refused-text-requires-2 : tie.Need-refused-text-requires-2
@@ -40,8 +47,14 @@ same-length-2 c = search needs
 -- src/listing.rt:57:9
 returns-3 : tie.Need-returns-3
 returns-3 c =
+    let refused-text2 = c .before .before .refused-text2 in
+    let if3 = c .before .before .before .before .if3 in
+    let if2 = c .before .before .before .before .before .if2 in
+    let if1 = c .before .before .before .before .before .before .if1 in
     let a = c .before .before .before .before .before .before .before .before .before .before .before .before .args in
-    and-inside (now (a .rom)) (now (a .marks)) (now (a .work)) (now (a .store)) (a .budget) (now (a .text)) (wrong-buffer (now (a .rom)) (now (a .marks)) (now (a .work)) (now (a .store)) (a .budget) (now (a .text)) (c .before .before .before .before .before .before .if1 .left) (wrong-work (now (a .marks)) (now (a .work)) (now (a .store)) (c .before .before .before .before .before .if2 .left) (c .before .before .before .before .if3 .taken)) _ _ (c .before .before .refused-text2 .ensures))
+    and-inside (now (a .rom)) (now (a .marks)) (now (a .work)) (now (a .store)) (a .budget) (now (a .text))
+    (wrong-buffer (now (a .rom)) (now (a .marks)) (now (a .work)) (now (a .store)) (a .budget) (now (a .text)) (if1 .left)
+    (wrong-work (now (a .marks)) (now (a .work)) (now (a .store)) (if2 .left) (if3 .taken)) _ _ (refused-text2 .ensures))
 
 -- src/listing.rt:60:9
 refused-text-requires-3 : tie.Need-refused-text-requires-3
@@ -54,8 +67,16 @@ same-length-3 c = search needs
 -- src/listing.rt:60:9
 returns-4 : tie.Need-returns-4
 returns-4 c =
-    let a = c .before .before .before .before .before .before .before .before .before .before .before .before .before .args in
-    and-inside (now (a .rom)) (now (a .marks)) (now (a .work)) (now (a .store)) (a .budget) (now (a .text)) (wrong-buffer (now (a .rom)) (now (a .marks)) (now (a .work)) (now (a .store)) (a .budget) (now (a .text)) (c .before .before .before .before .before .before .before .if1 .left) (wrong-store (now (a .marks)) (now (a .work)) (now (a .store)) (c .before .before .before .before .before .before .if2 .left) (c .before .before .before .before .before .if3 .left) (c .before .before .before .before .if4 .taken)) _ _ (c .before .before .refused-text3 .ensures))
+    let refused-text3 = c .before .before .refused-text3 in
+    let if4 = c .before .before .before .before .if4 in
+    let if3 = c .before .before .before .before .before .if3 in
+    let if2 = c .before .before .before .before .before .before .if2 in
+    let if1 = c .before .before .before .before .before .before .before .if1 in
+    let c₁ = c .before .before .before .before .before .before .before .before .before .before .before .before in
+    let a = c₁ .before .args in
+    and-inside (now (a .rom)) (now (a .marks)) (now (a .work)) (now (a .store)) (a .budget) (now (a .text))
+    (wrong-buffer (now (a .rom)) (now (a .marks)) (now (a .work)) (now (a .store)) (a .budget) (now (a .text)) (if1 .left)
+    (wrong-store (now (a .marks)) (now (a .work)) (now (a .store)) (if2 .left) (if3 .left) (if4 .taken)) _ _ (refused-text3 .ensures))
 
 -- src/listing.rt:62:11
 screen-requires : tie.Need-screen-requires
@@ -68,8 +89,14 @@ enum-told c = search needs
 -- src/listing.rt:63:28
 list-run-requires : tie.Need-list-run-requires
 list-run-requires c κs =
-    let a = c .before .before .before .before .before .before .before .before .before .before .before .before .before .before .before .before .before .before .args in
-    (passed-header (judged-as (now (a .rom)) (now (a .marks)) _ (c .before .before .before .before .before .before .before .screen .ensures) (c .before .before .before .enum-told .given .1)), c .before .before .before .before .before .before .before .before .before .before .if3 .left, c .before .before .before .before .before .before .before .before .before .if4 .left, c .before .before .before .before .before .before .before .before .before .before .before .before .if1 .left)
+    let enum-told = c .before .before .before .enum-told in
+    let screen = c .before .before .before .before .before .before .before .screen in
+    let if4 = c .before .before .before .before .before .before .before .before .before .if4 in
+    let if3 = c .before .before .before .before .before .before .before .before .before .before .if3 in
+    let if1 = c .before .before .before .before .before .before .before .before .before .before .before .before .if1 in
+    let c₁ = c .before .before .before .before .before .before .before .before .before .before .before .before in
+    let a = c₁ .before .before .before .before .before .before .args in
+    (passed-header (judged-as (now (a .rom)) (now (a .marks)) _ (screen .ensures) (enum-told .given .1)), if3 .left, if4 .left, if1 .left)
 
 -- src/listing.rt:64:26
 enum-known-why : tie.Need-enum-known-why
@@ -98,9 +125,20 @@ same-length-7 c = search needs
 -- src/listing.rt:38:1
 returns-5 : tie.Need-returns-5
 returns-5 c =
-    let a = c .before .before .before .before .before .before .before .before .before .before .before .before .before .before .before .before .before .before .before .before .before .before .before .before .before .args in
-    let p = judged-as (now (a .rom)) (now (a .marks)) _ (c .before .before .before .before .before .before .before .before .before .before .before .before .before .before .screen .ensures) (c .before .before .before .before .before .before .before .before .before .before .enum-told .given .1) in
-    and-inside (now (a .rom)) (now (a .marks)) (now (a .work)) (now (a .store)) (a .budget) (now (a .text)) (passed (now (a .rom)) (now (a .marks)) (now (a .work)) (now (a .store)) (a .budget) (now (a .text)) (c .before .before .before .before .before .before .before .before .before .before .before .before .before .before .before .before .before .before .before .if1 .left) (c .before .before .before .before .before .before .before .before .before .before .before .before .before .before .before .before .before .before .if2 .left) (c .before .before .before .before .before .before .before .before .before .before .before .before .before .before .before .before .before .if3 .left) (c .before .before .before .before .before .before .before .before .before .before .before .before .before .before .before .before .if4 .left) _ p _ _ _ _ (c .before .before .before .before .before .before .list-run .ensures))
+    let list-run = c .before .before .before .before .before .before .list-run in
+    let enum-told = c .before .before .before .before .before .before .before .before .before .before .enum-told in
+    let c₁ = c .before .before .before .before .before .before .before .before .before .before .before .before in
+    let screen = c₁ .before .before .screen in
+    let if4 = c₁ .before .before .before .before .if4 in
+    let if3 = c₁ .before .before .before .before .before .if3 in
+    let if2 = c₁ .before .before .before .before .before .before .if2 in
+    let if1 = c₁ .before .before .before .before .before .before .before .if1 in
+    let c₂ = c₁ .before .before .before .before .before .before .before .before .before .before .before .before in
+    let a = c₂ .before .args in
+    let p = judged-as (now (a .rom)) (now (a .marks)) _ (screen .ensures) (enum-told .given .1) in
+    and-inside (now (a .rom)) (now (a .marks)) (now (a .work)) (now (a .store)) (a .budget) (now (a .text))
+    (passed (now (a .rom)) (now (a .marks)) (now (a .work)) (now (a .store)) (a .budget) (now (a .text)) (if1 .left) (if2 .left)
+    (if3 .left) (if4 .left) _ p _ _ _ _ (list-run .ensures))
 
 -- src/listing.rt:38:1
 same-length-8 : tie.Need-same-length-8
@@ -113,9 +151,19 @@ same-length-9 c = search needs
 -- src/listing.rt:38:1
 returns-6 : tie.Need-returns-6
 returns-6 c =
-    let a = c .before .before .before .before .before .before .before .before .before .before .before .before .before .before .before .before .before .before .before .before .args in
-    let p = judged-as (now (a .rom)) (now (a .marks)) _ (c .before .before .before .before .before .before .before .before .before .screen .ensures) (c .before .before .before .before .before .why .given .1) in
-    and-inside (now (a .rom)) (now (a .marks)) (now (a .work)) (now (a .store)) (a .budget) (now (a .text)) (refused (now (a .rom)) (now (a .marks)) (now (a .work)) (now (a .store)) (a .budget) (now (a .text)) (c .before .before .before .before .before .before .before .before .before .before .before .before .before .before .if1 .left) (c .before .before .before .before .before .before .before .before .before .before .before .before .before .if2 .left) (c .before .before .before .before .before .before .before .before .before .before .before .before .if3 .left) (c .before .before .before .before .before .before .before .before .before .before .before .if4 .left) _ _ p _ _ (c .before .before .refused-text4 .ensures))
+    let refused-text4 = c .before .before .refused-text4 in
+    let why = c .before .before .before .before .before .why in
+    let screen = c .before .before .before .before .before .before .before .before .before .screen in
+    let if4 = c .before .before .before .before .before .before .before .before .before .before .before .if4 in
+    let if3 = c .before .before .before .before .before .before .before .before .before .before .before .before .if3 in
+    let c₁ = c .before .before .before .before .before .before .before .before .before .before .before .before in
+    let if2 = c₁ .before .if2 in
+    let if1 = c₁ .before .before .if1 in
+    let a = c₁ .before .before .before .before .before .before .before .before .args in
+    let p = judged-as (now (a .rom)) (now (a .marks)) _ (screen .ensures) (why .given .1) in
+    and-inside (now (a .rom)) (now (a .marks)) (now (a .work)) (now (a .store)) (a .budget) (now (a .text))
+    (refused (now (a .rom)) (now (a .marks)) (now (a .work)) (now (a .store)) (a .budget) (now (a .text)) (if1 .left) (if2 .left)
+    (if3 .left) (if4 .left) _ _ p _ _ (refused-text4 .ensures))
 
 pub list-spec : {M : Type 1} → statement M
 list-spec =

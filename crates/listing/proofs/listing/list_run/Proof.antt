@@ -1,5 +1,5 @@
 use denote.Ref.{now}
-use Rattle.listing.specs.Laws.{listed-run}
+use Rattle.listing.specs.Laws.Listing.{listed-run}
 use borrow.Author.Needs.{needs}
 use Rattle.listing.proofs.listing.list_run.Statement.{statement}
 use Rattle.listing.proofs.listing.list_run.Tie as tie
@@ -41,12 +41,17 @@ same-length-3 c = search needs
 -- src/listing.rt:21:1
 returns : tie.Need-returns
 returns c =
-    let p = c .before .before .before .before .before .before .before .before .before .before .before .before .before .before .before .before .before .before .before .before .before .before .before .before .before .before .before .pre in
-    let a = c .before .before .before .before .before .before .before .before .before .before .before .before .before .before .before .before .before .before .before .before .before .before .before .before .before .before .before .args in
-    let o = c .before .before .before .before .before .before .before .before .before .before .before .before .before .before .before .before .before .before .before .before .«open» in
+    let number-of = c .before .before .before .number-of in
+    let c₁ = c .before .before .before .before .before .before .before .before .before .before .before .before in
+    let c₂ = c₁ .before .before .before .before .before .before .before .before .before .before .before .before in
+    let c₃ = c₂ .before .before .before in
+    let p = c₃ .pre in
+    let a = c₃ .args in
+    let o = c₁ .before .before .before .before .before .before .before .before .«open» in
     let r = c .before .before .before .before .before .before .before .before .before .before .before .before .run in
     let t = c .before .before .run-text in
-    listed-run (now (a .rom)) (now (a .work)) (now (a .store)) (a .budget) (p .0) (p .1) (p .2) (o .result) _ _ (o .ensures) (r .result) _ _ (r .ensures) _ (c .before .before .before .number-of .ensures) (now (a .text)) _ _ (p .3) (t .ensures)
+    listed-run (now (a .rom)) (now (a .work)) (now (a .store)) (a .budget) (p .0) (p .1) (p .2) (o .result) _ _ (o .ensures) (r .result) _ _
+    (r .ensures) _ (number-of .ensures) (now (a .text)) _ _ (p .3) (t .ensures)
 
 pub list-run-spec : {M : Type 1} → statement M
 list-run-spec =

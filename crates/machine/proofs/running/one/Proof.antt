@@ -15,7 +15,15 @@ one-spec =
     (λ c κs. search needs)
     (λ c. search needs)
     (λ c κs. search needs)
-    (λ c. rw (ne-eqb _ _ (c .before .before .before .if1 .left), c .before .enum-told .given .1) (c .going .ensures))
-    (λ c. rw (ne-eqb _ _ (c .before .before .if1 .left), c .enum-told2 .given .1))
-    (λ c. rw (ne-eqb _ _ (c .before .before .before .if1 .left), c .before .enum-told3 .given .1) (c .going2 .ensures))
-    (λ c. rw (ne-eqb _ _ (c .before .before .before .if1 .left), c .before .enum-told4 .given .1) (c .going3 .ensures)))
+    (λ c.
+    let if1 = c .before .before .before .if1 in
+    rw (ne-eqb _ _ (if1 .left), c .before .enum-told .given .1) (c .going .ensures))
+    (λ c.
+    let if1 = c .before .before .if1 in
+    rw (ne-eqb _ _ (if1 .left), c .enum-told2 .given .1))
+    (λ c.
+    let if1 = c .before .before .before .if1 in
+    rw (ne-eqb _ _ (if1 .left), c .before .enum-told3 .given .1) (c .going2 .ensures))
+    (λ c.
+    let if1 = c .before .before .before .if1 in
+    rw (ne-eqb _ _ (if1 .left), c .before .enum-told4 .given .1) (c .going3 .ensures)))

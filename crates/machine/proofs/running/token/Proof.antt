@@ -13,4 +13,10 @@ token-spec =
     (λ c κs. search needs)
     (λ c. search needs)
     (λ c. search needs)
-    (λ c. rw (c .one .ensures) (one-told (scene (now (c .before .before .before .before .before .before .before .before .before .before .before .args .rom)) (now (c .before .before .before .before .before .before .before .before .before .before .before .args .work)) (now (c .before .before .before .before .before .before .before .before .before .before .before .args .store)) (c .before .before .before .before .before .before .before .before .before .before .before .args .st)) (c .before .before .before .before .before .before .before .before .before .before .before .pre .1) (c .before .before .before .before .before .before .before .before .before .before .before .pre .0) (c .before .before .before .before .before .tokens .result) _ _ (c .before .before .before .before .before .tokens .ensures))))
+    (λ c.
+    let tokens = c .before .before .before .before .before .tokens in
+    let c₁ = c .before .before .before .before .before .before .before .before .before .before .before in
+    let args = c₁ .args in
+    let pre = c₁ .pre in
+    rw (c .one .ensures) (one-told (scene (now (args .rom)) (now (args .work)) (now (args .store)) (args .st)) (pre .1) (pre .0)
+    (tokens .result) _ _ (tokens .ensures))))

@@ -7,8 +7,16 @@ tokens-spec =
     tie.close
     (tie.spec
     (λ c κs. search needs)
-    (λ c κs. rw (c .core-of .ensures) (c .before .before .before .before .before .before .before .before .before .before .before .before .before .before .before .before .before .before .before .before .before .before .before .before .before .before .before .before .before .before .before .before .before .before .before .before .before .pre))
+    (λ c κs.
+    let c₁ = c .before .before .before .before .before .before .before .before .before .before .before .before in
+    let c₂ = c₁ .before .before .before .before .before .before .before .before .before .before .before .before in
+    let c₃ = c₂ .before .before .before .before .before .before .before .before .before .before .before .before in
+    let pre = c₃ .before .pre in
+    rw (c .core-of .ensures) (pre))
     (λ c κs. search needs)
     (λ c. search needs)
     (λ c. search needs)
-    (λ c. rw (c .ended .ensures) (rw (c .before .before .before .before .before .before .before .core-of .ensures) at (c .before .before .before .before .before .before .cruise .ensures))))
+    (λ c.
+    let cruise = c .before .before .before .before .before .before .cruise in
+    let core-of = c .before .before .before .before .before .before .before .core-of in
+    rw (c .ended .ensures) (rw (core-of .ensures) at (cruise .ensures))))

@@ -6,7 +6,7 @@ use borrow.Author.Needs.{needs}
 use borrow.Author.Tests.{not-true, not-false}
 use Rattle.memory.specs.Window.{workBase}
 use Rattle.memory.specs.Writing.{writtenOf}
-use Rattle.memory.specs.Laws.{lies-within}
+use Rattle.memory.specs.Laws.Memory.{lies-within}
 use Rattle.memory.proofs.Accesses.{byte-outside, byte-inside}
 use Rattle.memory.proofs.cell.store_byte.Statement.{statement}
 use Rattle.memory.proofs.cell.store_byte.Tie as tie

@@ -5,7 +5,7 @@ use denote.Ref.{now}
 use borrow.Author.Needs.{needs}
 use borrow.Author.Tests.{not-true, not-false}
 use Rattle.memory.specs.Window.{workBase}
-use Rattle.memory.specs.Laws.{lies-within}
+use Rattle.memory.specs.Laws.Memory.{lies-within}
 use Rattle.memory.proofs.Accesses.{cell-outside, cell-uneven, cell-inside}
 use Rattle.memory.proofs.cell.store_cell.Statement.{statement}
 use Rattle.memory.proofs.cell.store_cell.Tie as tie
@@ -34,5 +34,6 @@ store-cell-spec =
     let f = p .before .before in
     let k = f .before in
     let a = k .before .before .before .args in
-    let i = cell-inside (now (a .work)) (a .address) (a .cell) (sym (k .before .lies .ensures) ∙ not-false _ (k .if1 .left)) (f .if2 .left) in
+    let i = cell-inside (now (a .work)) (a .address) (a .cell) (sym (k .before .lies .ensures) ∙ not-false _ (k .if1 .left))
+    (f .if2 .left) in
     (i .0, p .write-cell .ensures ∙ i .1)))

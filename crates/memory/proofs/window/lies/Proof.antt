@@ -1,6 +1,6 @@
 use mathlib.Core.Path.{sym}
 use borrow.Author.Needs.{needs}
-use Rattle.memory.specs.Laws.{lies-low, lies-from}
+use Rattle.memory.specs.Laws.Memory.{lies-low, lies-from}
 use Rattle.memory.proofs.window.lies.Statement.{statement}
 use Rattle.memory.proofs.window.lies.Tie as tie
 

@@ -5,7 +5,7 @@ use lib.ListN.{length}
 use denote.Ref.{now}
 use borrow.Author.Needs.{needs}
 use Rattle.memory.specs.Window.{rangeOf}
-use Rattle.memory.specs.Laws.{range-rom, range-work, resolved-rom, resolved-work, resolved-none}
+use Rattle.memory.specs.Laws.Memory.{range-rom, range-work, resolved-rom, resolved-work, resolved-none}
 use Rattle.memory.proofs.window.resolve.Statement.{statement}
 use Rattle.memory.proofs.window.resolve.Tie as tie
 
@@ -13,7 +13,8 @@ use Rattle.memory.proofs.window.resolve.Tie as tie
 found : (c : tie.After-window-of)
     → c .window-of .result
     ≡ rangeOf (now (c .before .before .before .before .args .rom)) (now (c .before .before .before .before .args .work))
-    (c .before .before .before .before .args .size) (c .before .before .before .before .args .address) (c .before .before .before .before .args .count)
+    (c .before .before .before .before .args .size) (c .before .before .before .before .args .address)
+    (c .before .before .before .before .args .count)
 found c = rw (← c .before .least .ensures) (c .window-of .ensures)
 
 -- its bytes, which the code counts from where they start
@@ -32,10 +33,11 @@ resolve-spec =
     (λ c. search needs)
     (λ c. search needs)
     (λ c.
+    let before-here = c .before .before .before in
     let s = c .before .start .given in
     let a = c .before .before .before .before .before .before .before .args in
     let h : s .0 .0 + a .count ≤ length (now (a .rom)) =
-    range-rom (now (a .rom)) (now (a .work)) (a .size) (a .address) (a .count) (s .0 .0) (sym (found (c .before .before .before)) ∙ s .1) in
+    range-rom (now (a .rom)) (now (a .work)) (a .size) (a .address) (a .count) (s .0 .0) (sym (found (before-here)) ∙ s .1) in
     search needs)
     (λ c. search needs)
     (λ c. search needs)
@@ -43,23 +45,30 @@ resolve-spec =
     (λ c. search needs)
     (λ c. search needs)
     (λ c.
+    let before-here = c .before .before .before in
     let s = c .before .start2 .given in
     let a = c .before .before .before .before .before .before .before .args in
     let h : s .0 .0 + a .count ≤ length (now (a .work)) =
-    range-work (now (a .rom)) (now (a .work)) (a .size) (a .address) (a .count) (s .0 .0) (sym (found (c .before .before .before)) ∙ s .1) in
+    range-work (now (a .rom)) (now (a .work)) (a .size) (a .address) (a .count) (s .0 .0) (sym (found (before-here)) ∙ s .1) in
     search needs)
     (λ c. search needs)
     (λ c. search needs)
     (λ c.
-    let s = c .before .before .start .given in
+    let start = c .before .before .start in
+    let before-here = c .before .before .before .before in
+    let s = start .given in
     let a = c .before .before .before .before .before .before .before .before .args in
     rw (taken (s .0 .0) (a .count))
-    (sym (resolved-rom (now (a .rom)) (now (a .work)) (a .size) (a .address) (a .count) (s .0 .0) (sym (found (c .before .before .before .before)) ∙ s .1))))
+    (sym (resolved-rom (now (a .rom)) (now (a .work)) (a .size) (a .address) (a .count) (s .0 .0) (sym (found (before-here)) ∙ s .1))))
     (λ c.
-    let s = c .before .before .start2 .given in
+    let start2 = c .before .before .start2 in
+    let before-here = c .before .before .before .before in
+    let s = start2 .given in
     let a = c .before .before .before .before .before .before .before .before .args in
     rw (taken (s .0 .0) (a .count))
-    (sym (resolved-work (now (a .rom)) (now (a .work)) (a .size) (a .address) (a .count) (s .0 .0) (sym (found (c .before .before .before .before)) ∙ s .1))))
+    (sym (resolved-work (now (a .rom)) (now (a .work)) (a .size) (a .address) (a .count) (s .0 .0) (sym (found (before-here)) ∙ s .1))))
     (λ c.
+    let before-here = c .before .before .before in
     let a = c .before .before .before .before .before .before .before .args in
-    sym (resolved-none (now (a .rom)) (now (a .work)) (a .size) (a .address) (a .count) (sym (found (c .before .before .before)) ∙ c .before .enum-told .given .1))))
+    sym (resolved-none (now (a .rom)) (now (a .work)) (a .size) (a .address) (a .count)
+    (sym (found (before-here)) ∙ c .before .enum-told .given .1))))

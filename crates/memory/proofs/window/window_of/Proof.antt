@@ -2,7 +2,7 @@ use mathlib.Core.Path.{sym, _∙_}
 use native.Mathlib.Omega.{arith}
 use borrow.Author.Needs.{needs}
 use Rattle.memory.specs.Window.{romBase, workBase}
-use Rattle.memory.specs.Laws.{lies-within, in-rom, in-work, in-none}
+use Rattle.memory.specs.Laws.Memory.{lies-within, in-rom, in-work, in-none}
 use Rattle.memory.proofs.window.window_of.Statement.{statement}
 use Rattle.memory.proofs.window.window_of.Tie as tie
 
@@ -27,8 +27,10 @@ window-of-spec =
     (λ c.
     let k = c .before .before in
     let a = k .before .before .args in
-    sym (in-work (a .rom) (a .work) (a .address) (a .count) (sym (k .before .lies .ensures) ∙ k .if1 .left) (sym (c .before .lies2 .ensures) ∙ c .if2 .taken)))
+    sym (in-work (a .rom) (a .work) (a .address) (a .count) (sym (k .before .lies .ensures) ∙ k .if1 .left)
+    (sym (c .before .lies2 .ensures) ∙ c .if2 .taken)))
     (λ c.
     let k = c .before .before in
     let a = k .before .before .args in
-    sym (in-none (a .rom) (a .work) (a .address) (a .count) (sym (k .before .lies .ensures) ∙ k .if1 .left) (sym (c .before .lies2 .ensures) ∙ c .if2 .left))))
+    sym (in-none (a .rom) (a .work) (a .address) (a .count) (sym (k .before .lies .ensures) ∙ k .if1 .left)
+    (sym (c .before .lies2 .ensures) ∙ c .if2 .left))))

@@ -2,7 +2,7 @@ use mathlib.Core.Path.{sym, _∙_}
 use lib.Seq.{length-take-le}
 use denote.Ref.{now}
 use borrow.Author.Needs.{needs}
-use Rattle.memory.specs.Laws.{written-out}
+use Rattle.memory.specs.Laws.Memory.{written-out}
 use Rattle.memory.proofs.Moves.{laid-cut}
 use Rattle.memory.proofs.writing.copy_in.Statement.{statement}
 use Rattle.memory.proofs.writing.copy_in.Tie as tie

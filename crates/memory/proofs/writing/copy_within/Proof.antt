@@ -11,7 +11,10 @@ use Rattle.memory.proofs.writing.copy_within.Tie as tie
 counted : (c : tie.After-least2)
     → let a = c .before .before .before .before .before .args in
     c .least2 .result ≡ min (a .count) (min (length (now (a .memory)) - a .start) (length (now (a .memory)) - a .to))
-counted c = rw (← c .before .before .before .room .ensures, ← c .before .before .room2 .ensures, ← c .before .least .ensures) (c .least2 .ensures)
+counted c =
+    let room2 = c .before .before .room2 in
+    let room = c .before .before .before .room in
+    rw (← room .ensures, ← room2 .ensures, ← c .before .least .ensures) (c .least2 .ensures)
 
 pub copy-within-spec : {M : Type 1} → statement M
 copy-within-spec =

@@ -31,8 +31,12 @@ move-down-spec =
     (λ c. search needs)
     (λ c.
     let l = c .before .before .loop in
-    let a = c .before .before .before .args in
-    (search needs, search needs, moved-next (l .memory) (a .start) (a .to) (a .count) (l .i) (search needs) (search needs) (search needs) ∙ l .inv .2))
+    let a = c .before .before .before .args in (
+      search needs,
+      search needs,
+      moved-next (l .memory) (a .start) (a .to) (a .count) (l .i) (search needs) (search needs) (search needs)
+          ∙ l .inv .2,
+    ))
     (λ c. search needs)
     (λ c.
     let l = c .before .loop in

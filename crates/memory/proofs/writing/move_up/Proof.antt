@@ -30,8 +30,12 @@ move-up-spec =
     (λ c. search needs)
     (λ c.
     let l = c .before .before .loop in
-    let a = c .before .before .before .args in
-    (search needs, search needs, moved-last (l .memory) (a .start) (a .to) (l .left) (search needs) (search needs) (search needs) ∙ l .inv .2))
+    let a = c .before .before .before .args in (
+      search needs,
+      search needs,
+      moved-last (l .memory) (a .start) (a .to) (l .left) (search needs) (search needs) (search needs)
+          ∙ l .inv .2,
+    ))
     (λ c. search needs)
     (λ c.
     let l = c .before .loop in

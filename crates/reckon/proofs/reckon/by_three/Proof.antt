@@ -12,7 +12,9 @@ by-three-spec =
     tie.close
     (tie.spec
     (λ c κs. search needs)
-    (λ c. let s = c .before .before in let a = s .args in rw (c .refuse .ensures) (data-low (a .number) (a .h) (a .b) (a .place) 0x0100_0031 (now (a .stack)) (three-code (a .number) (s .pre .0)) (refl, refl, refl, refl) (s .pre .1) (s .pre .2) (search needs)))
+    (λ c. let s = c .before .before in let a = s .args in
+    rw (c .refuse .ensures) (data-low (a .number) (a .h) (a .b) (a .place) 0x0100_0031 (now (a .stack))
+    (three-code (a .number) (s .pre .0)) (refl, refl, refl, refl) (s .pre .1) (s .pre .2) (search needs)))
     (λ c. search needs)
     (λ c. search needs)
     (λ c. search needs)
@@ -27,4 +29,6 @@ by-three-spec =
     (λ c. search needs)
     (λ c. search needs)
     (λ c κs. search needs)
-    (λ c. let s = c .before .before .before .before .before .before in let a = s .args in rw (c .on .ensures) (three-fine (a .h) (a .b) (a .place) (now (a .stack)) (s .pre .1) (s .pre .2) (a .number) (c .before .three .result) (s .pre .0) (search needs) (c .before .three .ensures))))
+    (λ c. let s = c .before .before .before .before .before .before in let a = s .args in
+    rw (c .on .ensures) (three-fine (a .h) (a .b) (a .place) (now (a .stack)) (s .pre .1) (s .pre .2) (a .number)
+    (c .before .three .result) (s .pre .0) (search needs) (c .before .three .ensures))))

@@ -12,7 +12,9 @@ by-two-spec =
     tie.close
     (tie.spec
     (λ c κs. search needs)
-    (λ c. let s = c .before .before in let a = s .args in rw (c .refuse .ensures) (data-low (a .number) (a .h) (a .b) (a .place) 0x0100_0021 (now (a .stack)) (two-code (a .number) (s .pre .0)) (refl, refl, refl, refl) (s .pre .1) (s .pre .2) (search needs)))
+    (λ c. let s = c .before .before in let a = s .args in
+    rw (c .refuse .ensures) (data-low (a .number) (a .h) (a .b) (a .place) 0x0100_0021 (now (a .stack))
+    (two-code (a .number) (s .pre .0)) (refl, refl, refl, refl) (s .pre .1) (s .pre .2) (search needs)))
     (λ c. search needs)
     (λ c. search needs)
     (λ c. search needs)
@@ -24,4 +26,6 @@ by-two-spec =
     (λ c. search needs)
     (λ c. search needs)
     (λ c κs. search needs)
-    (λ c. let s = c .before .before .before .before .before in let a = s .args in rw (c .on .ensures) (two-fine (a .h) (a .b) (a .place) (now (a .stack)) (s .pre .1) (s .pre .2) (a .number) (c .before .two .result) (s .pre .0) (search needs) (c .before .two .ensures))))
+    (λ c. let s = c .before .before .before .before .before in let a = s .args in
+    rw (c .on .ensures) (two-fine (a .h) (a .b) (a .place) (now (a .stack)) (s .pre .1) (s .pre .2) (a .number) (c .before .two .result)
+    (s .pre .0) (search needs) (c .before .two .ensures))))

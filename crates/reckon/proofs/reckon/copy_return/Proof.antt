@@ -9,9 +9,13 @@ copy-return-spec =
     tie.close
     (tie.spec
     (λ c κs. search needs)
-    (λ c. let s = c .before .before in let a = s .args in rw (c .refuse .ensures) (copy-low (a .base) (a .h) (a .b) (a .place) (now (a .stack)) (now (a .back)) (s .pre .0) (s .pre .1) (search needs)))
+    (λ c. let s = c .before .before in let a = s .args in
+    rw (c .refuse .ensures) (copy-low (a .base) (a .h) (a .b) (a .place) (now (a .stack)) (now (a .back)) (s .pre .0) (s .pre .1)
+    (search needs)))
     (λ c κs. search needs)
-    (λ c. let s = c .before .before .before in let a = s .args in rw (c .refuse2 .ensures) (copy-high (a .base) (a .h) (a .b) (a .place) (now (a .stack)) (now (a .back)) (s .pre .0) (s .pre .1) (search needs) (search needs)))
+    (λ c. let s = c .before .before .before in let a = s .args in
+    rw (c .refuse2 .ensures) (copy-high (a .base) (a .h) (a .b) (a .place) (now (a .stack)) (now (a .back)) (s .pre .0) (s .pre .1)
+    (search needs) (search needs)))
     (λ c. search needs)
     (λ c. search needs)
     (λ c. search needs)
@@ -20,4 +24,6 @@ copy-return-spec =
     (λ c. search needs)
     (λ c. search needs)
     (λ c κs. search needs)
-    (λ c. let s = c .before .before .before .before in let a = s .args in rw (c .on .ensures) (copy-fine (a .base) (a .h) (a .b) (a .place) (now (a .stack)) (now (a .back)) (s .pre .0) (s .pre .1) (search needs) (search needs))))
+    (λ c. let s = c .before .before .before .before in let a = s .args in
+    rw (c .on .ensures) (copy-fine (a .base) (a .h) (a .b) (a .place) (now (a .stack)) (now (a .back)) (s .pre .0) (s .pre .1)
+    (search needs) (search needs))))

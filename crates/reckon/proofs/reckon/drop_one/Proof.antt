@@ -13,7 +13,10 @@ drop-one-spec =
     tie.close
     (tie.spec
     (λ c κs. search needs)
-    (λ c. let s = c .before .before in let a = s .args in rw (c .refuse .ensures) (λ cells. data-low 0x46 (a .h) (a .b) (a .place) 0x0100_0010 cells refl (refl, refl, refl, refl) (s .pre .0) (s .pre .1) (search needs)))
+    (λ c. let s = c .before .before in let a = s .args in
+    rw (c .refuse .ensures) (λ cells. data-low 0x46 (a .h) (a .b) (a .place) 0x0100_0010 cells refl (refl, refl, refl, refl) (s .pre .0)
+    (s .pre .1) (search needs)))
     (λ c. search needs)
     (λ c κs. search needs)
-    (λ c. let s = c .before .before in let a = s .args in rw (c .on .ensures) (λ cells. drop-fine (a .h) (a .b) (a .place) cells (s .pre .0) (s .pre .1) (search needs))))
+    (λ c. let s = c .before .before in let a = s .args in
+    rw (c .on .ensures) (λ cells. drop-fine (a .h) (a .b) (a .place) cells (s .pre .0) (s .pre .1) (search needs))))

@@ -13,7 +13,10 @@ drop-two-spec =
     tie.close
     (tie.spec
     (λ c κs. search needs)
-    (λ c. let s = c .before .before in let a = s .args in rw (c .refuse .ensures) (λ cells. data-low 0x52 (a .h) (a .b) (a .place) 0x0100_0020 cells refl (refl, refl, refl, refl) (s .pre .0) (s .pre .1) (search needs)))
+    (λ c. let s = c .before .before in let a = s .args in
+    rw (c .refuse .ensures) (λ cells. data-low 0x52 (a .h) (a .b) (a .place) 0x0100_0020 cells refl (refl, refl, refl, refl) (s .pre .0)
+    (s .pre .1) (search needs)))
     (λ c. search needs)
     (λ c κs. search needs)
-    (λ c. let s = c .before .before in let a = s .args in rw (c .on .ensures) (λ cells. drop-two-fine (a .h) (a .b) (a .place) cells (s .pre .0) (s .pre .1) (search needs))))
+    (λ c. let s = c .before .before in let a = s .args in
+    rw (c .on .ensures) (λ cells. drop-two-fine (a .h) (a .b) (a .place) cells (s .pre .0) (s .pre .1) (search needs))))

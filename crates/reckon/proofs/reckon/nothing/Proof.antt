@@ -9,4 +9,5 @@ nothing-spec =
     (tie.spec
     (λ c. search needs)
     (λ c κs. search needs)
-    (λ c. let s = c .before in let a = s .args in rw (c .on .ensures) (λ cells. nothing-fine (a .h) (a .b) (a .place) cells (s .pre .1) (s .pre .2) (a .number) (s .pre .0))))
+    (λ c. let s = c .before in let a = s .args in
+    rw (c .on .ensures) (λ cells. nothing-fine (a .h) (a .b) (a .place) cells (s .pre .1) (s .pre .2) (a .number) (s .pre .0))))

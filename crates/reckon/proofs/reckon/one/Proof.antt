@@ -2,7 +2,7 @@ use mathlib.Core.Path.{refl}
 use Rattle.cells.specs.Arithmetic.{invertOf, negateOf, absOf, halfOf, uHalfOf, doubleOf}
 use Rattle.cells.specs.Comparison.{zeroEqualOf, zeroUnequalOf, zeroLessOf, zeroAtMostOf, zeroGreaterOf, zeroAtLeastOf}
 use Rattle.tokens.specs.Table.{ends, lows, highs, doubles, table, rowOf}
-use Rattle.tokens.specs.Rows.{none-left}
+use Rattle.tokens.specs.Laws.Rows.{none-left}
 use Rattle.reckon.proofs.Given.{one-by, ones, one-coded}
 use borrow.Author.Needs.{needs}
 use Rattle.reckon.proofs.reckon.one.Statement.{statement}
@@ -37,4 +37,5 @@ one-spec =
     (λ c. one-by 0x57 halfOf (λ s. refl) (c .before .match .keys10) (c .half .ensures))
     (λ c. one-by 0x58 uHalfOf (λ s. refl) (c .before .match .keys11) (c .u-half .ensures))
     (λ c. one-by 0x59 doubleOf (λ s. refl) (c .before .match .keys12) (c .double .ensures))
-    (λ c. let s = c .before in absurd (none-left (Unit {0}) ones (s .args .number) (c .match .rest) (one-coded (s .args .number) (s .pre)))))
+    (λ c. let s = c .before in
+    absurd (none-left (Unit {0}) ones (s .args .number) (c .match .rest) (one-coded (s .args .number) (s .pre)))))

@@ -14,7 +14,9 @@ swap-two-spec =
     tie.close
     (tie.spec
     (λ c κs. search needs)
-    (λ c. let s = c .before .before in let a = s .args in rw (c .refuse .ensures) (data-low 0x55 (a .h) (a .b) (a .place) 0x0100_0044 (now (a .stack)) refl (refl, refl, refl, refl) (s .pre .0) (s .pre .1) (search needs)))
+    (λ c. let s = c .before .before in let a = s .args in
+    rw (c .refuse .ensures) (data-low 0x55 (a .h) (a .b) (a .place) 0x0100_0044 (now (a .stack)) refl (refl, refl, refl, refl)
+    (s .pre .0) (s .pre .1) (search needs)))
     (λ c. search needs)
     (λ c. search needs)
     (λ c. search needs)
@@ -39,4 +41,5 @@ swap-two-spec =
     (λ c. search needs)
     (λ c. search needs)
     (λ c κs. search needs)
-    (λ c. let s = c .before .before .before .before .before .before in let a = s .args in rw (c .on .ensures) (swap-two-fine (a .h) (a .b) (a .place) (now (a .stack)) (s .pre .0) (s .pre .1) (search needs))))
+    (λ c. let s = c .before .before .before .before .before .before in let a = s .args in
+    rw (c .on .ensures) (swap-two-fine (a .h) (a .b) (a .place) (now (a .stack)) (s .pre .0) (s .pre .1) (search needs))))

@@ -9,9 +9,13 @@ to-return-spec =
     tie.close
     (tie.spec
     (λ c κs. search needs)
-    (λ c. let s = c .before .before in let a = s .args in rw (c .refuse .ensures) (λ base. to-low base (a .h) (a .b) (a .place) (now (a .stack)) (now (a .back)) (s .pre .0) (s .pre .1) (search needs)))
+    (λ c. let s = c .before .before in let a = s .args in
+    rw (c .refuse .ensures) (λ base. to-low base (a .h) (a .b) (a .place) (now (a .stack)) (now (a .back)) (s .pre .0) (s .pre .1)
+    (search needs)))
     (λ c κs. search needs)
-    (λ c. let s = c .before .before .before in let a = s .args in rw (c .refuse2 .ensures) (λ base. to-high base (a .h) (a .b) (a .place) (now (a .stack)) (now (a .back)) (s .pre .0) (s .pre .1) (search needs) (search needs)))
+    (λ c. let s = c .before .before .before in let a = s .args in
+    rw (c .refuse2 .ensures) (λ base. to-high base (a .h) (a .b) (a .place) (now (a .stack)) (now (a .back)) (s .pre .0) (s .pre .1)
+    (search needs) (search needs)))
     (λ c. search needs)
     (λ c. search needs)
     (λ c. search needs)
@@ -19,4 +23,6 @@ to-return-spec =
     (λ c. search needs)
     (λ c. search needs)
     (λ c κs. search needs)
-    (λ c. let s = c .before .before .before .before in let a = s .args in rw (c .on .ensures) (λ base. to-fine base (a .h) (a .b) (a .place) (now (a .stack)) (now (a .back)) (s .pre .0) (s .pre .1) (search needs) (search needs))))
+    (λ c. let s = c .before .before .before .before in let a = s .args in
+    rw (c .on .ensures) (λ base. to-fine base (a .h) (a .b) (a .place) (now (a .stack)) (now (a .back)) (s .pre .0) (s .pre .1)
+    (search needs) (search needs))))

@@ -33,8 +33,11 @@ turn-spec =
     (λ c. search needs)
     (λ c.
     let l = c .before .before .loop in
-    let s = c .before .before .before .before .args in
-    (search needs, turns (l .stack) (l .i) (s .start + s .count) (getD (now (s .stack)) (s .start) 0) (c .before .loop-test .taken) ∙ l .inv .1))
+    let s = c .before .before .before .before .args in (
+      search needs,
+      turns (l .stack) (l .i) (s .start + s .count) (getD (now (s .stack)) (s .start) 0) (c .before .loop-test .taken)
+          ∙ l .inv .1,
+    ))
     (λ c. search needs)
     (λ c. search needs)
     (λ c.

@@ -2,7 +2,7 @@ use mathlib.Core.Path.{refl}
 use Rattle.cells.specs.Arithmetic.{plusOf, minusOf, timesOf, andOf, orOf, xorOf, lshiftOf, rshiftOf, ashiftOf, minOf, maxOf}
 use Rattle.cells.specs.Comparison.{lessOf, greaterOf, equalOf, unequalOf, uGreaterOf, uAtMostOf, uLessOf, uAtLeastOf, atLeastOf, atMostOf}
 use Rattle.tokens.specs.Table.{ends, lows, highs, doubles, table, rowOf}
-use Rattle.tokens.specs.Rows.{none-left}
+use Rattle.tokens.specs.Laws.Rows.{none-left}
 use Rattle.reckon.proofs.Given.{two-by, twos, two-coded}
 use borrow.Author.Needs.{needs}
 use Rattle.reckon.proofs.reckon.two.Statement.{statement}
@@ -56,4 +56,5 @@ two-spec =
     (λ c. two-by 0x42 atLeastOf (λ s. refl) (c .before .match .keys20) (c .at-least .ensures))
     (λ c. two-by 0x43 atMostOf (λ s. refl) (c .before .match .keys21) (c .at-most .ensures))
     (λ c. two-by 0x4D (λ b a. a) (λ s. refl) (c .match .keys22) refl)
-    (λ c. let s = c .before in absurd (none-left (Unit {0}) twos (s .args .number) (c .match .rest) (two-coded (s .args .number) (s .pre)))))
+    (λ c. let s = c .before in
+    absurd (none-left (Unit {0}) twos (s .args .number) (c .match .rest) (two-coded (s .args .number) (s .pre)))))

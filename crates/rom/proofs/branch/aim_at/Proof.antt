@@ -1,6 +1,6 @@
 use denote.Ref.{now}
 use mathlib.Core.Path.{sym, _∙_}
-use Rattle.rom.specs.BranchLaws.{aim-outside, aim-inside}
+use Rattle.rom.specs.Laws.Branch.{aim-outside, aim-inside}
 use borrow.Author.Needs.{needs}
 use Rattle.rom.proofs.branch.aim_at.Statement.{statement}
 use Rattle.rom.proofs.branch.aim_at.Tie as tie

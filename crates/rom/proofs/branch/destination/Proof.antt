@@ -14,5 +14,9 @@ destination-spec =
     (λ c κs. search needs)
     (λ c. search needs)
     (λ c κs. search needs)
-    (λ c. rw (c .before .before .if1 .taken, ← c .before .word16 .ensures) (c .led .ensures))
-    (λ c. rw (c .before .before .if1 .left, ← c .before .byte .ensures) (c .led2 .ensures)))
+    (λ c.
+    let if1 = c .before .before .if1 in
+    rw (if1 .taken, ← c .before .word16 .ensures) (c .led .ensures))
+    (λ c.
+    let if1 = c .before .before .if1 in
+    rw (if1 .left, ← c .before .byte .ensures) (c .led2 .ensures)))

@@ -18,5 +18,6 @@ body-sum-spec =
     (λ c. search needs)
     (λ c κs. search needs)
     (λ c.
+    let least = c .before .before .before .least in
     let a = c .before .before .before .before .before .args in
-    c .byte-sum .ensures ∙ sum-some (now (a .rom)) (a .length) (c .before .before .before .least .result) (c .before .before .before .least .ensures)))
+    c .byte-sum .ensures ∙ sum-some (now (a .rom)) (a .length) (least .result) (least .ensures)))

@@ -17,8 +17,12 @@ abbrev μ-loop : tie.MeasureT-loop
 
 loop-again : tie.Need-loop-again Inv-loop μ-loop
 loop-again c =
-    let k = c .before .before .before .before in
-    (search needs, c .wrapping-add-u16 .ensures ∙ rw (c .before .wide16 .ensures) (wrapped-more (now (k .before .before .args .body)) (k .loop .i) (k .loop .sum) (search needs) (k .loop .inv .1)))
+    let k = c .before .before .before .before in (
+      search needs,
+      c .wrapping-add-u16 .ensures
+          ∙ rw (c .before .wide16 .ensures) (wrapped-more (now (k .before .before .args .body)) (k .loop .i) (k .loop .sum) (search needs)
+          (k .loop .inv .1)),
+    )
 
 returns : tie.Need-returns Inv-loop μ-loop
 returns c =

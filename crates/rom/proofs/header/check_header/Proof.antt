@@ -14,10 +14,14 @@ use Rattle.rom.proofs.header.check_header.Statement.{statement}
 use Rattle.rom.proofs.header.check_header.Tie as tie
 
 returns : tie.Need-returns
-returns c = too-short (now (c .before .before .args .rom)) (search needs)
+returns c =
+    let args = c .before .before .args in
+    too-short (now (args .rom)) (search needs)
 
 returns-2 : tie.Need-returns-2
-returns-2 c = too-long (now (c .before .before .before .args .rom)) (search needs) (search needs)
+returns-2 c =
+    let args = c .before .before .before .args in
+    too-long (now (args .rom)) (search needs) (search needs)
 
 -- a start that is known, and the format, as each later place has found them
 started : (c : tie.Else3) → startOf (now (c .before .before .before .before .before .args .rom)) ≡ true
@@ -35,7 +39,8 @@ returns-4 c = no-format _ (search needs) (search needs) (started (c .before .bef
 returns-5 : tie.Need-returns-5
 returns-5 c =
     let k = c .before .before in
-    length-low _ (search needs) (search needs) (started (k .before .before)) (formatted k) (rw (← c .before .program-length .ensures) (c .if5 .taken))
+    length-low _ (search needs) (search needs) (started (k .before .before)) (formatted k)
+    (rw (← c .before .program-length .ensures) (c .if5 .taken))
 
 returns-6 : tie.Need-returns-6
 returns-6 c =
@@ -49,19 +54,26 @@ abbrev start : tie.After-differs → tie.Start
 start c = c .before .before .before .before .before .before .before .before .before .before .before .before .before
 
 -- the length is good where the sum is taken
-measured : (c : tie.Else6) → 9 ≤ lengthOf (now (c .before .before .before .before .before .before .before .before .before .before .args .rom))
-measured c = rw (← c .before .before .program-length .ensures) (c .before .if5 .left)
+measured : (c : tie.Else6) → 9 ≤ lengthOf
+    (now (c .before .before .before .before .before .before .before .before .before .before .args .rom))
+measured c =
+    let program-length = c .before .before .program-length in
+    rw (← program-length .ensures) (c .before .if5 .left)
 
 held : (c : tie.Else6)
     → lengthOf (now (c .before .before .before .before .before .before .before .before .before .before .args .rom))
     ≤ length (now (c .before .before .before .before .before .before .before .before .before .before .args .rom))
-held c = rw (← c .before .before .program-length .ensures) (c .if6 .left)
+held c =
+    let program-length = c .before .before .program-length in
+    rw (← program-length .ensures) (c .if6 .left)
 
 summed : (c : tie.After-body-sum)
     → c .body-sum .result
     ≡ sumOf (now (c .before .before .before .before .before .before .before .before .before .before .before .args .rom))
     (lengthOf (now (c .before .before .before .before .before .before .before .before .before .before .before .args .rom)))
-summed c = rw (← c .before .before .before .program-length .ensures) (c .body-sum .ensures)
+summed c =
+    let program-length = c .before .before .before .program-length in
+    rw (← program-length .ensures) (c .body-sum .ensures)
 
 -- what the comparison says is said of the definition's sum and field
 compared : (c : tie.After-differs)

@@ -10,4 +10,6 @@ known-start-spec =
     (λ c κs. search needs)
     (λ c κs. search needs)
     (λ c. simp (← c .before .byte .ensures, eq-eqb _ _ (c .if1 .taken)))
-    (λ c. rw (← c .before .before .byte .ensures, ne-eqb _ _ (c .before .if1 .left)) (rw (c .before .before .byte .ensures) (c .wide-start .ensures))))
+    (λ c.
+    let byte = c .before .before .byte in
+    rw (← byte .ensures, ne-eqb _ _ (c .before .if1 .left)) (rw (byte .ensures) (c .wide-start .ensures))))

@@ -6,10 +6,10 @@ use Rattle.runs.proofs.finds.show_finds.Statement.{statement}
 use Rattle.runs.proofs.finds.show_finds.Tie as tie
 
 abbrev Inv-loop : tie.InvT-loop
-Inv-loop store tree words at₀ at = at ≤ length words
+Inv-loop store state words at₀ at = at ≤ length words
 
 abbrev μ-loop : tie.MeasureT-loop
-μ-loop store tree words at₀ at = length words - at
+μ-loop store state words at₀ at = length words - at
 
 pub show-finds-spec : {M : Type 1} → statement M
 show-finds-spec =

@@ -5,10 +5,10 @@ use Rattle.runs.proofs.show.show_nodes.Statement.{statement}
 use Rattle.runs.proofs.show.show_nodes.Tie as tie
 
 abbrev Inv-loop : tie.InvT-loop
-Inv-loop tree k₀ k = Unit {0}
+Inv-loop active tree k₀ k = Unit {0}
 
 abbrev μ-loop : tie.MeasureT-loop
-μ-loop tree k₀ k = tree .nodes - k
+μ-loop active tree k₀ k = tree .nodes - k
 
 pub show-nodes-spec : {M : Type 1} → statement M
 show-nodes-spec =
@@ -18,7 +18,6 @@ show-nodes-spec =
     μ-loop
     (λ c. search needs)
     (λ c κs. search needs)
-    (λ c. search needs)
     (λ c κs. search needs)
     (λ c. search needs)
     (λ c κs. search needs)

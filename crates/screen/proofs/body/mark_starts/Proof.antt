@@ -2,9 +2,9 @@ use Prim.Native.Nat.{_-_}
 use mathlib.Core.Path.{_≡_, refl, sym, _∙_}
 use denote.Ref.{now}
 use lib.ListN.{length as len, length-set}
-use Rattle.cells.specs.Facts.{not-on, not-off}
-use Rattle.screen.specs.BodyLaws.{off-on, quick-ahead, stood-ahead, Marking, marking-first, marking-past, marking-stops}
-use Rattle.screen.specs.BodyLaws.{marking-quick, marking-ends, marking-goes}
+use Rattle.cells.specs.Laws.Facts.{not-on, not-off}
+use Rattle.screen.specs.Laws.Code.Body.{off-on, quick-ahead, stood-ahead, Marking, marking-first, marking-past, marking-stops}
+use Rattle.screen.specs.Laws.Code.Body.{marking-quick, marking-ends, marking-goes}
 use native.Mathlib.Omega.{arith}
 use borrow.Author.Needs.{needs}
 use Rattle.screen.proofs.body.mark_starts.Statement.{statement}
@@ -20,25 +20,33 @@ abbrev μ-loop : tie.MeasureT-loop
 
 slice-write-seen : tie.Need-slice-write-seen Inv-loop μ-loop
 slice-write-seen c =
-    let t = c .before .before .before .loop-test .taken in
-    let l = c .before .before .before .before .loop .inv .0 in
-    let p = c .before .before .before .before .before .before .before .pre .1 in
+    let loop-test = c .before .before .before .loop-test in
+    let loop = c .before .before .before .before .loop in
+    let pre = c .before .before .before .before .before .before .before .pre in
+    let t = loop-test .taken in
+    let l = loop .inv .0 in
+    let p = pre .1 in
     omega arith
 
 loop-less : tie.Need-loop-less Inv-loop μ-loop
 loop-less c =
+    let quick-at = c .before .before .quick-at in
+    let loop-test = c .before .before .before .loop-test in
     let a = c .before .before .before .before .before .before .before .args in
-    let t = c .before .before .before .loop-test .taken in
+    let t = loop-test .taken in
     let h = quick-ahead (now (a .rom)) (a .length) (a .wide) (now (a .kinds)) _ _
-    (c .before .before .quick-at .ensures .2 (c .if1 .taken)) in
+    (quick-at .ensures .2 (c .if1 .taken)) in
     omega arith
 
 loop-again : tie.Need-loop-again Inv-loop μ-loop
-loop-again c = (
-  simp length-set (c .before .before .before .before .loop .inv .0),
-  marking-quick _ _ _ _ _ _ _ _ (c .before .before .before .before .loop .inv .1) (c .before .before .before .loop-test .taken) _
-      (c .before .before .quick-at .ensures .2 (c .if1 .taken)),
-)
+loop-again c =
+    let quick-at = c .before .before .quick-at in
+    let loop-test = c .before .before .before .loop-test in
+    let loop = c .before .before .before .before .loop in (
+      simp length-set (loop .inv .0),
+      marking-quick _ _ _ _ _ _ _ _ (loop .inv .1) (loop-test .taken) _
+          (quick-at .ensures .2 (c .if1 .taken)),
+    )
 
 returns : tie.Need-returns Inv-loop μ-loop
 returns c =
@@ -117,7 +125,9 @@ mark-starts-spec =
     (tie.spec
     Inv-loop
     μ-loop
-    (λ c. (refl, marking-first _ _ _ _ _ _ (c .before .before .pre .2)))
+    (λ c.
+    let pre = c .before .before .pre in
+    (refl, marking-first _ _ _ _ _ _ (pre .2)))
     (λ c. search needs)
     (λ c κs. search needs)
     (λ c. search needs)
@@ -126,11 +136,15 @@ mark-starts-spec =
     loop-again
     (λ c κs. search needs)
     (λ c κs. search needs)
-    (λ c. c .before .before .before .before .before .before .before .loop .inv .0)
+    (λ c.
+    let loop = c .before .before .before .before .before .before .before .loop in
+    loop .inv .0)
     returns
     (λ c. search needs)
     slice-write-seen-2
-    (λ c. simp length-set (c .before .before .before .before .before .before .before .before .before .loop .inv .0))
+    (λ c.
+    let loop = c .before .before .before .before .before .before .before .before .before .loop in
+    simp length-set (loop .inv .0))
     returns-2
     loop-less-2
     loop-again-2

@@ -1,8 +1,8 @@
 use Prim.Native.Nat.{_-_}
 use mathlib.Core.Path.{_≡_, refl}
 use lib.ListN.{length, length-set}
-use Rattle.screen.specs.Model.{shiftOf}
-use Rattle.screen.specs.BodyLaws.{Shifting, shifting-first, shifting-done, shifting-turn}
+use Rattle.screen.specs.Laws.Found.Model.{shiftOf}
+use Rattle.screen.specs.Laws.Code.Body.{Shifting, shifting-first, shifting-done, shifting-turn}
 use native.Mathlib.Omega.{arith}
 use borrow.Author.Needs.{needs}
 use Rattle.screen.proofs.body.shift.Statement.{statement}
@@ -17,33 +17,43 @@ abbrev μ-loop : tie.MeasureT-loop
 
 slice-read-moved-cell : tie.Need-slice-read-moved-cell Inv-loop μ-loop
 slice-read-moved-cell c =
+    let loop = c .before .before .loop in
+    let pre = c .before .before .before .before .pre in
     let t = c .before .loop-test .taken in
-    let l = c .before .before .loop .inv .0 in
-    let p = c .before .before .before .before .pre .1 in
+    let l = loop .inv .0 in
+    let p = pre .1 in
     omega arith
 
 moved-cell-requires : tie.Need-moved-cell-requires Inv-loop μ-loop
 moved-cell-requires c κs =
-    (c .before .before .before .before .pre .0, c .before .before .loop .inv .1 .above (c .before .before .loop .place) (omega arith))
+    let loop = c .before .before .loop in
+    let pre = c .before .before .before .before .pre in
+    (pre .0, loop .inv .1 .above (loop .place) (omega arith))
 
 slice-write-seen : tie.Need-slice-write-seen Inv-loop μ-loop
 slice-write-seen c =
-    let t = c .before .before .loop-test .taken in
-    let l = c .before .before .before .loop .inv .0 in
-    let p = c .before .before .before .before .before .pre .1 in
+    let loop-test = c .before .before .loop-test in
+    let loop = c .before .before .before .loop in
+    let pre = c .before .before .before .before .before .pre in
+    let t = loop-test .taken in
+    let l = loop .inv .0 in
+    let p = pre .1 in
     omega arith
 
 loop-less : tie.Need-loop-less Inv-loop μ-loop
 loop-less c =
-    let t = c .before .before .loop-test .taken in
+    let loop-test = c .before .before .loop-test in
+    let t = loop-test .taken in
     omega arith
 
 loop-again : tie.Need-loop-again Inv-loop μ-loop
-loop-again c = (
-  simp length-set (c .before .before .before .loop .inv .0),
-  shifting-turn _ _ _ _ _ (c .before .before .before .loop .inv .1) _
-      (c .before .before .loop-test .taken) (c .moved-cell .ensures),
-)
+loop-again c =
+    let loop-test = c .before .before .loop-test in
+    let loop = c .before .before .before .loop in (
+      simp length-set (loop .inv .0),
+      shifting-turn _ _ _ _ _ (loop .inv .1) _
+          (loop-test .taken) (c .moved-cell .ensures),
+    )
 
 pub shift-spec : {M : Type 1} → statement M
 shift-spec =

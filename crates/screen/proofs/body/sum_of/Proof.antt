@@ -11,4 +11,7 @@ sum-of-spec =
     (λ c κs. search needs)
     (λ c. search needs)
     (λ c κs. search needs)
-    (λ c. simp (c .less3 .ensures, c .before .before .less2 .ensures, c .before .before .before .before .less .ensures)))
+    (λ c.
+    let less2 = c .before .before .less2 in
+    let less = c .before .before .before .before .less in
+    simp (c .less3 .ensures, less2 .ensures, less .ensures)))

@@ -1,9 +1,10 @@
 use mathlib.Core.Path.{refl}
 use denote.Ref.{now}
-use Rattle.cells.specs.Facts.{not-on, not-off}
-use Rattle.screen.specs.Model.{bodyText}
-use Rattle.screen.specs.BodyLaws.{survey-unmarked, survey-lost, survey-judged}
-use Rattle.screen.specs.KeepLaws.{marked-bounded, walked-kept, walked-low}
+use Rattle.cells.specs.Laws.Facts.{not-on, not-off}
+use Rattle.screen.specs.Laws.Found.Model.{bodyText}
+use Rattle.screen.specs.Laws.Code.Body.{survey-unmarked, survey-lost, survey-judged}
+use Rattle.screen.specs.Laws.Code.Keep.{marked-bounded, walked-kept, walked-low}
+use Rattle.screen.specs.Laws.Found.Cell.{entry-cell}
 use native.Mathlib.Omega.{arith}
 use borrow.Author.Needs.{needs}
 use Rattle.screen.proofs.body.survey_body.Statement.{statement}
@@ -11,8 +12,9 @@ use Rattle.screen.proofs.body.survey_body.Tie as tie
 
 mark-starts-requires : tie.Need-mark-starts-requires
 mark-starts-requires c κs =
-    let t = c .before .before .before .before .before .pre .1 in
-    (c .before .before .before .before .before .pre .0, t .room, omega arith)
+    let pre = c .before .before .before .before .before .pre in
+    let t = pre .1 in
+    (pre .0, t .room, omega arith)
 
 returns : tie.Need-returns
 returns c =
@@ -47,7 +49,7 @@ returns-2 c =
     let c₆ = c₅ .before .before .before .before .before .before in
     let a = c₆ .args in
     let g = not-on (c₅ .mark-starts .result .0) (c₄ .if1 .left) in
-    let k = rw (c₃ .body .ensures) at (c₂ .walk-from .ensures) in
+    let k = rw entry-cell at (rw (c₃ .body .ensures) at (c₂ .walk-from .ensures)) in
     let l = not-off (c₂ .walk-from .result .good) (c₁ .if2 .taken) in
     survey-lost (now (a .rom)) (a .length) (now (a .seen)) (now (a .kinds)) (now (a .sums)) (a .stand) (a .entry) _ _ _ _ _
     (c₅ .mark-starts .ensures .0) g _ k l (c .failed2 .ensures)
@@ -64,7 +66,7 @@ passes-requires c κs =
     let x = bodyText (a .length) (a .stand .wide) (a .entry) in
     let k = rw (c₃ .body .ensures) at (c₂ .walk-from .ensures) in
     let l = not-on (c₂ .walk-from .result .good) (c₁ .if2 .left) in
-    walked-low (now (a .rom)) (now (a .kinds)) x (now (a .sums)) _ (a .entry) 65 _ _ (omega arith) (omega arith) (omega arith) k l
+    walked-low (now (a .rom)) (now (a .kinds)) x (now (a .sums)) _ (a .entry) _ _ _ (omega arith) (omega arith) (omega arith) k l
 
 returns-3 : tie.Need-returns-3
 returns-3 c =
@@ -80,15 +82,16 @@ returns-3 c =
     let x = bodyText (a .length) (a .stand .wide) (a .entry) in
     let s = c₅ .mark-starts .ensures in
     let g = not-on (c₅ .mark-starts .result .0) (c₄ .if1 .left) in
-    let k = rw (c₃ .body .ensures) at (c₂ .walk-from .ensures) in
+    let w = rw (c₃ .body .ensures) at (c₂ .walk-from .ensures) in
+    let k = rw entry-cell at w in
     let l = not-on (c₂ .walk-from .result .good) (c₁ .if2 .left) in
-    let low = walked-low (now (a .rom)) (now (a .kinds)) x (now (a .sums)) _ (a .entry) 65 _ _ (omega arith) (omega arith) (omega arith) k
-    l in
+    let low =
+    walked-low (now (a .rom)) (now (a .kinds)) x (now (a .sums)) _ (a .entry) _ _ _ (omega arith) (omega arith) (omega arith) w l in
     survey-judged (now (a .rom)) (a .length) (now (a .seen)) (now (a .kinds)) (now (a .sums)) (a .stand) (a .entry) _ _ _ _ _ (s .0) g _ k
     l low (s .1 g)
     (λ b h e.
     let m = marked-bounded b h (now (a .rom)) (now (a .kinds)) (a .length) (a .stand .wide) (a .entry) (now (a .seen)) _ _ _ (s .0) e in
-    walked-kept b h (now (a .rom)) (now (a .kinds)) x (now (a .sums)) _ (a .entry) 65 _ _ (omega arith) (omega arith) (omega arith) k l
+    walked-kept b h (now (a .rom)) (now (a .kinds)) x (now (a .sums)) _ (a .entry) _ _ _ (omega arith) (omega arith) (omega arith) w l
     m .seen)
     (c .passes .ensures) refl refl
 

@@ -14,10 +14,14 @@ takes-seen-spec =
     (λ c κs. search needs)
     (λ c. search needs)
     (λ c.
-    let e = c .before .before .before .family-of .ensures in
-    let own = c .before .before .before .before .takes-of .ensures in
+    let if1 = c .before .before .if1 in
+    let family-of = c .before .before .before .family-of in
+    let takes-of = c .before .before .before .before .takes-of in
+    let e = family-of .ensures in
+    let own = takes-of .ensures in
     let kind = c .takes-of2 .ensures in
-    (rw (← e, eq-eqb _ _ (c .before .before .if1 .taken), ← c .before .code-of .ensures, own, kind), omega arith))
+    (rw (← e, eq-eqb _ _ (if1 .taken), ← c .before .code-of .ensures, own, kind), omega arith))
     (λ c.
-    let own = c .before .before .takes-of .ensures in
+    let takes-of = c .before .before .takes-of in
+    let own = takes-of .ensures in
     (rw (← c .before .family-of .ensures, ne-eqb _ _ (c .if1 .left)) (omega arith), omega arith)))

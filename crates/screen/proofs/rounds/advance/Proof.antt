@@ -1,6 +1,6 @@
 use mathlib.Core.Path.{sym, _∙_, refl}
 use denote.Ref.{now}
-use Rattle.screen.specs.RoundLaws.{moved-standing, advance-define, advance-new, advance-wide, advance-close}
+use Rattle.screen.specs.Laws.Code.Round.{moved-standing, advance-define, advance-new, advance-wide, advance-close}
 use native.Mathlib.Omega.{arith}
 use borrow.Author.Needs.{needs}
 use Rattle.screen.proofs.rounds.advance.Statement.{statement}
@@ -34,10 +34,12 @@ returns c =
 
 new-node-requires : tie.Need-new-node-requires
 new-node-requires c κs =
-    let a = c .before .before .before .before .before .before .before .before .before .args in
-    let p = c .before .before .before .before .before .before .before .before .before .pre in
+    let moved = c .before .before .before .before .moved in
+    let c₁ = c .before .before .before .before .before .before .before .before .before in
+    let a = c₁ .args in
+    let p = c₁ .pre in
     let t = p .1 in
-    rw (c .before .before .before .before .moved .ensures)
+    rw (moved .ensures)
     (moved-standing (a .stand) (a .token) (a .cell) (a .length) (p .2) (omega arith) (p .3))
 
 returns-2 : tie.Need-returns-2

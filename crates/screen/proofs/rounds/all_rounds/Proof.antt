@@ -1,10 +1,11 @@
 use mathlib.Core.Path.{_≡_, refl, _∙_}
 use lib.ListN.{length as len}
-use Rattle.cells.specs.Facts.{not-on, not-off}
+use Rattle.cells.specs.Laws.Facts.{not-on, not-off}
 use Rattle.rom.specs.Sizes.{romMost}
-use Rattle.screen.specs.Model.{board, roundsOf}
-use Rattle.screen.specs.RoundLaws.{Going, going-cell, going-seen, round-bounded, going-turn, rounds-spent, rounds-lost, rounds-fails}
-use Rattle.screen.specs.RoundLaws.{rounds-end, rounds-goes, rounds-turn, passed-so, passed-fails}
+use Rattle.screen.specs.Laws.Found.Model.{board, roundsOf}
+use Rattle.screen.specs.Laws.Code.Round.{Going, going-cell, going-seen, round-bounded, going-turn, rounds-spent, rounds-lost}
+use Rattle.screen.specs.Laws.Code.Round.{rounds-fails}
+use Rattle.screen.specs.Laws.Code.Round.{rounds-end, rounds-goes, rounds-turn, passed-so, passed-fails}
 use native.Mathlib.Omega.{arith}
 use borrow.Author.Needs.{needs}
 use Rattle.screen.proofs.rounds.all_rounds.Statement.{statement}
@@ -148,14 +149,16 @@ returns-3 c =
 
 sub-left : tie.Need-sub-left Inv-loop μ-loop
 sub-left c =
-    let c₁ = c .before .before .before .before .before .before .before .before .before .before .before .before .before .before in
+    let c₁ = c .before .before .before .before .before .before .before .before .before .before .before .before in
+    let c₁ = c₁ .before .before in
     let c₂ = c₁ .before .before .before .before .before .before .before .before .before .before .before in
     let t = c₂ .loop-test .taken in
     omega arith
 
 loop-less : tie.Need-loop-less Inv-loop μ-loop
 loop-less c =
-    let c₁ = c .before .before .before .before .before .before .before .before .before .before .before .before .before .before in
+    let c₁ = c .before .before .before .before .before .before .before .before .before .before .before .before in
+    let c₁ = c₁ .before .before in
     let c₂ = c₁ .before .before .before .before .before .before .before .before .before .before .before in
     let t = c₂ .loop-test .taken in
     omega arith

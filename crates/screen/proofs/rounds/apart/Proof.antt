@@ -1,8 +1,8 @@
 use Prim.Native.Nat.{_+_}
 use mathlib.Core.Path.{_≡_, refl, sym, _∙_}
 use mathlib.Core.Logic.{_≢_}
-use Rattle.screen.specs.Model.{apartOf}
-use Rattle.screen.specs.RoundLaws.{apart-free, apart-spent, apart-fails, apart-turn}
+use Rattle.screen.specs.Laws.Found.Model.{apartOf}
+use Rattle.screen.specs.Laws.Code.Round.{apart-free, apart-spent, apart-fails, apart-turn}
 use native.Mathlib.Omega.{arith}
 use borrow.Author.Needs.{needs}
 use Rattle.screen.proofs.rounds.apart.Statement.{statement}
@@ -22,7 +22,9 @@ apart-spec =
     (tie.spec
     Inv-loop
     μ-loop
-    (λ c. (apart-free _ _ _ _ _ _ _ (omega arith), refl, c .before .before .pre .2))
+    (λ c.
+    let pre = c .before .before .pre in
+    (apart-free _ _ _ _ _ _ _ (omega arith), refl, pre .2))
     (λ c κs. search needs)
     (λ c κs.
     let c₁ = c .before in
@@ -39,14 +41,19 @@ apart-spec =
     let c₂ = c₁ .before in
     let c₃ = c₂ .before in
     let c₄ = c₃ .before in
-    sym (apart-fails _ _ _ _ _ _ _ _ _ (c₃ .loop-test .taken) (c₂ .cell-at .ensures) (c₁ .passed .ensures) (c .if1 .taken)) ∙ c₄ .loop .inv .0)
+    sym (apart-fails _ _ _ _ _ _ _ _ _ (c₃ .loop-test .taken) (c₂ .cell-at .ensures) (c₁ .passed .ensures) (c .if1 .taken))
+    ∙ c₄ .loop .inv .0)
     (λ c.
     let c₁ = c .before .before .before in
     let c₂ = c₁ .before in
     let c₃ = c₂ .before .before .before in
     let n = c₂ .loop .inv .1 in let m = c₃ .pre .1 in let t = c₁ .loop-test .taken in omega arith)
-    (λ c. let t = c .before .before .before .loop-test .taken in omega arith)
-    (λ c. let t = c .before .before .before .loop-test .taken in omega arith)
+    (λ c.
+    let loop-test = c .before .before .before .loop-test in
+    let t = loop-test .taken in omega arith)
+    (λ c.
+    let loop-test = c .before .before .before .loop-test in
+    let t = loop-test .taken in omega arith)
     (λ c.
     let c₁ = c .before in
     let c₂ = c₁ .before in

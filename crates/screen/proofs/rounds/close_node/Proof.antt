@@ -1,5 +1,5 @@
 use borrow.Author.Tests.{eq-eqb}
-use Rattle.screen.specs.RoundLaws.{node-fails, node-closed}
+use Rattle.screen.specs.Laws.Code.Round.{node-fails, node-closed}
 use borrow.Author.Needs.{needs}
 use Rattle.screen.proofs.rounds.close_node.Statement.{statement}
 use Rattle.screen.proofs.rounds.close_node.Tie as tie
@@ -11,4 +11,8 @@ close-node-spec =
     (λ c κs. search needs)
     (λ c. node-fails _ _ _ (λ b. rw (eq-eqb _ _ (c .before .if1 .taken))) (c .refused .ensures))
     (λ c. search needs)
-    (λ c. node-closed (c .before .before .before .args .stand) (c .before .if1 .left) (c .before .before .before .pre)))
+    (λ c.
+    let c₁ = c .before .before .before in
+    let args = c₁ .args in
+    let pre = c₁ .pre in
+    node-closed (args .stand) (c .before .if1 .left) (pre)))

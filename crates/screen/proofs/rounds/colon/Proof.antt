@@ -1,7 +1,7 @@
 use denote.Ref.{now}
-use Rattle.cells.specs.Facts.{not-on, not-off}
-use Rattle.screen.specs.KeepLaws.{bounded-more}
-use Rattle.screen.specs.RoundLaws.{turn-fails, turn-colon}
+use Rattle.cells.specs.Laws.Facts.{not-on, not-off}
+use Rattle.screen.specs.Laws.Code.Keep.{bounded-more}
+use Rattle.screen.specs.Laws.Code.Round.{turn-fails, turn-colon}
 use native.Mathlib.Omega.{arith}
 use borrow.Author.Needs.{needs}
 use Rattle.screen.proofs.rounds.colon.Statement.{statement}
@@ -70,7 +70,8 @@ add-counted c =
 
 counted-requires : tie.Need-counted-requires
 counted-requires c κs =
-    let c₁ = c .before .before .before .before .before .before .before .before .before .before .before .before .before .before in
+    let c₁ = c .before .before .before .before .before .before .before .before .before .before .before .before in
+    let c₁ = c₁ .before .before in
     let c₂ = c₁ .before .before .before .before .before .before .before .before .before .before .before .before .before in
     c₂ .pre .5
 

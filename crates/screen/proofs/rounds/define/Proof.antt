@@ -1,8 +1,8 @@
 use mathlib.Core.Path.{_∙_}
 use denote.Ref.{now}
-use Rattle.cells.specs.Facts.{not-on, not-off}
-use Rattle.screen.specs.Model.{board}
-use Rattle.screen.specs.RoundLaws.{turn-fails, new-few, new-so, define-old, define-colon, turn-value}
+use Rattle.cells.specs.Laws.Facts.{not-on, not-off}
+use Rattle.screen.specs.Laws.Found.Model.{board}
+use Rattle.screen.specs.Laws.Code.Round.{turn-fails, new-few, new-so, define-old, define-colon, turn-value}
 use native.Mathlib.Omega.{arith}
 use borrow.Author.Needs.{needs}
 use Rattle.screen.proofs.rounds.define.Statement.{statement}

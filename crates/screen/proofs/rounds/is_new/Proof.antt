@@ -8,5 +8,7 @@ is-new-spec =
     tie.close
     (tie.spec
     (λ c κs. search needs)
-    (λ c. rw (← c .before .before .kind-of .ensures, eq-eqb _ _ (c .before .if1 .taken)))
+    (λ c.
+    let kind-of = c .before .before .kind-of in
+    rw (← kind-of .ensures, eq-eqb _ _ (c .before .if1 .taken)))
     (λ c. rw (← c .before .kind-of .ensures, ne-eqb _ _ (c .if1 .left))))

@@ -1,12 +1,16 @@
 use borrow.Author.Tests.{le-ltb}
-use Rattle.screen.specs.RoundLaws.{node-fails, node-new}
+use Rattle.screen.specs.Laws.Code.Round.{node-fails, node-new}
 use borrow.Author.Needs.{needs}
 use Rattle.screen.proofs.rounds.new_node.Statement.{statement}
 use Rattle.screen.proofs.rounds.new_node.Tie as tie
 
 returns-2 : tie.Need-returns-2
 returns-2 c =
-    node-new (c .before .before .before .before .args .stand) (c .before .before .if1 .left) (c .before .before .before .before .pre)
+    let if1 = c .before .before .if1 in
+    let c₁ = c .before .before .before .before in
+    let args = c₁ .args in
+    let pre = c₁ .pre in
+    node-new (args .stand) (if1 .left) (pre)
 
 pub new-node-spec : {M : Type 1} → statement M
 new-node-spec =

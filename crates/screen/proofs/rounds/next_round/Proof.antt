@@ -1,8 +1,8 @@
 use mathlib.Core.Path.{sym, _∙_, refl}
 use mathlib.Core.Bool.{false}
 use denote.Ref.{now}
-use Rattle.cells.specs.Facts.{not-on, not-off}
-use Rattle.screen.specs.RoundLaws.{defining, behind-refused, behind-ends, behind-fails, behind-goes}
+use Rattle.cells.specs.Laws.Facts.{not-on, not-off}
+use Rattle.screen.specs.Laws.Code.Round.{defining, behind-refused, behind-ends, behind-fails, behind-goes}
 use borrow.Author.Needs.{needs}
 use Rattle.screen.proofs.rounds.next_round.Statement.{statement}
 use Rattle.screen.proofs.rounds.next_round.Tie as tie
@@ -30,9 +30,10 @@ advance-requires c κs =
 
 returns-2 : tie.Need-returns-2
 returns-2 c =
+    let read-at = c .before .before .read-at in
     let a = c .before .before .before .before .before .before .before .args in
     λ go. behind-refused (now (a .rom)) (a .length) (now (a .seen)) (now (a .kinds)) (now (a .sums)) (a .stand) (a .far) _
-    (sym (c .before .before .read-at .ensures) ∙ c .enum-told .given .1) go
+    (sym (read-at .ensures) ∙ c .enum-told .given .1) go
 
 returns-3 : tie.Need-returns-3
 returns-3 c =

@@ -1,6 +1,6 @@
 use denote.Ref.{now}
-use Rattle.cells.specs.Facts.{not-on, not-off}
-use Rattle.screen.specs.RoundLaws.{round-far, round-lost, round-walked}
+use Rattle.cells.specs.Laws.Facts.{not-on, not-off}
+use Rattle.screen.specs.Laws.Code.Round.{round-far, round-lost, round-walked}
 use native.Mathlib.Omega.{arith}
 use borrow.Author.Needs.{needs}
 use Rattle.screen.proofs.rounds.walk_round.Statement.{statement}
@@ -8,8 +8,9 @@ use Rattle.screen.proofs.rounds.walk_round.Tie as tie
 
 walk-from-requires : tie.Need-walk-from-requires
 walk-from-requires c κs =
+    let outside = c .before .before .outside in
     let p = c .before .before .before .before .before .before .before .pre in
-    (p .0, rw (c .before .before .outside .ensures) (record { tables = p .1; some = p .2 .some; unlike = p .2 .real }))
+    (p .0, rw (outside .ensures) (record { tables = p .1; some = p .2 .some; unlike = p .2 .real }))
 
 returns : tie.Need-returns
 returns c =

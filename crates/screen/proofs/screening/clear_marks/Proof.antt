@@ -2,7 +2,7 @@ use Prim.Native.Nat.{ℕ, _-_}
 use mathlib.Core.Path.{_≡_, refl}
 use denote.Ref.{now}
 use lib.ListN.{length, length-set}
-use Rattle.screen.specs.ScreenLaws.{Filled, filled-none, filled-more, filled-zeros}
+use Rattle.screen.specs.Laws.Code.Screen.{Filled, filled-none, filled-more, filled-zeros}
 use native.Mathlib.Omega.{arith}
 use borrow.Author.Needs.{needs}
 use Rattle.screen.proofs.screening.clear_marks.Statement.{statement}
@@ -29,9 +29,10 @@ loop-again c =
 
 returns : tie.Need-returns Inv-loop μ-loop
 returns c =
+    let args = c .before .before .args in
     let l = c .before .loop .inv .0 in
     let t = c .loop-test .left in
-    filled-zeros (length (now (c .before .before .args .marks))) (c .before .loop .marks) (c .before .loop .i) l (omega arith)
+    filled-zeros (length (now (args .marks))) (c .before .loop .marks) (c .before .loop .i) l (omega arith)
     (c .before .loop .inv .1)
 
 pub clear-marks-spec : {M : Type 1} → statement M

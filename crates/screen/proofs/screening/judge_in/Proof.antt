@@ -1,6 +1,7 @@
 use mathlib.Core.Path.{refl}
 use denote.Ref.{now}
-use Rattle.screen.specs.ScreenLaws.{judging-tables, judging-low, judge-passes, judge-refuses}
+use Rattle.screen.specs.Laws.Code.Screen.{judging-tables, judging-low, judge-passes, judge-refuses}
+use Rattle.screen.specs.Laws.Found.Cell.{first-cell}
 use native.Mathlib.Omega.{arith}
 use borrow.Author.Needs.{needs}
 use Rattle.screen.proofs.screening.judge_in.Statement.{statement}
@@ -37,7 +38,8 @@ returns c =
     let c₅ = c₄ .before .before .before .before .before .before in
     let a = c₅ .args in
     let k = c₅ .pre in
-    judge-passes (now (a .rom)) (now (a .marks)) _ _ _ _ (k .size) (rw (k .clear, c₄ .wide-start .ensures) refl) (c₃ .all-rounds .ensures)
+    judge-passes (now (a .rom)) (now (a .marks)) _ _ _ _ (k .size) (rw (k .clear, c₄ .wide-start .ensures, ← first-cell) refl)
+    (c₃ .all-rounds .ensures)
     (c₂ .if1 .taken) _ (c₁ .lay-marks .ensures)
 
 returns-2 : tie.Need-returns-2
@@ -49,7 +51,7 @@ returns-2 c =
     let c₅ = c₄ .before .before .before .before .before .before in
     let a = c₅ .args in
     let k = c₅ .pre in
-    judge-refuses (now (a .rom)) (now (a .marks)) _ _ _ _ (k .size) (rw (k .clear, c₄ .wide-start .ensures) refl)
+    judge-refuses (now (a .rom)) (now (a .marks)) _ _ _ _ (k .size) (rw (k .clear, c₄ .wide-start .ensures, ← first-cell) refl)
     (c₃ .all-rounds .ensures) (c₂ .if1 .left) _ (c₁ .clear-marks .ensures)
 
 pub judge-in-spec : {M : Type 1} → statement M

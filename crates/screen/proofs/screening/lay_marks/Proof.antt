@@ -2,8 +2,8 @@ use Prim.Native.Nat.{_-_, _≤_}
 use mathlib.Core.Path.{_≡_, refl, _∙_}
 use denote.Ref.{now}
 use lib.ListN.{length, getD, length-set}
-use Rattle.screen.specs.Model.{markIn}
-use Rattle.screen.specs.ScreenLaws.{Filled, filled-none, filled-more, filled-laid, mark-behind}
+use Rattle.screen.specs.Laws.Code.Screen.{Filled, filled-none, filled-more, filled-laid, mark-behind}
+use Rattle.screen.specs.Laws.Found.Cell.{markIn}
 use native.Mathlib.Omega.{arith}
 use borrow.Author.Needs.{needs}
 use Rattle.screen.proofs.screening.lay_marks.Statement.{statement}
@@ -23,22 +23,29 @@ abbrev μ-loop2 : tie.MeasureT-loop2
 
 slice-write-marks : tie.Need-slice-write-marks Inv-loop μ-loop Inv-loop2 μ-loop2
 slice-write-marks c =
-    let t = c .before .before .loop-test .taken in
-    let l = c .before .before .before .loop .inv .0 in
-    let p = c .before .before .before .before .before .before .pre .0 in
+    let loop-test = c .before .before .loop-test in
+    let loop = c .before .before .before .loop in
+    let pre = c .before .before .before .before .before .before .pre in
+    let t = loop-test .taken in
+    let l = loop .inv .0 in
+    let p = pre .0 in
     omega arith
 
 loop-less : tie.Need-loop-less Inv-loop μ-loop Inv-loop2 μ-loop2
 loop-less c =
-    let t = c .before .before .loop-test .taken in
+    let loop-test = c .before .before .loop-test in
+    let t = loop-test .taken in
     omega arith
 
 loop-again : tie.Need-loop-again Inv-loop μ-loop Inv-loop2 μ-loop2
 loop-again c =
-    let t = c .before .before .loop-test .taken in
-    let l = c .before .before .before .loop .inv .0 in
-    let p = c .before .before .before .before .before .before .pre .0 in
-    (simp length-set l, omega arith, filled-more _ _ _ _ (omega arith) (c .mark-in .ensures) (c .before .before .before .loop .inv .2))
+    let loop-test = c .before .before .loop-test in
+    let loop = c .before .before .before .loop in
+    let pre = c .before .before .before .before .before .before .pre in
+    let t = loop-test .taken in
+    let l = loop .inv .0 in
+    let p = pre .0 in
+    (simp length-set l, omega arith, filled-more _ _ _ _ (omega arith) (c .mark-in .ensures) (loop .inv .2))
 
 loop2-less : tie.Need-loop2-less Inv-loop μ-loop Inv-loop2 μ-loop2
 loop2-less c =
@@ -48,20 +55,24 @@ loop2-less c =
 
 loop2-again : tie.Need-loop2-again Inv-loop μ-loop Inv-loop2 μ-loop2
 loop2-again c =
+    let args = c .before .before .before .before .before .before .args in
     let i = c .before .loop2 .inv in
     let t = c .loop2-test .taken in (
       simp length-set (i .0),
       omega arith,
       filled-more _ _ _ _ t
-          (mark-behind (now (c .before .before .before .before .before .before .args .seen)) _ (i .1)) (i .2),
+          (mark-behind (now (args .seen)) _ (i .1)) (i .2),
     )
 
 returns : tie.Need-returns Inv-loop μ-loop Inv-loop2 μ-loop2
 returns c =
+    let loop = c .before .before .before .loop in
+    let c₁ = c .before .before .before .before .before .before in
+    let args = c₁ .args in
     let i = c .before .loop2 .inv in
-    let p = c .before .before .before .before .before .before .pre in
-    let l = c .before .before .before .loop .inv .0 in
-    filled-laid (now (c .before .before .before .before .before .before .args .seen)) (c .before .loop2 .marks) (c .before .loop2 .i)
+    let p = c₁ .pre in
+    let l = loop .inv .0 in
+    filled-laid (now (args .seen)) (c .before .loop2 .marks) (c .before .loop2 .i)
     (omega arith) (i .0 ∙ l ∙ p .1) (c .loop2-test .left) (i .2)
 
 pub lay-marks-spec : {M : Type 1} → statement M
@@ -85,5 +96,7 @@ lay-marks-spec =
     (λ c. search needs)
     loop2-less
     loop2-again
-    (λ c. c .before .loop2 .inv .0 ∙ c .before .before .before .loop .inv .0)
+    (λ c.
+    let loop = c .before .before .before .loop in
+    c .before .loop2 .inv .0 ∙ loop .inv .0)
     returns)

@@ -11,6 +11,10 @@ place-at-spec =
     (tie.spec
     (λ c. search needs)
     (λ c. search needs)
-    (λ c. omega (arith, c .shared-slice-known .given (c .before .before .args .at)))
-    (λ c. (search needs, omega (arith, c .shared-slice-known .given (c .before .before .args .at))))
+    (λ c.
+    let args = c .before .before .args in
+    omega (arith, c .shared-slice-known .given (args .at)))
+    (λ c.
+    let args = c .before .before .args in
+    (search needs, omega (arith, c .shared-slice-known .given (args .at))))
     (λ c. let a = c .before .args in (rw (List·getD-eq-default (now (a .work)) 0 {n = a .at} (search needs)), omega arith)))

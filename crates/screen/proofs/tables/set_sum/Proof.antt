@@ -15,4 +15,5 @@ set-sum-spec =
     (λ c. search needs)
     (λ c. search needs)
     (λ c. rw (← c .before .slot .ensures))
-    (λ c. let a = c .before .before .before .args in rw (← c .before .slot .ensures) (sym (set-out (now (a .sums)) (c .before .slot .result) (a .code) (search needs)))))
+    (λ c. let a = c .before .before .before .args in
+    rw (← c .before .slot .ensures) (sym (set-out (now (a .sums)) (c .before .slot .result) (a .code) (search needs)))))

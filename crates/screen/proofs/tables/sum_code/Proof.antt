@@ -12,5 +12,8 @@ sum-code-spec =
     (λ c. search needs)
     (λ c. search needs)
     (λ c. search needs)
-    (λ c. rw (← c .before .before .slot .ensures))
-    (λ c. let a = c .before .before .before .args in rw (← c .before .slot .ensures, List·getD-eq-default (now (a .sums)) 0 {n = c .before .slot .result} (search needs))))
+    (λ c.
+    let slot = c .before .before .slot in
+    rw (← slot .ensures))
+    (λ c. let a = c .before .before .before .args in
+    rw (← c .before .slot .ensures, List·getD-eq-default (now (a .sums)) 0 {n = c .before .slot .result} (search needs))))

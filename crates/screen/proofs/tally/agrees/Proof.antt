@@ -1,7 +1,6 @@
-use mathlib.Core.Bool.{and-false}
+use mathlib.Core.Bool.{and-false, and-true}
 use borrow.Author.Tests.{eq-eqb, ne-eqb}
 use native.Mathlib.Numerals.{add-one}
-use Rattle.screen.specs.CodeLaws.{and-true}
 use borrow.Author.Needs.{needs}
 use Rattle.screen.proofs.tally.agrees.Statement.{statement}
 use Rattle.screen.proofs.tally.agrees.Tie as tie

@@ -13,12 +13,16 @@ raised-spec =
     (λ c κs. search needs)
     (λ c κs. search needs)
     (λ c κs. search needs)
+    (λ c κs. search needs)
     (λ c.
+    let back-in = c .before .before .back-in in
+    let d = c .before .before .before in
     simp (
       c .larger4 .ensures,
       c .before .larger3 .ensures,
-      c .before .before .larger2 .ensures,
-      c .before .before .before .larger .ensures,
-      c .before .before .before .before .less .ensures,
-      c .before .before .before .before .before .height-in .ensures .0,
+      back-in .ensures .0,
+      d .larger2 .ensures,
+      d .before .larger .ensures,
+      d .before .before .less .ensures,
+      d .before .before .before .height-in .ensures .0,
     )))

@@ -1,7 +1,7 @@
 use mathlib.Core.Path.{refl, sym, ap, _∙_}
 use denote.Ref.{now}
-use Rattle.screen.specs.Model.{Visit}
-use Rattle.screen.specs.VisitLaws.{tallyIn, quick-seen}
+use Rattle.screen.specs.Laws.Found.Model.{Visit}
+use Rattle.screen.specs.Laws.Code.Visit.{tallyIn, quick-seen}
 use borrow.Author.Needs.{needs}
 use Rattle.screen.proofs.visiting.visit_at.Statement.{statement}
 use Rattle.screen.proofs.visiting.visit_at.Tie as tie
@@ -15,12 +15,14 @@ visit-at-spec =
     (λ c κs. search needs)
     (λ c κs. search needs)
     (λ c.
+    let takes-of = c .before .before .takes-of in
+    let if1 = c .before .before .before .if1 in
     let a = c .before .before .before .before .before .before .before .before .args in
     let q = c .before .before .before .before .before .quick-at in
     let s =
     quick-seen (now (a .rom)) (a .text) (now (a .kinds)) (now (a .sums)) (a .place) (a .cell) (tallyIn (a .tally)) (q .result)
-    (q .ensures .2 (c .before .before .before .if1 .taken)) in
-    let t = c .before .before .takes-of .ensures in
+    (q .ensures .2 (if1 .taken)) in
+    let t = takes-of .ensures in
     let v = rw t at (c .before .plain .ensures) in
     let y = rw t at (c .raised-in .ensures) in
     record { visit = v ∙ s .visit; tally = λ g. y ∙ s .tally (ap (λ (w : Visit). w .good) (sym v) ∙ g) })
@@ -28,8 +30,9 @@ visit-at-spec =
     (λ c κs. search needs)
     (λ c κs. search needs)
     (λ c.
+    let glance-from = c .before .before .glance-from in
     let a = c .before .before .before .before .before .before .before .before .args in
-    let g = sym (c .before .before .glance-from .ensures) in
+    let g = sym (glance-from .ensures) in
     let v = c .before .visit-seen .ensures (now (a .rom)) (a .place) g in
     record {
       visit = v;

@@ -1,6 +1,6 @@
 use native.Mathlib.Omega.{arith}
 use mathlib.Core.Path.{refl}
-use Rattle.screen.specs.WalkLaws.{kept-none, kept-place}
+use Rattle.screen.specs.Laws.Code.Walk.{kept-none, kept-place}
 use borrow.Author.Needs.{needs}
 use Rattle.screen.proofs.walking.kept.Statement.{statement}
 use Rattle.screen.proofs.walking.kept.Tie as tie

@@ -1,4 +1,4 @@
-use Rattle.screen.specs.WalkLaws.{off-fit, went-bad, went-first, went-second, went-on}
+use Rattle.screen.specs.Laws.Code.Walk.{off-fit, went-bad, went-first, went-second, went-on}
 use borrow.Author.Needs.{needs}
 use Rattle.screen.proofs.walking.onward.Statement.{statement}
 use Rattle.screen.proofs.walking.onward.Tie as tie

@@ -1,5 +1,5 @@
 use mathlib.Core.Path.{refl, sym, _∙_}
-use Rattle.screen.specs.WalkLaws.{came-low, came-past, came-room, came-new, came-same, came-clash}
+use Rattle.screen.specs.Laws.Code.Walk.{came-low, came-past, came-room, came-new, came-same, came-clash}
 use borrow.Author.Needs.{needs}
 use Rattle.screen.proofs.walking.put.Statement.{statement}
 use Rattle.screen.proofs.walking.put.Tie as tie
@@ -55,7 +55,8 @@ put-spec =
     let c₅ = c₄ .before .before .before .before in
     let a = c₅ .args in
     let p = c₅ .pre in
-    came-same (p .0) (a .place) (a .cell) (c₄ .if1 .left) (c₃ .if2 .left) (λ e. c₁ .if3 .left (e ∙ sym (c₂ .blank .ensures))) (c .if4 .taken))
+    came-same (p .0) (a .place) (a .cell) (c₄ .if1 .left) (c₃ .if2 .left) (λ e. c₁ .if3 .left (e ∙ sym (c₂ .blank .ensures)))
+    (c .if4 .taken))
     (λ c.
     let c₁ = c .before in
     let c₂ = c₁ .before in
@@ -66,4 +67,5 @@ put-spec =
     let a = c₆ .args in
     let p = c₆ .pre in
     rw (c .spoilt3 .ensures)
-    (came-clash (p .0) (a .place) (a .cell) (c₅ .if1 .left) (c₄ .if2 .left) (λ e. c₂ .if3 .left (e ∙ sym (c₃ .blank .ensures))) (c₁ .if4 .left))))
+    (came-clash (p .0) (a .place) (a .cell) (c₅ .if1 .left) (c₄ .if2 .left) (λ e. c₂ .if3 .left (e ∙ sym (c₃ .blank .ensures)))
+    (c₁ .if4 .left))))

@@ -1,4 +1,4 @@
-use Rattle.screen.specs.WalkLaws.{came-none, came-if}
+use Rattle.screen.specs.Laws.Code.Walk.{came-none, came-if}
 use borrow.Author.Needs.{needs}
 use Rattle.screen.proofs.walking.put_if.Statement.{statement}
 use Rattle.screen.proofs.walking.put_if.Tie as tie
@@ -7,7 +7,8 @@ pub put-if-spec : {M : Type 1} → statement M
 put-if-spec =
     tie.close
     (tie.spec
-    (λ c. let a = c .before .before .before .args in let p = c .before .before .before .pre in came-none (p .0) (a .place) (a .cell) (c .if1 .taken))
+    (λ c. let a = c .before .before .before .args in let p = c .before .before .before .pre in
+    came-none (p .0) (a .place) (a .cell) (c .if1 .taken))
     (λ c κs.
     let c₁ = c .before .before in
     let c₂ = c₁ .before .before .before in

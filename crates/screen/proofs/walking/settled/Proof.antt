@@ -1,6 +1,5 @@
-use Rattle.screen.specs.WalkLaws.{settled-same, settled-none, settled-next}
+use Rattle.screen.specs.Laws.Code.Walk.{settled-same, settled-none, settled-next}
 use mathlib.Core.Path.{refl}
-use native.Mathlib.Decide.{ℕ-discrete}
 use borrow.Author.Needs.{needs}
 use Rattle.screen.proofs.walking.settled.Statement.{statement}
 use Rattle.screen.proofs.walking.settled.Tie as tie

@@ -1,5 +1,5 @@
 use denote.Ref.{now}
-use Rattle.screen.specs.WalkLaws.{out-fit, end-so, from-so}
+use Rattle.screen.specs.Laws.Code.Walk.{out-fit, end-so, from-so}
 use borrow.Author.Needs.{needs}
 use Rattle.screen.proofs.walking.walk_from.Statement.{statement}
 use Rattle.screen.proofs.walking.walk_from.Tie as tie
@@ -30,4 +30,5 @@ walk-from-spec =
     let a = c₅ .args in
     let e = rw (c₄ .set-out .ensures) at (c₃ .put .ensures) in
     end-so
-    (from-so (now (a .rom)) (a .text) (now (a .kinds)) (now (a .sums)) (a .start) (a .cell) e (c₂ .settled .ensures)) (c₁ .walk-on .ensures)))
+    (from-so (now (a .rom)) (a .text) (now (a .kinds)) (now (a .sums)) (a .start) (a .cell) e (c₂ .settled .ensures))
+    (c₁ .walk-on .ensures)))

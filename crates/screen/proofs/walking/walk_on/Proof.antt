@@ -2,9 +2,9 @@ use mathlib.Core.Path.{_≡_, refl, _∙_}
 use lib.ListN.{length as len}
 use native.Mathlib.Omega.{arith}
 use Rattle.rom.specs.Sizes.{romMost}
-use Rattle.screen.specs.Model.{noTally, walkOf}
-use Rattle.screen.specs.VisitLaws.{tallyIn}
-use Rattle.screen.specs.WalkLaws.{Walks, pathOf, walks-first, walks-lost, walks-ended, walks-spent, behind-real, walks-turn}
+use Rattle.screen.specs.Laws.Found.Model.{noTally, walkSteps}
+use Rattle.screen.specs.Laws.Code.Visit.{tallyIn}
+use Rattle.screen.specs.Laws.Code.Walk.{Walks, pathOf, walks-first, walks-lost, walks-ended, walks-spent, behind-real, walks-turn}
 use borrow.Author.Needs.{needs}
 use Rattle.screen.proofs.walking.walk_on.Statement.{statement}
 use Rattle.screen.proofs.walking.walk_on.Tie as tie
@@ -13,7 +13,7 @@ use Rattle.screen.proofs.walking.walk_on.Tie as tie
 abbrev Inv-loop : tie.InvT-loop
 Inv-loop codes rom text kinds sums seen₀ work₀ way₀ tally₀ left₀ seen work way tally left =
     ((len seen ≡ len seen₀) × (len work ≡ len work₀))
-    × Walks rom text kinds sums (walkOf rom text kinds sums romMost (pathOf seen₀ work₀ way₀ noTally)) left seen work way (tallyIn tally)
+    × Walks rom text kinds sums (walkSteps rom text kinds sums romMost (pathOf seen₀ work₀ way₀ noTally)) left seen work way (tallyIn tally)
 
 abbrev μ-loop : tie.MeasureT-loop
 μ-loop codes rom text kinds sums seen₀ work₀ way₀ tally₀ left₀ seen work way tally left = left
@@ -85,6 +85,12 @@ walk-on-spec =
       walks-turn _ _ _ _ (k .1) (c₅ .if1 .taken) (c₄ .if2 .left) _ _ (c₂ .visit-at .ensures) (omega arith) (c₁ .onward .ensures),
     ))
     (λ c κs. search needs)
-    (λ c. c .before .before .before .loop .inv .0 .0)
-    (λ c. c .before .before .before .loop .inv .0 .1)
-    (λ c. walks-lost _ _ _ _ (c .before .before .before .loop .inv .1) _ _ (c .ended3 .ensures .0) (c .before .if1 .left)))
+    (λ c.
+    let loop = c .before .before .before .loop in
+    loop .inv .0 .0)
+    (λ c.
+    let loop = c .before .before .before .loop in
+    loop .inv .0 .1)
+    (λ c.
+    let loop = c .before .before .before .loop in
+    walks-lost _ _ _ _ (loop .inv .1) _ _ (c .ended3 .ensures .0) (c .before .if1 .left)))

@@ -9,5 +9,7 @@ base-spec =
     (tie.spec
     (λ c. search needs)
     (λ c κs. search needs)
-    (λ c. rw (lt-ltb _ _ (c .before .before .if1 .taken)) (c .base-at .ensures))
+    (λ c.
+    let if1 = c .before .before .if1 in
+    rw (lt-ltb _ _ (if1 .taken)) (c .base-at .ensures))
     (λ c. rw (le-ltb _ _ (c .if1 .left))))

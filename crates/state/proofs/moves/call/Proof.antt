@@ -1,4 +1,4 @@
-use Rattle.state.specs.Moves.{callOf}
+use Rattle.state.specs.Joints.Moves.{callOf}
 use borrow.Author.Tests.{lt-ltb, le-ltb}
 use borrow.Author.Needs.{needs}
 use Rattle.state.proofs.moves.call.Statement.{statement}

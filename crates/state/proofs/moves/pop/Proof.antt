@@ -1,4 +1,4 @@
-use Rattle.state.specs.Moves.{popOf}
+use Rattle.state.specs.Joints.Moves.{popOf}
 use borrow.Author.Tests.{eq-eqb, ne-eqb}
 use native.Mathlib.Nat.{sub-zero}
 use borrow.Author.Needs.{needs}
@@ -14,4 +14,6 @@ pop-spec =
     (λ c. search needs)
     (λ c. search needs)
     (λ c κs. search needs)
-    (λ c. λ a. simp (ne-eqb _ _ (c .before .before .if1 .left), c .entry .ensures, sub-zero)))
+    (λ c.
+    let if1 = c .before .before .if1 in
+    λ a. simp (ne-eqb _ _ (if1 .left), c .entry .ensures, sub-zero)))

@@ -1,4 +1,4 @@
-use Rattle.state.specs.Moves.{pushOf}
+use Rattle.state.specs.Joints.Moves.{pushOf}
 use borrow.Author.Tests.{lt-ltb, le-ltb}
 use borrow.Author.Needs.{needs}
 use Rattle.state.proofs.moves.push.Statement.{statement}

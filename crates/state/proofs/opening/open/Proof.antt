@@ -3,6 +3,7 @@ use mathlib.Core.Path.{sym, _∙_}
 use Rattle.state.proofs.Opened.{all-zero, bad-work, bad-store, bad-header, good-header}
 use borrow.Author.Needs.{needs}
 use Rattle.state.proofs.opening.open.Statement.{statement}
+use Rattle.rom.specs.Sizes.{workSize, storeSize}
 use Rattle.state.proofs.opening.open.Tie as tie
 
 pub open-spec : {M : Type 1} → statement M
@@ -11,14 +12,30 @@ open-spec =
     (tie.spec
     (λ c κs. search needs)
     (λ c κs. search needs)
-    (λ c. let a = c .before .before .before .before .before .before .args in rw (c .refused .ensures, c .before .zero-state .ensures) (bad-work (now (a .rom)) (now (a .work)) (now (a .store)) (c .before .before .if1 .taken)))
+    (λ c.
+    let if1 = c .before .before .if1 in
+    let a = c .before .before .before .before .before .before .args in
+    rw (c .refused .ensures, c .before .zero-state .ensures) (bad-work (now (a .rom)) (now (a .work)) (now (a .store)) (if1 .taken)))
     (λ c κs. search needs)
     (λ c κs. search needs)
-    (λ c. let a = c .before .before .before .before .before .before .before .args in rw (c .refused2 .ensures, c .before .zero-state2 .ensures) (bad-store (now (a .rom)) (now (a .work)) (now (a .store)) (c .before .before .before .if1 .left) (c .before .before .if2 .taken)))
+    (λ c.
+    let if2 = c .before .before .if2 in
+    let if1 = c .before .before .before .if1 in
+    let a = c .before .before .before .before .before .before .before .args in
+    rw (c .refused2 .ensures, c .before .zero-state2 .ensures)
+    (bad-store (now (a .rom)) (now (a .work)) (now (a .store)) (if1 .left) (if2 .taken)))
     (λ c κs. search needs)
     (λ c κs. search needs)
     (λ c κs. search needs)
-    (λ c. let a = c .before .before .before .before .before .before .before .before .before .args in rw (c .refused3 .ensures, c .before .zero-state3 .ensures) (bad-header (now (a .rom)) (now (a .work)) (now (a .store)) (c .before .before .before .before .before .if1 .left) (c .before .before .before .before .if2 .left) (c .before .before .before .check-header .result) (c .before .before .before .check-header .ensures) (c .before .before .if3 .taken)))
+    (λ c.
+    let if3 = c .before .before .if3 in
+    let check-header = c .before .before .before .check-header in
+    let if2 = c .before .before .before .before .if2 in
+    let if1 = c .before .before .before .before .before .if1 in
+    let a = c .before .before .before .before .before .before .before .before .before .args in
+    rw (c .refused3 .ensures, c .before .zero-state3 .ensures)
+    (bad-header (now (a .rom)) (now (a .work)) (now (a .store)) (if1 .left) (if2 .left) (check-header .result) (check-header .ensures)
+    (if3 .taken)))
     (λ c κs. search needs)
     (λ c κs. search needs)
     (λ c κs. search needs)
@@ -28,4 +45,27 @@ open-spec =
     (λ c κs. search needs)
     (λ c. search needs)
     (λ c. search needs)
-    (λ c. let a = c .before .before .before .before .before .before .before .before .before .before .before .before .before .before .before .before .before .before .before .before .args in rw (c .going .ensures, c .before .empty-state .ensures, c .before .before .fresh-tree .ensures, c .before .before .before .wide-start .ensures, c .before .before .before .before .program-length .ensures, c .before .before .before .before .before .before .before .before .before .before .before .clear-from .ensures, c .before .before .before .before .before .before .before .clear-from2 .ensures, all-zero (now (a .work)) 16384 (c .before .before .before .before .before .before .before .before .before .before .before .before .before .before .before .before .if1 .left), all-zero (now (a .store)) 16384 (c .before .before .before .before .before .before .before .before .before .before .before .before .before .before .before .if2 .left)) (good-header (now (a .rom)) (now (a .work)) (now (a .store)) (c .before .before .before .before .before .before .before .before .before .before .before .before .before .before .before .before .if1 .left) (c .before .before .before .before .before .before .before .before .before .before .before .before .before .before .before .if2 .left) (sym (c .before .before .before .before .before .before .before .before .before .before .before .before .before .before .check-header .ensures) ∙ c .before .before .before .before .before .before .before .before .before .before .before .before .before .if3 .left))))
+    (λ c.
+    let fresh-tree = c .before .before .fresh-tree in
+    let wide-start = c .before .before .before .wide-start in
+    let program-length = c .before .before .before .before .program-length in
+    let clear-from2 = c .before .before .before .before .before .before .before .clear-from2 in
+    let clear-from = c .before .before .before .before .before .before .before .before .before .before .before .clear-from in
+    let c₁ = c .before .before .before .before .before .before .before .before .before .before .before .before in
+    let if3 = c₁ .before .if3 in
+    let check-header = c₁ .before .before .check-header in
+    let if2 = c₁ .before .before .before .if2 in
+    let if1 = c₁ .before .before .before .before .if1 in
+    let a = c₁ .before .before .before .before .before .before .before .before .args in
+    rw (
+      c .going .ensures,
+      c .before .empty-state .ensures,
+      fresh-tree .ensures,
+      wide-start .ensures,
+      program-length .ensures,
+      clear-from .ensures,
+      clear-from2 .ensures,
+      all-zero (now (a .work)) workSize (if1 .left),
+      all-zero (now (a .store)) storeSize (if2 .left),
+    )
+    (good-header (now (a .rom)) (now (a .work)) (now (a .store)) (if1 .left) (if2 .left) (sym (check-header .ensures) ∙ if3 .left))))

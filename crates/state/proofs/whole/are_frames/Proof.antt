@@ -26,8 +26,20 @@ are-frames-spec =
     (λ c. simp (lt-leb _ _ (c .if1 .taken)))
     (λ c. (search needs, none-yet _))
     (λ c κs. search needs)
-    (λ c. let a = c .before .before .before .before .before .before .before .args in rw (le-leb _ _ (c .before .before .before .before .before .if1 .left)) (one-fails (a .calls .count) (frameWhole (a .length) (a .calls) (a .returns)) _ _ (c .before .before .if2 .taken) (c .before .is-frame .ensures) (c .if3 .taken)))
+    (λ c.
+    let if2 = c .before .before .if2 in
+    let if1 = c .before .before .before .before .before .if1 in
+    let a = c .before .before .before .before .before .before .before .args in
+    rw (le-leb _ _ (if1 .left)) (one-fails (a .calls .count) (frameWhole (a .length) (a .calls) (a .returns)) _ _ (if2 .taken)
+    (c .before .is-frame .ensures) (c .if3 .taken)))
     (λ c. search needs)
     (λ c. omega arith)
-    (λ c. (search needs, one-more _ _ _ (c .before .before .before .before .loop .inv .1) (c .before .is-frame .ensures) (c .if3 .left)))
-    (λ c. let a = c .before .before .before .before .before .args in rw (le-leb _ _ (c .before .before .before .if1 .left)) (all-hold (a .calls .count) _ (frameWhole (a .length) (a .calls) (a .returns)) (c .before .before .loop .inv .0) (c .if2 .left) (c .before .before .loop .inv .1))))
+    (λ c.
+    let loop = c .before .before .before .before .loop in
+    (search needs, one-more _ _ _ (loop .inv .1) (c .before .is-frame .ensures) (c .if3 .left)))
+    (λ c.
+    let loop = c .before .before .loop in
+    let if1 = c .before .before .before .if1 in
+    let a = c .before .before .before .before .before .args in
+    rw (le-leb _ _ (if1 .left)) (all-hold (a .calls .count) _ (frameWhole (a .length) (a .calls) (a .returns)) (loop .inv .0) (c .if2 .left)
+    (loop .inv .1))))

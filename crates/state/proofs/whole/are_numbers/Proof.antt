@@ -5,7 +5,7 @@ use mathlib.Core.List.{[]}
 use native.Mathlib.Omega.{arith}
 use borrow.Author.Tests.{lt-leb, le-leb}
 use Rattle.tree.specs.Whole.{everyBelow}
-use Rattle.state.specs.Apart.{numbersOn}
+use Rattle.state.specs.Numbers.{numbersOn}
 use Rattle.state.specs.Whole.{entryWhole, numbersWhole}
 use Rattle.state.proofs.Wholes.{one-fails, one-more, none-yet, all-hold, same-entry}
 use borrow.Author.Needs.{needs}
@@ -13,11 +13,11 @@ use Rattle.state.proofs.whole.are_numbers.Statement.{statement}
 use Rattle.state.proofs.whole.are_numbers.Tie as tie
 
 abbrev Inv-loop : tie.InvT-loop
-Inv-loop length count names kinds values i₀ i =
-    (i ≤ count) × (everyBelow i (entryWhole length (numbersOn names kinds values [] count)) ≡ true)
+Inv-loop length count programs kinds values i₀ i =
+    (i ≤ count) × (everyBelow i (entryWhole length (numbersOn programs kinds values [] count)) ≡ true)
 
 abbrev μ-loop : tie.MeasureT-loop
-μ-loop length count names kinds values i₀ i = count - i
+μ-loop length count programs kinds values i₀ i = count - i
 
 pub are-numbers-spec : {M : Type 1} → statement M
 unfolding numbersWhole

@@ -8,7 +8,9 @@ use Rattle.tokens.proofs.body.kind_of.Tie as tie
 
 -- a program's number has its place in the list
 range : (c : tie.Then1) → (0x800 ≤ c .before .before .args .number) × (c .before .before .args .number ≤ 0xFFF)
-range c = bounds 0x800 0xFFF (c .before .before .args .number) (sym (c .before .is-program .ensures) ∙ c .if1 .taken)
+range c =
+    let args = c .before .before .args in
+    bounds 0x800 0xFFF (args .number) (sym (c .before .is-program .ensures) ∙ c .if1 .taken)
 
 pub kind-of-spec : {M : Type 1} → statement M
 kind-of-spec =
@@ -18,5 +20,7 @@ kind-of-spec =
     (λ c. range c .0)
     (λ c. search needs)
     (λ c. let r = range c in omega arith)
-    (λ c. rw (← c .before .before .is-program .ensures, c .before .if1 .taken))
+    (λ c.
+    let is-program = c .before .before .is-program in
+    rw (← is-program .ensures, c .before .if1 .taken))
     (λ c. rw (← c .before .is-program .ensures, c .if1 .left)))

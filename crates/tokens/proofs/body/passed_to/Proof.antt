@@ -13,5 +13,17 @@ passed-to-spec =
     (λ c κs. search needs)
     (λ c κs. search needs)
     (λ c κs. search needs)
-    (λ c. let a = c .before .before .before .before .before .args in λ wide. c .behind-number .ensures .0 ∙ value-passed (now (a .rom)) wide (now (a .kinds)) (a .place) _ refl (c .before .before .before .before .before .pre) (rw (← c .before .before .before .number-at .ensures, ← c .before .before .kind-of .ensures) (c .before .if1 .taken)))
-    (λ c. let a = c .before .before .before .before .args in λ wide. other-passed (now (a .rom)) wide (now (a .kinds)) (a .place) _ refl (c .before .before .before .before .pre) (rw (← c .before .before .number-at .ensures, ← c .before .kind-of .ensures) (c .if1 .left))))
+    (λ c.
+    let kind-of = c .before .before .kind-of in
+    let number-at = c .before .before .before .number-at in
+    let c₁ = c .before .before .before .before .before in
+    let pre = c₁ .pre in
+    let a = c₁ .args in λ wide. c .behind-number .ensures .0
+    ∙ value-passed (now (a .rom)) wide (now (a .kinds)) (a .place) _ refl (pre)
+    (rw (← number-at .ensures, ← kind-of .ensures) (c .before .if1 .taken)))
+    (λ c.
+    let number-at = c .before .before .number-at in
+    let c₁ = c .before .before .before .before in
+    let pre = c₁ .pre in
+    let a = c₁ .args in λ wide. other-passed (now (a .rom)) wide (now (a .kinds)) (a .place) _ refl (pre)
+    (rw (← number-at .ensures, ← c .before .kind-of .ensures) (c .if1 .left))))

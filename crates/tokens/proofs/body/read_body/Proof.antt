@@ -24,7 +24,21 @@ read-body-spec =
     (λ c. refl)
     (λ c κs. search needs)
     (λ c κs. search needs)
-    (λ c. let a = c .before .before .before .before .before .args in c .stopped .ensures ∙ sym (passed-not (now (a .rom)) (a .length) (a .wide) (c .before .before .before .loop .at) (now (a .kinds)) (rw (← c .before .before .passed .ensures) (c .before .if1 .taken))) ∙ c .before .before .before .loop .inv)
+    (λ c.
+    let passed = c .before .before .passed in
+    let loop = c .before .before .before .loop in
+    let a = c .before .before .before .before .before .args in
+    c .stopped .ensures
+    ∙ sym (passed-not (now (a .rom)) (a .length) (a .wide) (loop .at) (now (a .kinds)) (rw (← passed .ensures) (c .before .if1 .taken)))
+    ∙ loop .inv)
     (λ c. search needs)
-    (λ c. let a = c .before .before .before .before .args in let n = passed-on (now (a .rom)) (a .length) (a .wide) (c .before .before .loop .at) (now (a .kinds)) (search needs) (rw (← c .before .passed .ensures) (c .if1 .left)) in let l = rw (← c .before .passed .ensures) at (n .0) in omega arith)
-    (λ c. let a = c .before .before .before .before .args in let n = passed-on (now (a .rom)) (a .length) (a .wide) (c .before .before .loop .at) (now (a .kinds)) (search needs) (rw (← c .before .passed .ensures) (c .if1 .left)) in rw (c .before .passed .ensures) (sym (n .1) ∙ c .before .before .loop .inv)))
+    (λ c.
+    let loop = c .before .before .loop in
+    let a = c .before .before .before .before .args in
+    let n = passed-on (now (a .rom)) (a .length) (a .wide) (loop .at) (now (a .kinds)) (search needs)
+    (rw (← c .before .passed .ensures) (c .if1 .left)) in let l = rw (← c .before .passed .ensures) at (n .0) in omega arith)
+    (λ c.
+    let loop = c .before .before .loop in
+    let a = c .before .before .before .before .args in
+    let n = passed-on (now (a .rom)) (a .length) (a .wide) (loop .at) (now (a .kinds)) (search needs)
+    (rw (← c .before .passed .ensures) (c .if1 .left)) in rw (c .before .passed .ensures) (sym (n .1) ∙ loop .inv)))

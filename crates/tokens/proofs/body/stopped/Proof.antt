@@ -10,9 +10,18 @@ stopped-spec =
     tie.close
     (tie.spec
     (λ c κs. search needs)
-    (λ c. let a = c .before .before .before .args in ends-here (now (a .rom)) (a .length) (a .wide) (a .place) (sym (c .before .ends-at .ensures) ∙ c .if1 .taken))
+    (λ c. let a = c .before .before .before .args in
+    ends-here (now (a .rom)) (a .length) (a .wide) (a .place) (sym (c .before .ends-at .ensures) ∙ c .if1 .taken))
     (λ c κs. search needs)
     (λ c. search needs)
     (λ c. search needs)
-    (λ c. rw (← c .before .before .before .read-at .ensures, c .before .why .given .1))
-    (λ c. let a = c .before .before .before .before .before .before .args in let h = refused-here (now (a .rom)) (a .length) (a .wide) (a .place) (sym (c .before .before .before .before .ends-at .ensures) ∙ c .before .before .before .if1 .left) in rw (← c .before .before .read-at .ensures, c .enum-told .given .1) (sym (rw (← c .before .before .read-at .ensures, c .enum-told .given .1) at h))))
+    (λ c.
+    let read-at = c .before .before .before .read-at in
+    rw (← read-at .ensures, c .before .why .given .1))
+    (λ c.
+    let read-at = c .before .before .read-at in
+    let if1 = c .before .before .before .if1 in
+    let ends-at = c .before .before .before .before .ends-at in
+    let a = c .before .before .before .before .before .before .args in
+    let h = refused-here (now (a .rom)) (a .length) (a .wide) (a .place) (sym (ends-at .ensures) ∙ if1 .left) in
+    rw (← read-at .ensures, c .enum-told .given .1) (sym (rw (← read-at .ensures, c .enum-told .given .1) at h))))

@@ -18,7 +18,16 @@ code-of-spec =
     (λ c. c .low .ensures)
     (λ c. c .high .ensures)
     (λ c. c .double-code .ensures)
-    (λ c. before-lows (c .before .before .args .number) (c .before .match .rest .0 .1) (search needs))
-    (λ c. before-highs (c .before .before .before .before .args .number) (search needs) (search needs))
-    (λ c. before-end (c .before .before .before .before .before .before .args .number) (c .before .before .before .before .before .match .rest .1) (search needs) (search needs))
-    (λ c. beyond (c .before .before .before .before .before .before .before .args .number) (search needs) (search needs)))
+    (λ c.
+    let args = c .before .before .args in
+    before-lows (args .number) (c .before .match .rest .0 .1) (search needs))
+    (λ c.
+    let args = c .before .before .before .before .args in
+    before-highs (args .number) (search needs) (search needs))
+    (λ c.
+    let match = c .before .before .before .before .before .match in
+    let args = c .before .before .before .before .before .before .args in
+    before-end (args .number) (match .rest .1) (search needs) (search needs))
+    (λ c.
+    let args = c .before .before .before .before .before .before .before .args in
+    beyond (args .number) (search needs) (search needs)))

@@ -10,5 +10,9 @@ double-code-spec =
     (λ c. a-program (c .before .args .number) (search needs) (search needs))
     (λ c κs. search needs)
     (λ c. c .double .ensures)
-    (λ c. before-doubles (c .before .before .args .number) (search needs) (search needs))
-    (λ c. before-programs (c .before .before .before .args .number) (search needs) (search needs)))
+    (λ c.
+    let args = c .before .before .args in
+    before-doubles (args .number) (search needs) (search needs))
+    (λ c.
+    let args = c .before .before .before .args in
+    before-programs (args .number) (search needs) (search needs)))

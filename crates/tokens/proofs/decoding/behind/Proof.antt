@@ -1,7 +1,7 @@
 use mathlib.Core.Path.{sym}
 use denote.Ref.{now}
 use borrow.Author.Needs.{needs}
-use Rattle.cells.specs.Tests.{find-none}
+use Rattle.cells.specs.Laws.Tests.{find-none}
 use Rattle.tokens.specs.Decode.{behinds, behindOf}
 use Rattle.tokens.proofs.decoding.behind.Statement.{statement}
 use Rattle.tokens.proofs.decoding.behind.Tie as tie
@@ -26,7 +26,8 @@ behind-spec =
     (λ c. (rw (c .before .match .keys4) (c .behind-number .ensures .0), search needs, search needs))
     (λ c. (rw (c .before .match .keys5, ← c .behind-number2 .ensures .0), search needs, search needs))
     (λ c.
-    (rw (c .before .before .match .keys6, ← c .before .behind-string2 .ensures .0, ← c .behind-number3 .ensures .0), search needs, search needs))
+    let match = c .before .before .match in
+    (rw (match .keys6, ← c .before .behind-string2 .ensures .0, ← c .behind-number3 .ensures .0), search needs, search needs))
     (λ c.
     let a = c .before .before .args in
     (sym (find-none (Unit {0}) (behinds (now (a .rom)) (a .wide) (a .at)) (a .at) (a .form) (c .match .rest)), search needs, search needs)))

@@ -10,5 +10,9 @@ behind-number-spec =
     (λ c κs. search needs)
     (λ c. search needs)
     (λ c. search needs)
-    (λ c. (rw (← c .before .before .byte .ensures, ← c .before .is-double .ensures, c .if1 .taken), search needs, search needs))
-    (λ c. (rw (← c .before .before .byte .ensures, ← c .before .is-double .ensures, c .if1 .left), search needs, search needs)))
+    (λ c.
+    let byte = c .before .before .byte in
+    (rw (← byte .ensures, ← c .before .is-double .ensures, c .if1 .taken), search needs, search needs))
+    (λ c.
+    let byte = c .before .before .byte in
+    (rw (← byte .ensures, ← c .before .is-double .ensures, c .if1 .left), search needs, search needs)))

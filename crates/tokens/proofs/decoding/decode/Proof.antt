@@ -36,8 +36,10 @@ decode-spec =
     (λ c.
     let o = c .before .before in
     let b = o .before .before in
-    is-whole (found b) (start b .args .length) (o .operand-at .result) (o .operand-at .ensures) (search needs) (sym (c .before .listed .ensures) ∙ c .if2 .taken))
+    is-whole (found b) (start b .args .length) (o .operand-at .result) (o .operand-at .ensures) (search needs)
+    (sym (c .before .listed .ensures) ∙ c .if2 .taken))
     (λ c.
     let o = c .before .before in
     let b = o .before .before in
-    is-unlisted (found b) (start b .args .length) (o .operand-at .result) (o .operand-at .ensures) (search needs) (sym (c .before .listed .ensures) ∙ c .if2 .left)))
+    is-unlisted (found b) (start b .args .length) (o .operand-at .result) (o .operand-at .ensures) (search needs)
+    (sym (c .before .listed .ensures) ∙ c .if2 .left)))

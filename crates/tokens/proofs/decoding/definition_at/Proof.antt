@@ -10,4 +10,6 @@ definition-at-spec =
     (λ c κs. search needs)
     (λ c κs. search needs)
     (λ c. search needs)
-    (λ c. rw (← c .before .before .number-at .ensures, ← c .before .behind-number .ensures .0, ← c .byte .ensures)))
+    (λ c.
+    let number-at = c .before .before .number-at in
+    rw (← number-at .ensures, ← c .before .behind-number .ensures .0, ← c .byte .ensures)))

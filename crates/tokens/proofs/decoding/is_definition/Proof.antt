@@ -8,5 +8,7 @@ is-definition-spec =
     (tie.spec
     (λ c κs. search needs)
     (λ c κs. search needs)
-    (λ c. rw (← c .before .before .is-program .ensures, c .before .if1 .taken) (c .is-kind .ensures))
+    (λ c.
+    let is-program = c .before .before .is-program in
+    rw (← is-program .ensures, c .before .if1 .taken) (c .is-kind .ensures))
     (λ c. rw (← c .before .is-program .ensures, c .if1 .left)))

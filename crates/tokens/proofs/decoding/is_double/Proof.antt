@@ -7,6 +7,10 @@ pub is-double-spec : {M : Type 1} → statement M
 is-double-spec =
     tie.close
     (tie.spec
-    (λ c. among 1 15 (c .before .before .args .first) (search needs) (search needs))
+    (λ c.
+    let args = c .before .before .args in
+    among 1 15 (args .first) (search needs) (search needs))
     (λ c. under 1 15 (c .before .args .first) (search needs))
-    (λ c. over 1 15 (c .before .before .args .first) (search needs) (search needs)))
+    (λ c.
+    let args = c .before .before .args in
+    over 1 15 (args .first) (search needs) (search needs)))

@@ -7,6 +7,10 @@ pub is-kind-spec : {M : Type 1} → statement M
 is-kind-spec =
     tie.close
     (tie.spec
-    (λ c. among 0xB7 0xBA (c .before .before .args .byte) (search needs) (search needs))
+    (λ c.
+    let args = c .before .before .args in
+    among 0xB7 0xBA (args .byte) (search needs) (search needs))
     (λ c. under 0xB7 0xBA (c .before .args .byte) (search needs))
-    (λ c. over 0xB7 0xBA (c .before .before .args .byte) (search needs) (search needs)))
+    (λ c.
+    let args = c .before .before .args in
+    over 0xB7 0xBA (args .byte) (search needs) (search needs)))

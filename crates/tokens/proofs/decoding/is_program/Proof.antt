@@ -7,6 +7,10 @@ pub is-program-spec : {M : Type 1} → statement M
 is-program-spec =
     tie.close
     (tie.spec
-    (λ c. among 0x800 0xFFF (c .before .before .args .number) (search needs) (search needs))
+    (λ c.
+    let args = c .before .before .args in
+    among 0x800 0xFFF (args .number) (search needs) (search needs))
     (λ c. under 0x800 0xFFF (c .before .args .number) (search needs))
-    (λ c. over 0x800 0xFFF (c .before .before .args .number) (search needs) (search needs)))
+    (λ c.
+    let args = c .before .before .args in
+    over 0x800 0xFFF (args .number) (search needs) (search needs)))

@@ -15,9 +15,22 @@ listed-spec =
     (λ c. search needs)
     (λ c. search needs)
     (λ c κs. search needs)
-    (λ c. rw (ne-eqb _ _ (c .before .before .if1 .left), c .enum-told .given .1))
-    (λ c. rw (ne-eqb _ _ (c .before .before .if1 .left), c .enum-told2 .given .1))
-    (λ c. rw (ne-eqb _ _ (c .before .before .if1 .left), c .enum-told3 .given .1))
-    (λ c. rw (ne-eqb _ _ (c .before .before .if1 .left), c .enum-told4 .given .1))
-    (λ c. rw (ne-eqb _ _ (c .before .before .if1 .left), c .enum-told5 .given .1))
-    (λ c. rw (ne-eqb _ _ (c .before .before .before .before .if1 .left), c .before .before .operand .given .1) (c .is-definition .ensures)))
+    (λ c.
+    let if1 = c .before .before .if1 in
+    rw (ne-eqb _ _ (if1 .left), c .enum-told .given .1))
+    (λ c.
+    let if1 = c .before .before .if1 in
+    rw (ne-eqb _ _ (if1 .left), c .enum-told2 .given .1))
+    (λ c.
+    let if1 = c .before .before .if1 in
+    rw (ne-eqb _ _ (if1 .left), c .enum-told3 .given .1))
+    (λ c.
+    let if1 = c .before .before .if1 in
+    rw (ne-eqb _ _ (if1 .left), c .enum-told4 .given .1))
+    (λ c.
+    let if1 = c .before .before .if1 in
+    rw (ne-eqb _ _ (if1 .left), c .enum-told5 .given .1))
+    (λ c.
+    let operand = c .before .before .operand in
+    let if1 = c .before .before .before .before .if1 in
+    rw (ne-eqb _ _ (if1 .left), operand .given .1) (c .is-definition .ensures)))

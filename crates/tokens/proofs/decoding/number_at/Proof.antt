@@ -18,4 +18,6 @@ number-at-spec =
     (λ c.
     let k = c .before in
     rw (← k .before .before .byte .ensures, ← k .before .is-double .ensures, k .if1 .taken, ← c .byte2 .ensures))
-    (λ c. rw (← c .before .before .byte .ensures, ← c .before .is-double .ensures, c .if1 .left)))
+    (λ c.
+    let byte = c .before .before .byte in
+    rw (← byte .ensures, ← c .before .is-double .ensures, c .if1 .left)))

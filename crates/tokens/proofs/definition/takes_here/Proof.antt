@@ -14,5 +14,9 @@ takes-here-spec =
     (λ c κs. search needs)
     (λ c κs. search needs)
     (λ c. search needs)
-    (λ c. (rw (← c .before .before .before .before .family-of .ensures, eq-eqb _ _ (c .before .before .before .if1 .taken), ← c .before .before .kind-in .ensures, ← c .before .code-of .ensures) (omega arith), omega arith))
+    (λ c.
+    let kind-in = c .before .before .kind-in in
+    let if1 = c .before .before .before .if1 in
+    let family-of = c .before .before .before .before .family-of in
+    (rw (← family-of .ensures, eq-eqb _ _ (if1 .taken), ← kind-in .ensures, ← c .before .code-of .ensures) (omega arith), omega arith))
     (λ c. (rw (← c .before .family-of .ensures, ne-eqb _ _ (c .if1 .left)) (omega arith), omega arith)))

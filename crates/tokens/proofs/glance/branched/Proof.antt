@@ -9,7 +9,11 @@ branched-spec =
     (tie.spec
     (λ c κs. search needs)
     (λ c κs. search needs)
-    (λ c. rw (← c .before .before .behind-offset .ensures .0, lt-ltb _ _ (c .before .if1 .taken)) (c .nothing .ensures))
+    (λ c.
+    let behind-offset = c .before .before .behind-offset in
+    rw (← behind-offset .ensures .0, lt-ltb _ _ (c .before .if1 .taken)) (c .nothing .ensures))
     (λ c. search needs)
     (λ c κs. search needs)
-    (λ c. rw (← c .before .before .behind-offset .ensures .0, le-ltb _ _ (c .before .if1 .left), ← c .destination .ensures)))
+    (λ c.
+    let behind-offset = c .before .before .behind-offset in
+    rw (← behind-offset .ensures .0, le-ltb _ _ (c .before .if1 .left), ← c .destination .ensures)))

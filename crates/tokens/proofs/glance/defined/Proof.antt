@@ -10,7 +10,9 @@ defined-spec =
     (λ c κs. search needs)
     (λ c. search needs)
     (λ c κs. search needs)
-    (λ c. rw (← c .before .before .behind-number .ensures .0, lt-ltb _ _ (c .before .if1 .taken)) (c .nothing .ensures))
+    (λ c.
+    let behind-number = c .before .before .behind-number in
+    rw (← behind-number .ensures .0, lt-ltb _ _ (c .before .if1 .taken)) (c .nothing .ensures))
     (λ c κs. search needs)
     (λ c κs. search needs)
     (λ c. search needs)
@@ -18,5 +20,30 @@ defined-spec =
     (λ c. search needs)
     (λ c. search needs)
     (λ c κs. search needs)
-    (λ c. rw (← c .before .before .before .before .before .behind-number .ensures .0, le-ltb _ _ (c .before .before .before .before .if1 .left), ← c .before .before .before .number-at .ensures, ← c .before .before .byte .ensures, ← c .before .is-definition .ensures, c .if2 .taken))
-    (λ c. rw (← c .before .before .before .before .before .before .behind-number .ensures .0, le-ltb _ _ (c .before .before .before .before .before .if1 .left), ← c .before .before .before .before .number-at .ensures, ← c .before .before .before .byte .ensures, ← c .before .before .is-definition .ensures, c .before .if2 .left) (c .nothing2 .ensures)))
+    (λ c.
+    let byte = c .before .before .byte in
+    let number-at = c .before .before .before .number-at in
+    let if1 = c .before .before .before .before .if1 in
+    let behind-number = c .before .before .before .before .before .behind-number in
+    rw (
+      ← behind-number .ensures .0,
+      le-ltb _ _ (if1 .left),
+      ← number-at .ensures,
+      ← byte .ensures,
+      ← c .before .is-definition .ensures,
+      c .if2 .taken,
+    ))
+    (λ c.
+    let is-definition = c .before .before .is-definition in
+    let byte = c .before .before .before .byte in
+    let number-at = c .before .before .before .before .number-at in
+    let if1 = c .before .before .before .before .before .if1 in
+    let behind-number = c .before .before .before .before .before .before .behind-number in
+    rw (
+      ← behind-number .ensures .0,
+      le-ltb _ _ (if1 .left),
+      ← number-at .ensures,
+      ← byte .ensures,
+      ← is-definition .ensures,
+      c .before .if2 .left,
+    ) (c .nothing2 .ensures)))

@@ -1,6 +1,6 @@
-use Rattle.tokens.specs.GlanceForms.{of-two, not-listed, of-none}
+use Rattle.tokens.specs.Laws.GlanceForms.{of-two, not-listed, of-none}
 use Rattle.tokens.proofs.Ranges.{bounds}
-use Rattle.tokens.specs.GlanceLaws.{double-plain}
+use Rattle.tokens.specs.Laws.Glance.{double-plain}
 use denote.Ref.{now}
 use mathlib.Core.Path.{_∙_}
 use native.Mathlib.Omega.{arith}
@@ -16,12 +16,31 @@ doubled-spec =
     (λ c. search needs)
     (λ c κs. search needs)
     (λ c. search needs)
-    (λ c. let b = bounds 1 0xF (c .before .before .args .first) (c .before .before .pre .1) in search needs)
-    (λ c κs. let b = bounds 1 0xF (c .before .before .args .first) (c .before .before .pre .1) in search needs)
+    (λ c.
+    let args = c .before .before .args in
+    let pre = c .before .before .pre in
+    let b = bounds 1 0xF (args .first) (pre .1) in search needs)
+    (λ c κs.
+    let args = c .before .before .args in
+    let pre = c .before .before .pre in
+    let b = bounds 1 0xF (args .first) (pre .1) in search needs)
     (λ c κs. search needs)
-    (λ c. let a = c .before .before .before .before .before .args in λ wide. c .nothing .ensures ∙ not-listed (now (a .rom)) (a .length) wide _ _ _ (c .before .if1 .taken) ∙ of-two (now (a .rom)) (a .length) wide (a .place) (a .first) _ _ (c .before .before .before .before .before .pre .0) (c .before .before .before .before .before .pre .1) (rw (← c .before .before .before .byte .ensures)) (c .before .before .double-code .ensures))
+    (λ c.
+    let double-code = c .before .before .double-code in
+    let byte = c .before .before .before .byte in
+    let c₁ = c .before .before .before .before .before in
+    let pre = c₁ .pre in
+    let a = c₁ .args in λ wide. c .nothing .ensures ∙ not-listed (now (a .rom)) (a .length) wide _ _ _ (c .before .if1 .taken)
+    ∙ of-two (now (a .rom)) (a .length) wide (a .place) (a .first) _ _ (pre .0) (pre .1) (rw (← byte .ensures)) (double-code .ensures))
     (λ c. search needs)
     (λ c κs. search needs)
-    (λ c. let a = c .before .before .before .before .before .args in
-    let b = bounds 1 0xF (a .first) (c .before .before .before .before .before .pre .1) in
-    λ wide. c .ended .ensures ∙ of-none (now (a .rom)) (a .length) wide _ _ _ (c .before .if1 .left) (rw (c .before .before .double-code .ensures) (double-plain _ (omega arith))) ∙ of-two (now (a .rom)) (a .length) wide (a .place) (a .first) _ _ (c .before .before .before .before .before .pre .0) (c .before .before .before .before .before .pre .1) (rw (← c .before .before .before .byte .ensures)) (c .before .before .double-code .ensures)))
+    (λ c.
+    let double-code = c .before .before .double-code in
+    let byte = c .before .before .before .byte in
+    let c₁ = c .before .before .before .before .before in
+    let pre = c₁ .pre in
+    let a = c₁ .args in
+    let b = bounds 1 0xF (a .first) (pre .1) in
+    λ wide. c .ended .ensures ∙ of-none (now (a .rom)) (a .length) wide _ _ _ (c .before .if1 .left)
+    (rw (double-code .ensures) (double-plain _ (omega arith)))
+    ∙ of-two (now (a .rom)) (a .length) wide (a .place) (a .first) _ _ (pre .0) (pre .1) (rw (← byte .ensures)) (double-code .ensures)))

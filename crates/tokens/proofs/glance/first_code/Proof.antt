@@ -1,13 +1,13 @@
 use borrow.Author.Needs.{needs}
 use Rattle.tokens.specs.Table.{ends, lows, highs, doubles, table, rowOf}
 use Rattle.tokens.specs.Code.{codeOf}
-use Rattle.tokens.specs.Glance.{firstOf}
+use Rattle.tokens.specs.Joints.Glance.{firstSays}
 use Rattle.tokens.proofs.Codes.{first-of-two, first-of-none}
 use Rattle.tokens.proofs.glance.first_code.Statement.{statement}
 use Rattle.tokens.proofs.glance.first_code.Tie as tie
 
 pub first-code-spec : {M : Type 1} → statement M
-unfolding firstOf codeOf rowOf table ends lows highs doubles
+unfolding firstSays codeOf rowOf table ends lows highs doubles
 first-code-spec =
     tie.close
     (tie.spec
@@ -96,5 +96,9 @@ first-code-spec =
     (λ c. rw (c .match .keys83))
     (λ c. rw (c .match .keys84))
     (λ c. rw (c .match .keys85))
-    (λ c. first-of-two (c .before .before .args .first) (search needs) (c .before .match .rest))
-    (λ c. first-of-none (c .before .before .args .first) (search needs) (search needs) (c .before .match .rest)))
+    (λ c.
+    let args = c .before .before .args in
+    first-of-two (args .first) (search needs) (c .before .match .rest))
+    (λ c.
+    let args = c .before .before .args in
+    first-of-none (args .first) (search needs) (search needs) (c .before .match .rest)))

@@ -1,4 +1,4 @@
-use Rattle.tokens.specs.GlanceForms.{past-end}
+use Rattle.tokens.specs.Laws.GlanceForms.{past-end}
 use denote.Ref.{now}
 use mathlib.Core.Path.{_∙_}
 use borrow.Author.Needs.{needs}
@@ -10,7 +10,8 @@ glance-at-spec =
     tie.close
     (tie.spec
     (λ c κs. search needs)
-    (λ c. let a = c .before .before .before .args in c .nothing .ensures ∙ past-end (now (a .rom)) (a .length) (a .wide) (a .place) (c .before .if1 .taken))
+    (λ c. let a = c .before .before .before .args in
+    c .nothing .ensures ∙ past-end (now (a .rom)) (a .length) (a .wide) (a .place) (c .before .if1 .taken))
     (λ c κs. search needs)
     (λ c κs. search needs)
     (λ c κs. search needs)

@@ -106,5 +106,10 @@ name-front-spec =
     (λ c. rw (c .match .keys92))
     (λ c. rw (c .match .keys93))
     (λ c. rw (c .match .keys94))
-    (λ c. program-front (c .before .before .before .args .number) (sym (c .before .is-program .ensures) ∙ c .if1 .taken))
-    (λ c. no-front (c .before .before .before .args .number) (sym (c .before .is-program .ensures) ∙ c .if1 .left) (c .before .before .match .rest)))
+    (λ c.
+    let args = c .before .before .before .args in
+    program-front (args .number) (sym (c .before .is-program .ensures) ∙ c .if1 .taken))
+    (λ c.
+    let match = c .before .before .match in
+    let args = c .before .before .before .args in
+    no-front (args .number) (sym (c .before .is-program .ensures) ∙ c .if1 .left) (match .rest)))

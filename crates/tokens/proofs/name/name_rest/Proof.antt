@@ -24,5 +24,10 @@ name-rest-spec =
     (λ c. rw (c .match .keys10))
     (λ c. rw (c .match .keys11))
     (λ c. rw (c .match .keys12))
-    (λ c. program-rest (c .before .before .before .args .number) (sym (c .before .is-program .ensures) ∙ c .if1 .taken))
-    (λ c. no-rest (c .before .before .before .args .number) (sym (c .before .is-program .ensures) ∙ c .if1 .left) (c .before .before .match .rest)))
+    (λ c.
+    let args = c .before .before .before .args in
+    program-rest (args .number) (sym (c .before .is-program .ensures) ∙ c .if1 .taken))
+    (λ c.
+    let match = c .before .before .match in
+    let args = c .before .before .before .args in
+    no-rest (args .number) (sym (c .before .is-program .ensures) ∙ c .if1 .left) (match .rest)))

@@ -1,4 +1,4 @@
-use Rattle.tokens.specs.Quick.{Codes}
+use Rattle.tokens.specs.Joints.Quick.{Codes}
 use Rattle.tokens.proofs.Quicks.{quick-one, quick-literal}
 use denote.Ref.{now}
 use mathlib.Core.Path.{refl}
@@ -17,17 +17,31 @@ quick-at-spec =
     (λ c. search needs)
     (λ c. search needs)
     (λ c. search needs)
-    (λ c. let a = c .before .before .before .before .args in
-    let e = c .before .before .before .before .pre in
+    (λ c.
+    let byte = c .before .before .byte in
+    let c₁ = c .before .before .before .before in
+    let a = c₁ .args in
+    let e = c₁ .pre in
     let n = e .0 _ (search needs) in
-    (c .before .before .byte .ensures, n, λ z. quick-one (now (a .rom)) (a .length) (a .place) (c .before .before .byte .result) _ (c .before .before .byte .ensures) n (e .1) (c .if1 .taken)))
+    (byte .ensures, n, λ z. quick-one (now (a .rom)) (a .length) (a .place) (byte .result) _ (byte .ensures) n (e .1) (c .if1 .taken)))
     (λ c. search needs)
     (λ c. search needs)
-    (λ c. let a = c .before .before .before .before .before .before .args in
+    (λ c.
+    let byte = c .before .before .before .before .byte in
+    let c₁ = c .before .before .before .before .before .before in
+    let a = c₁ .args in
+    let e = c₁ .pre in
+    let n = e .0 _ (search needs) in (
+      byte .ensures,
+      n,
+      λ z. quick-literal (now (a .rom)) (a .length) (a .place) (byte .result) _ (byte .ensures) n (c .before .if2 .taken)
+          (search needs),
+    ))
+    (λ c.
+    let byte = c .before .before .before .before .byte in
     let e = c .before .before .before .before .before .before .pre in
-    let n = e .0 _ (search needs) in
-    (c .before .before .before .before .byte .ensures, n, λ z. quick-literal (now (a .rom)) (a .length) (a .place) (c .before .before .before .before .byte .result) _ (c .before .before .before .before .byte .ensures) n (c .before .if2 .taken) (search needs)))
-    (λ c. let e = c .before .before .before .before .before .before .pre in
-    (c .before .before .before .before .byte .ensures, e .0 _ (search needs), λ z. absurd (z refl)))
-    (λ c. let e = c .before .before .before .before .before .pre in
-    (c .before .before .before .byte .ensures, e .0 _ (search needs), λ z. absurd (z refl))))
+    (byte .ensures, e .0 _ (search needs), λ z. absurd (z refl)))
+    (λ c.
+    let byte = c .before .before .before .byte in
+    let e = c .before .before .before .before .before .pre in
+    (byte .ensures, e .0 _ (search needs), λ z. absurd (z refl))))

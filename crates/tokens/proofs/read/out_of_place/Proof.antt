@@ -1,6 +1,6 @@
 use mathlib.Core.Path.{sym}
 use mathlib.Core.Bool.{false}
-use Rattle.cells.specs.Tests.{find-none}
+use Rattle.cells.specs.Laws.Tests.{find-none}
 use Rattle.tokens.specs.Place.{misplacements, misplacedOf}
 use Rattle.tokens.proofs.read.out_of_place.Statement.{statement}
 use Rattle.tokens.proofs.read.out_of_place.Tie as tie

@@ -14,7 +14,18 @@ read-at-spec =
     (λ c κs. search needs)
     (λ c. search needs)
     (λ c κs. search needs)
-    (λ c. rw (← c .before .before .decode .ensures, c .enum-told .given .1))
-    (λ c. rw (← c .before .before .before .before .decode .ensures, c .before .before .code .given .1, ← c .misfit .ensures))
-    (λ c. rw (← c .before .before .before .before .before .decode .ensures, c .before .before .before .token .given .1, ← c .before .out-of-place .ensures, c .if1 .taken))
-    (λ c. rw (← c .before .before .before .before .before .decode .ensures, c .before .before .before .token .given .1, ← c .before .out-of-place .ensures, c .if1 .left)))
+    (λ c.
+    let decode = c .before .before .decode in
+    rw (← decode .ensures, c .enum-told .given .1))
+    (λ c.
+    let code = c .before .before .code in
+    let decode = c .before .before .before .before .decode in
+    rw (← decode .ensures, code .given .1, ← c .misfit .ensures))
+    (λ c.
+    let token = c .before .before .before .token in
+    let decode = c .before .before .before .before .before .decode in
+    rw (← decode .ensures, token .given .1, ← c .before .out-of-place .ensures, c .if1 .taken))
+    (λ c.
+    let token = c .before .before .before .token in
+    let decode = c .before .before .before .before .before .decode in
+    rw (← decode .ensures, token .given .1, ← c .before .out-of-place .ensures, c .if1 .left)))

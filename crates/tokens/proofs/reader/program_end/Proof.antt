@@ -13,8 +13,10 @@ program-end-spec =
     (λ c. search needs)
     (λ c. search needs)
     (λ c.
+    let args = c .before .before .before .args in
     let n = c .before .program-length .result in
-    rw (← c .before .program-length .ensures, lt-ltb (length (now (c .before .before .before .args .rom))) n (search needs)))
+    rw (← c .before .program-length .ensures, lt-ltb (length (now (args .rom))) n (search needs)))
     (λ c.
+    let args = c .before .before .before .args in
     let n = c .before .program-length .result in
-    rw (← c .before .program-length .ensures, le-ltb (length (now (c .before .before .before .args .rom))) n (search needs))))
+    rw (← c .before .program-length .ensures, le-ltb (length (now (args .rom))) n (search needs))))

@@ -1,6 +1,6 @@
 use Prim.Native.Nat.{_-_}
-use Rattle.tree.specs.CleanLaws.{zeros-more, zeros-none}
-use Rattle.tree.specs.Steps.{zeroedOf}
+use Rattle.tree.specs.Laws.Clean.{zeros-more, zeros-none}
+use Rattle.tree.specs.Joints.Steps.{zeroedOf}
 use lib.ListN.{length, length-set}
 use mathlib.Core.Path.{_≡_, refl, sym, _∙_}
 use native.Mathlib.Omega.{arith}
@@ -25,8 +25,15 @@ clear-up-to-spec =
     (λ c. let l = c .loop-test .taken in let e = c .before .loop .inv .0 in let h = c .before .before .pre in omega arith)
     (λ c. search needs)
     (λ c. let l = c .loop-test .taken in omega arith)
-    (λ c. let m = c .before .loop in
-    (length-set (m .memory) (m .k) 0 ∙ m .inv .0, zeros-more (m .memory) (m .k) (c .before .before .args .end) (c .loop-test .taken) ∙ m .inv .1))
+    (λ c.
+    let args = c .before .before .args in
+    let m = c .before .loop in (
+      length-set (m .memory) (m .k) 0 ∙ m .inv .0,
+      zeros-more (m .memory) (m .k) (args .end) (c .loop-test .taken)
+          ∙ m .inv .1,
+    ))
     (λ c. search needs)
-    (λ c. let m = c .before .loop in
-    sym (zeros-none (m .memory) (m .k) (c .before .before .args .end) (c .loop-test .left)) ∙ m .inv .1))
+    (λ c.
+    let args = c .before .before .args in
+    let m = c .before .loop in
+    sym (zeros-none (m .memory) (m .k) (args .end) (c .loop-test .left)) ∙ m .inv .1))

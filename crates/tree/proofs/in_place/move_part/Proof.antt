@@ -1,6 +1,6 @@
 use Prim.Native.Nat.{ℕ}
 use Rattle.memory.specs.Writing.{movedOf}
-use Rattle.tree.specs.CleanLaws.{moved-nowhere}
+use Rattle.tree.specs.Laws.Clean.{moved-nowhere}
 use denote.Ref.{now}
 use mathlib.Core.Path.{_≡_, sym, subst}
 use borrow.Author.Needs.{needs}
@@ -11,9 +11,12 @@ pub move-part-spec : {M : Type 1} → statement M
 move-part-spec =
     tie.close
     (tie.spec
-    (λ c. let a = c .before .before .args in
+    (λ c.
+    let pre = c .before .before .pre in
+    let a = c .before .before .args in
     let s = now (a .store) in
-    sym (subst (λ (x : ℕ). movedOf s (a .from) x (a .count) ≡ s) (c .if1 .taken) (moved-nowhere s (a .from) (a .count) (c .before .before .pre .0))))
+    sym (subst (λ (x : ℕ). movedOf s (a .from) x (a .count) ≡ s) (c .if1 .taken)
+    (moved-nowhere s (a .from) (a .count) (pre .0))))
     (λ c. search needs)
     (λ c. search needs)
     (λ c. search needs)

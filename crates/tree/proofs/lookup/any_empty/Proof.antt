@@ -3,7 +3,7 @@ use mathlib.Core.Path.{_≡_, refl, sym, _∙_}
 use lib.ListN.{length, drop}
 use denote.Ref.{now}
 use Rattle.tree.specs.Path.{splitOf, anyEmpty}
-use Rattle.tree.specs.PathLaws.{empty-here, empty-last, empty-more}
+use Rattle.tree.specs.Laws.Path.{empty-here, empty-last, empty-more}
 use borrow.Author.Needs.{needs}
 use Rattle.tree.proofs.lookup.any_empty.Statement.{statement}
 use Rattle.tree.proofs.lookup.any_empty.Tie as tie
@@ -25,19 +25,22 @@ any-empty-spec =
     (λ c. (search needs, refl))
     (λ c κs. search needs)
     (λ c.
+    let args = c .before .before .before .before .args in
     let e = c .before .part-end in
     let l = c .before .before .loop in
-    let p = now (c .before .before .before .before .args .path) in
+    let p = now (args .path) in
     sym (empty-here p (l .at) (e .result) (l .inv .0) (e .ensures .0) (c .if1 .taken)) ∙ l .inv .1)
     (λ c.
+    let args = c .before .before .before .before .before .args in
     let e = c .before .before .part-end in
     let l = c .before .before .before .loop in
-    let p = now (c .before .before .before .before .before .args .path) in
+    let p = now (args .path) in
     sym (empty-last p (l .at) (e .result) (l .inv .0) (e .ensures .0) (c .before .if1 .left) (c .if2 .taken)) ∙ l .inv .1)
     (λ c. search needs)
     (λ c. search needs)
     (λ c.
+    let args = c .before .before .before .before .before .args in
     let e = c .before .before .part-end in
     let l = c .before .before .before .loop in
-    let p = now (c .before .before .before .before .before .args .path) in
+    let p = now (args .path) in
     (search needs, sym (empty-more p (l .at) (e .result) (l .inv .0) (e .ensures .0) (c .before .if1 .left) (c .if2 .left)) ∙ l .inv .1)))

@@ -2,7 +2,7 @@ use Prim.Native.Nat.{_-_}
 use mathlib.Core.Path.{_≡_, refl, sym, ap, _∙_}
 use denote.Ref.{now}
 use Rattle.tree.specs.Path.{childFrom, childNamed}
-use Rattle.tree.specs.PathLaws.{childSought, child-here, child-next, child-none}
+use Rattle.tree.specs.Laws.Path.{childSought, child-here, child-next, child-none}
 use borrow.Author.Needs.{needs}
 use Rattle.tree.proofs.lookup.child_named.Statement.{statement}
 use Rattle.tree.proofs.lookup.child_named.Tie as tie
@@ -27,14 +27,17 @@ child-named-spec =
     (λ c.
     let l = c .before .before .before .before .loop in
     let a = c .before .before .before .before .before .before .before .args in
-    sym (ap childSought (sym (l .inv) ∙ child-here (a .tree) (now (a .store)) (a .node) (now (a .part)) (a .tree .nodes) (l .k) (search needs) (sym (c .before .is-child .ensures) ∙ c .if2 .taken))))
+    sym (ap childSought (sym (l .inv) ∙ child-here (a .tree) (now (a .store)) (a .node) (now (a .part)) (a .tree .nodes) (l .k)
+    (search needs) (sym (c .before .is-child .ensures) ∙ c .if2 .taken))))
     (λ c. search needs)
     (λ c. search needs)
     (λ c.
     let l = c .before .before .before .before .loop in
     let a = c .before .before .before .before .before .before .before .args in
-    sym (child-next (a .tree) (now (a .store)) (a .node) (now (a .part)) (a .tree .nodes) (l .k) (search needs) (sym (c .before .is-child .ensures) ∙ c .if2 .left)) ∙ l .inv)
+    sym (child-next (a .tree) (now (a .store)) (a .node) (now (a .part)) (a .tree .nodes) (l .k) (search needs)
+    (sym (c .before .is-child .ensures) ∙ c .if2 .left)) ∙ l .inv)
     (λ c.
     let l = c .before .before .loop in
     let a = c .before .before .before .before .before .args in
-    sym (ap childSought (sym (l .inv) ∙ child-none (a .tree) (now (a .store)) (a .node) (now (a .part)) (a .tree .nodes) (l .k) (search needs)))))
+    sym (ap childSought (sym (l .inv) ∙ child-none (a .tree) (now (a .store)) (a .node) (now (a .part)) (a .tree .nodes) (l .k)
+    (search needs)))))

@@ -5,7 +5,7 @@ use lib.ListN.{length, drop}
 use denote.Ref.{now}
 use Rattle.memory.specs.Window.{partOf}
 use Rattle.tree.specs.Path.{splitOf, downFrom}
-use Rattle.tree.specs.PathLaws.{behindOf, split-part, split-last, split-more, down-child, down-none, down-end}
+use Rattle.tree.specs.Laws.Path.{behindPart, split-part, split-last, split-more, down-child, down-none, down-end}
 use borrow.Author.Needs.{needs}
 use Rattle.tree.proofs.lookup.down.Statement.{statement}
 use Rattle.tree.proofs.lookup.down.Tie as tie
@@ -33,6 +33,7 @@ down-spec =
     (λ c. search needs)
     (λ c. search needs)
     (λ c.
+    let child-named = c .before .before .child-named in
     let a = c .before .before .before .before .before .before .before .before .args in
     let l = c .before .before .before .before .before .loop in
     let e = c .before .before .before .before .part-end in
@@ -40,30 +41,39 @@ down-spec =
     let part = partOf (now (a .path)) (l .at) (e .result - l .at) in
     sym (
     ap (downFrom (a .tree) (now (a .store)) (l .node)) (split-part (now (a .path)) (l .at) (e .result) (l .inv .0) (e .ensures .0))
-    ∙ down-none (a .tree) (now (a .store)) (l .node) part (w .0 .0) (behindOf (drop (l .at) (now (a .path)))) (sym (c .before .before .child-named .ensures) ∙ w .1))
+    ∙ down-none (a .tree) (now (a .store)) (l .node) part (w .0 .0) (behindPart (drop (l .at) (now (a .path))))
+    (sym (child-named .ensures) ∙ w .1))
     ∙ l .inv .1)
     (λ c.
+    let child = c .before .before .child in
+    let child-named = c .before .before .before .before .child-named in
     let a = c .before .before .before .before .before .before .before .before .before .before .args in
     let l = c .before .before .before .before .before .before .before .loop in
     let e = c .before .before .before .before .before .before .part-end in
-    let w = c .before .before .child .given in
+    let w = child .given in
     let part = partOf (now (a .path)) (l .at) (e .result - l .at) in
     sym (
-    ap (downFrom (a .tree) (now (a .store)) (l .node)) (split-last (now (a .path)) (l .at) (e .result) (l .inv .0) (e .ensures .0) (c .if1 .taken))
-    ∙ down-child (a .tree) (now (a .store)) (l .node) part (w .0 .0) [] (sym (c .before .before .before .before .child-named .ensures) ∙ w .1)
+    ap (downFrom (a .tree) (now (a .store)) (l .node))
+    (split-last (now (a .path)) (l .at) (e .result) (l .inv .0) (e .ensures .0) (c .if1 .taken))
+    ∙ down-child (a .tree) (now (a .store)) (l .node) part (w .0 .0) []
+    (sym (child-named .ensures) ∙ w .1)
     ∙ down-end (a .tree) (now (a .store)) (w .0 .0))
     ∙ l .inv .1)
     (λ c. search needs)
     (λ c. search needs)
     (λ c.
+    let child = c .before .before .child in
+    let child-named = c .before .before .before .before .child-named in
     let a = c .before .before .before .before .before .before .before .before .before .before .args in
     let l = c .before .before .before .before .before .before .before .loop in
     let e = c .before .before .before .before .before .before .part-end in
-    let w = c .before .before .child .given in
+    let w = child .given in
     let part = partOf (now (a .path)) (l .at) (e .result - l .at) in (
       search needs,
       sym (
-          ap (downFrom (a .tree) (now (a .store)) (l .node)) (split-more (now (a .path)) (l .at) (e .result) (l .inv .0) (e .ensures .0) (c .if1 .left))
-          ∙ down-child (a .tree) (now (a .store)) (l .node) part (w .0 .0) (splitOf (drop (e .result + 1) (now (a .path)))) (sym (c .before .before .before .before .child-named .ensures) ∙ w .1))
+          ap (downFrom (a .tree) (now (a .store)) (l .node))
+          (split-more (now (a .path)) (l .at) (e .result) (l .inv .0) (e .ensures .0) (c .if1 .left))
+          ∙ down-child (a .tree) (now (a .store)) (l .node) part (w .0 .0) (splitOf (drop (e .result + 1) (now (a .path))))
+          (sym (child-named .ensures) ∙ w .1))
           ∙ l .inv .1,
     )))

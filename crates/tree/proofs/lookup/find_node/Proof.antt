@@ -5,8 +5,8 @@ use denote.Ref.{now}
 use borrow.Author.Tests.{not-true, not-false}
 use Rattle.tree.specs.Whole.{wholeTree}
 use Rattle.tree.specs.Path.{malformed, downFrom}
-use Rattle.tree.specs.Laws.{whole-facts}
-use Rattle.tree.specs.PathLaws.{path-least, no-parts, some-parts, down-end, node-size, node-damaged, node-malformed, node-down}
+use Rattle.tree.specs.Laws.Trees.{whole-facts}
+use Rattle.tree.specs.Laws.Path.{path-least, no-parts, some-parts, down-end, node-size, node-damaged, node-malformed, node-down}
 use borrow.Author.Needs.{needs}
 use Rattle.tree.proofs.lookup.find_node.Statement.{statement}
 use Rattle.tree.proofs.lookup.find_node.Tie as tie
@@ -27,13 +27,16 @@ find-node-spec =
     sym (node-size (a .tree) (now (a .store)) (now (a .path)) (c .if1 .taken)))
     (λ c κs. search needs)
     (λ c.
+    let if1 = c .before .before .if1 in
     let a = c .before .before .before .before .before .args in
-    sym (node-damaged (a .tree) (now (a .store)) (now (a .path)) (c .before .before .if1 .left) (sym (c .before .is-whole .ensures) ∙ not-true _ (c .if2 .taken))))
+    sym (node-damaged (a .tree) (now (a .store)) (now (a .path)) (if1 .left)
+    (sym (c .before .is-whole .ensures) ∙ not-true _ (c .if2 .taken))))
     (λ c κs. search needs)
     (λ c.
     let a = c .before .before .before .before .before .before .before .args in
     let w = c .before .before in
-    sym (node-malformed (a .tree) (now (a .store)) (now (a .path)) (w .before .before .if1 .left) (whole w) (sym (c .before .malformed .ensures) ∙ c .if3 .taken)))
+    sym (node-malformed (a .tree) (now (a .store)) (now (a .path)) (w .before .before .if1 .left) (whole w)
+    (sym (c .before .malformed .ensures) ∙ c .if3 .taken)))
     (λ c.
     let a = c .before .before .before .before .before .before .before .before .args in
     let f = c .before in
@@ -45,7 +48,7 @@ find-node-spec =
     let a = c .before .before .before .before .before .before .before .before .args in
     let f = c .before in
     let w = f .before .before in
-    let n = whole-facts (a .tree) (whole w) .nodes in
+    let n = whole-facts (a .tree) (whole w) in
     let l = n .live-most in
     let z = w .before .before .if1 .left in
     (n .nodes-most, n .held-most, omega arith, path-least (now (a .path)) (formed f)))

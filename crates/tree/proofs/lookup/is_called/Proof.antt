@@ -7,7 +7,7 @@ use Rattle.memory.specs.Window.{partOf}
 use Rattle.rom.specs.Words.{lettersOf}
 use Rattle.tree.specs.Held.{heldOf, liveOf}
 use Rattle.tree.specs.Path.{valueIn}
-use Rattle.tree.specs.PathLaws.{place-value, place-empty}
+use Rattle.tree.specs.Laws.Path.{place-value, place-empty}
 use borrow.Author.Needs.{needs}
 use Rattle.tree.proofs.lookup.is_called.Statement.{statement}
 use Rattle.tree.proofs.lookup.is_called.Tie as tie
@@ -16,12 +16,15 @@ use Rattle.tree.proofs.lookup.is_called.Tie as tie
 named : (c : tie.After-at)
     → let a = c .before .before .before .before .before .before .args in
     let s = c .at .given .0 in
-    (s .0 + s .1 .0 ≤ liveOf (a .tree)) × (valueIn (heldOf (a .tree) (now (a .store))) (a .node) (lettersOf "name") ≡ some (partOf (now (a .store)) (s .0) (s .1 .0)))
+    (s .0 + s .1 .0 ≤ liveOf (a .tree))
+    × (valueIn (heldOf (a .tree) (now (a .store))) (a .node) (lettersOf "name") ≡ some (partOf (now (a .store)) (s .0) (s .1 .0)))
 unfolding lettersOf
 named c =
+    let place-of = c .before .before .place-of in
     let a = c .before .before .before .before .before .before .args in
     let s = c .at .given in
-    place-value (a .tree) (now (a .store)) (a .node) (lettersOf "name") (s .0 .0) (s .0 .1 .0) (sym (c .before .before .place-of .ensures) ∙ s .1)
+    place-value (a .tree) (now (a .store)) (a .node) (lettersOf "name") (s .0 .0) (s .0 .1 .0)
+    (sym (place-of .ensures) ∙ s .1)
 
 pub is-called-spec : {M : Type 1} → statement M
 unfolding lettersOf
@@ -44,6 +47,7 @@ is-called-spec =
     let e = rw (add-sub-cancel-left (s .0) (s .1 .0)) at (c .before .less-null .ensures) in
     rw (named f .1) (rw e at (c .same-bytes .ensures)))
     (λ c.
+    let place-of = c .before .before .place-of in
     let a = c .before .before .before .before .before .before .args in
     let s = c .enum-told .given in
-    rw (place-empty (a .tree) (now (a .store)) (a .node) (lettersOf "name") (s .0 .0) (sym (c .before .before .place-of .ensures) ∙ s .1))))
+    rw (place-empty (a .tree) (now (a .store)) (a .node) (lettersOf "name") (s .0 .0) (sym (place-of .ensures) ∙ s .1))))

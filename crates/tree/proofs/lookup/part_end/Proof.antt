@@ -3,7 +3,7 @@ use mathlib.Core.Path.{_≡_, refl}
 use native.Mathlib.Omega.{arith}
 use lib.ListN.{length, drop}
 use denote.Ref.{now}
-use Rattle.tree.specs.PathLaws.{endOf, end-slash, end-next, end-last}
+use Rattle.tree.specs.Laws.Path.{partEnd, end-slash, end-next, end-last}
 use borrow.Author.Needs.{needs}
 use Rattle.tree.proofs.lookup.part_end.Statement.{statement}
 use Rattle.tree.proofs.lookup.part_end.Tie as tie
@@ -11,7 +11,7 @@ use Rattle.tree.proofs.lookup.part_end.Tie as tie
 -- the end from here on is the end
 abbrev Inv-loop : tie.InvT-loop
 Inv-loop path at end₀ end =
-    (at ≤ end) × (end ≤ length path) × (end + endOf (drop end path) ≡ at + endOf (drop at path))
+    (at ≤ end) × (end ≤ length path) × (end + partEnd (drop end path) ≡ at + partEnd (drop at path))
 
 abbrev μ-loop : tie.MeasureT-loop
 μ-loop path at end₀ end = length path - end
@@ -25,16 +25,19 @@ part-end-spec =
     (λ c. (search needs, search needs, refl))
     (λ c. search needs)
     (λ c.
+    let args = c .before .before .before .before .args in
     let l = c .before .before .before .loop in
-    let e = end-slash (now (c .before .before .before .before .args .path)) (l .end) (search needs) (search needs) in
+    let e = end-slash (now (args .path)) (l .end) (search needs) (search needs) in
     (omega arith, search needs))
     (λ c. search needs)
     (λ c. search needs)
     (λ c.
+    let args = c .before .before .before .before .args in
     let l = c .before .before .before .loop in
-    let e = end-next (now (c .before .before .before .before .args .path)) (l .end) (search needs) (c .if1 .left) in
+    let e = end-next (now (args .path)) (l .end) (search needs) (c .if1 .left) in
     (search needs, search needs, omega arith))
     (λ c.
+    let args = c .before .before .args in
     let l = c .before .loop in
-    let e = end-last (now (c .before .before .args .path)) (l .end) (search needs) in
+    let e = end-last (now (args .path)) (l .end) (search needs) in
     (omega arith, search needs)))

@@ -1,7 +1,7 @@
 use mathlib.Core.Path.{sym, ap}
 use native.Mathlib.Omega.{arith}
 use denote.Ref.{now}
-use Rattle.tree.specs.PathLaws.{place-none, place-there, place-end}
+use Rattle.tree.specs.Laws.Path.{place-none, place-there, place-end}
 use Rattle.tree.specs.declared.property.Found.{Found}
 use borrow.Author.Needs.{needs}
 use Rattle.tree.proofs.lookup.place_of.Statement.{statement}
@@ -13,21 +13,25 @@ place-of-spec =
     (tie.spec
     (λ c κs. search needs)
     (λ c.
+    let find = c .before .before .find in
     let a = c .before .before .before .before .before .args in
-    let e = c .before .before .find .ensures in
+    let e = find .ensures in
     let i = ap (λ (f : Found). f .index) e in
     sym (place-none (a .tree) (now (a .store)) (a .node) (now (a .name)) (omega arith)))
     (λ c κs. search needs)
     (λ c.
+    let find = c .before .before .before .before .find in
     let a = c .before .before .before .before .before .before .before .args in
-    let e = c .before .before .before .before .find .ensures in
+    let e = find .ensures in
     let i = ap (λ (f : Found). f .index) e in
     let p = rw (← e) at (place-end (a .tree) (now (a .store)) (a .node) (now (a .name)) (omega arith)) in
     omega arith)
     (λ c κs. search needs)
     (λ c.
+    let name-size = c .before .before .name-size in
+    let find = c .before .before .before .before .before .find in
     let a = c .before .before .before .before .before .before .before .before .args in
-    let e = c .before .before .before .before .before .find .ensures in
+    let e = find .ensures in
     let i = ap (λ (f : Found). f .index) e in
-    rw (c .before .before .name-size .ensures, c .value-size .ensures .0, e)
+    rw (name-size .ensures, c .value-size .ensures .0, e)
     (sym (place-there (a .tree) (now (a .store)) (a .node) (now (a .name)) (omega arith)))))

@@ -2,9 +2,9 @@ use Prim.Native.Nat.{_-_, _≤_}
 use mathlib.Core.Path.{_≡_, refl, sym, _∙_}
 use lib.ListN.{length, drop}
 use denote.Ref.{now}
-use Rattle.cells.specs.Facts.{not-off, not-on}
+use Rattle.cells.specs.Laws.Facts.{not-off, not-on}
 use Rattle.tree.specs.Property.{allNameBytes}
-use Rattle.tree.specs.Laws.{name-more, name-stops, name-end}
+use Rattle.tree.specs.Laws.Trees.{name-more, name-stops, name-end}
 use borrow.Author.Needs.{needs}
 use Rattle.tree.proofs.property.all_name_bytes.Statement.{statement}
 use Rattle.tree.proofs.property.all_name_bytes.Tie as tie
@@ -37,5 +37,6 @@ all-name-bytes-spec =
     let b = c .before .is-name-byte in
     (search needs, name-more _ (l .k) (search needs) (sym (b .ensures) ∙ not-on (b .result) (c .if1 .left)) ∙ l .inv .1))
     (λ c.
+    let args = c .before .before .before .args in
     let l = c .before .loop in
-    sym (name-end (now (c .before .before .before .args .name)) (l .k) (search needs)) ∙ l .inv .1))
+    sym (name-end (now (args .name)) (l .k) (search needs)) ∙ l .inv .1))

@@ -2,9 +2,8 @@ use Prim.Native.Nat.{_+_, _-_, _≤_}
 use mathlib.Core.Path.{_≡_, refl, sym, _∙_}
 use native.Mathlib.Omega.{arith}
 use denote.Ref.{now}
-use Rattle.tree.specs.Held.{liveOf, liveFrom, matches, propertyAt}
-use Rattle.tree.specs.Steps.{foundFrom}
-use Rattle.tree.specs.Laws.{live-more, found-here, found-next, found-none}
+use Rattle.tree.specs.Held.{liveOf, liveFrom, matches, propertyAt, foundFrom}
+use Rattle.tree.specs.Laws.Trees.{live-more, found-here, found-next, found-none}
 use borrow.Author.Needs.{needs}
 use Rattle.tree.proofs.property.find.Statement.{statement}
 use Rattle.tree.proofs.property.find.Tie as tie
@@ -24,10 +23,11 @@ named : (c : tie.After-is-named Inv-loop μ-loop)
     let a = c .before .before .before .before .before .before .before .before .args in
     c .is-named .result ≡ matches (propertyAt (a .t2) (now (a .store)) (l .i) (l .at)) (a .node) (now (a .name))
 named c =
+    let wide = c .before .before .wide in
     let l = c .before .before .before .before .before .loop in
-    let w = c .before .before .wide .result in
+    let w = wide .result in
     let e : l .at + w - l .at ≡ w = omega arith in
-    rw (← c .before .before .wide .ensures .0) (rw e at (c .is-named .ensures))
+    rw (← wide .ensures .0) (rw e at (c .is-named .ensures))
 
 pub find-spec : {M : Type 1} → statement M
 find-spec =
@@ -45,19 +45,20 @@ find-spec =
     (λ c.
     let l = c .before .before .before .loop in
     let a = c .before .before .before .before .before .before .args in
-    let e = live-more (a .t2 .names) (a .t2 .values) (a .t2 .held - l .i) (l .i) (a .t2 .held) (search needs) refl in
+    let e = live-more (a .t2 .«name_sizes») (a .t2 .«value_sizes») (a .t2 .held - l .i) (l .i) (a .t2 .held) (search needs) refl in
     search needs)
     (λ c. search needs)
     (λ c. search needs)
     (λ c κs.
     let l = c .before .before .before .before .loop in
     let a = c .before .before .before .before .before .before .before .args in
-    let e = live-more (a .t2 .names) (a .t2 .values) (a .t2 .held - l .i) (l .i) (a .t2 .held) (search needs) refl in
+    let e = live-more (a .t2 .«name_sizes») (a .t2 .«value_sizes») (a .t2 .held - l .i) (l .i) (a .t2 .held) (search needs) refl in
     search needs)
     (λ c.
     let l = c .before .before .before .before .before .before .loop in
     let a = c .before .before .before .before .before .before .before .before .before .args in
-    sym (found-here (a .t2) (now (a .store)) (a .node) (now (a .name)) (a .t2 .held - l .i) (l .i) (l .at) (a .t2 .held) (search needs) refl (sym (named (c .before)) ∙ c .if1 .taken))
+    sym (found-here (a .t2) (now (a .store)) (a .node) (now (a .name)) (a .t2 .held - l .i) (l .i) (l .at) (a .t2 .held) (search needs) refl
+    (sym (named (c .before)) ∙ c .if1 .taken))
     ∙ l .inv .2)
     (λ c. search needs)
     (λ c. search needs)
@@ -65,21 +66,27 @@ find-spec =
     (λ c.
     let l = c .before .before .before .before .before .before .before .before .loop in
     let a = c .before .before .before .before .before .before .before .before .before .before .before .args in
-    let e = live-more (a .t2 .names) (a .t2 .values) (a .t2 .held - l .i) (l .i) (a .t2 .held) (search needs) refl in
+    let e = live-more (a .t2 .«name_sizes») (a .t2 .«value_sizes») (a .t2 .held - l .i) (l .i) (a .t2 .held) (search needs) refl in
     search needs)
     (λ c. search needs)
     (λ c. search needs)
     (λ c.
+    let before-here = c .before .before .before in
+    let if1 = c .before .before .if1 in
+    let wide = c .before .before .before .before .before .wide in
     let l = c .before .before .before .before .before .before .before .before .loop in
     let a = c .before .before .before .before .before .before .before .before .before .before .before .args in
-    let e = live-more (a .t2 .names) (a .t2 .values) (a .t2 .held - l .i) (l .i) (a .t2 .held) (search needs) refl in
-    let w = c .before .before .before .before .before .wide .ensures .0 in
+    let e = live-more (a .t2 .«name_sizes») (a .t2 .«value_sizes») (a .t2 .held - l .i) (l .i) (a .t2 .held) (search needs) refl in
+    let w = wide .ensures .0 in
     let x = c .wide2 .ensures .0 in (
       search needs,
       omega arith,
-      rw (w, x) (sym (found-next (a .t2) (now (a .store)) (a .node) (now (a .name)) (a .t2 .held - l .i) (l .i) (l .at) (a .t2 .held) (search needs) refl (sym (named (c .before .before .before)) ∙ c .before .before .if1 .left)) ∙ l .inv .2),
+      rw (w, x)
+          (sym (found-next (a .t2) (now (a .store)) (a .node) (now (a .name)) (a .t2 .held - l .i) (l .i) (l .at) (a .t2 .held)
+          (search needs) refl (sym (named (before-here)) ∙ if1 .left)) ∙ l .inv .2),
     ))
     (λ c.
     let l = c .before .loop in
     let a = c .before .before .before .before .args in
-    sym (found-none (a .t2) (now (a .store)) (a .node) (now (a .name)) (a .t2 .held - l .i) (l .i) (l .at) (a .t2 .held) (search needs)) ∙ l .inv .2))
+    sym (found-none (a .t2) (now (a .store)) (a .node) (now (a .name)) (a .t2 .held - l .i) (l .i) (l .at) (a .t2 .held) (search needs))
+    ∙ l .inv .2))

@@ -13,4 +13,6 @@ is-named-spec =
     (λ c. search needs)
     (λ c. search needs)
     (λ c κs. search needs)
-    (λ c. rw (eq-eqb _ _ (c .before .before .if1 .left)) (c .same-bytes .ensures)))
+    (λ c.
+    let if1 = c .before .before .if1 in
+    rw (eq-eqb _ _ (if1 .left)) (c .same-bytes .ensures)))

@@ -1,7 +1,7 @@
 use Prim.Native.Nat.{_-_}
 use mathlib.Core.Path.{sym, _∙_}
 use denote.Ref.{now}
-use Rattle.tree.specs.Laws.{laid-null, laid-bare}
+use Rattle.tree.specs.Laws.Trees.{laid-null, laid-bare}
 use borrow.Author.Needs.{needs}
 use Rattle.tree.proofs.property.lay_value.Statement.{statement}
 use Rattle.tree.proofs.property.lay_value.Tie as tie
@@ -16,9 +16,15 @@ lay-value-spec =
     (λ c κs. search needs)
     (λ c. search needs)
     (λ c.
+    let put = c .before .before .put in
+    let if1 = c .before .before .before .before .if1 in
+    let copy-in = c .before .before .before .before .before .before .before .copy-in in
     let a = c .before .before .before .before .before .before .before .before .before .before .before .args in
-    c .before .before .put .ensures ∙ rw (c .before .before .before .before .before .before .before .copy-in .ensures, c .before .before .before .before .if1 .taken) (sym (laid-null (now (a .store)) (a .at) (now (a .value)))))
+    put .ensures
+    ∙ rw (copy-in .ensures, if1 .taken)
+    (sym (laid-null (now (a .store)) (a .at) (now (a .value)))))
     (λ c. search needs)
     (λ c.
+    let copy-in = c .before .before .before .copy-in in
     let a = c .before .before .before .before .before .before .before .args in
-    c .before .before .before .copy-in .ensures ∙ rw (c .if1 .left) (sym (laid-bare (now (a .store)) (a .at) (now (a .value))))))
+    copy-in .ensures ∙ rw (c .if1 .left) (sym (laid-bare (now (a .store)) (a .at) (now (a .value))))))

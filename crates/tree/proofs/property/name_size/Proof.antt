@@ -4,6 +4,7 @@ use lib.ListN.{length}
 use lib.ListN.{List·getD-eq-default}
 use borrow.Author.Needs.{needs}
 use Rattle.tree.proofs.property.name_size.Statement.{statement}
+use Rattle.rom.specs.Sizes.{propertiesMost}
 use Rattle.tree.proofs.property.name_size.Tie as tie
 
 pub name-size-spec : {M : Type 1} → statement M
@@ -16,5 +17,5 @@ name-size-spec =
     (λ c. search needs)
     (λ c.
     let a = c .before .args in
-    let n : length (a .t1 .names) ≡ 128 = search needs in
-    rw (List·getD-eq-default (a .t1 .names) 0 {n = a .index} (search needs))))
+    let n : length (a .t1 .«name_sizes») ≡ propertiesMost = search needs in
+    rw (List·getD-eq-default (a .t1 .«name_sizes») 0 {n = a .index} (search needs))))

@@ -3,7 +3,7 @@ use mathlib.Core.Path.{_≡_, refl, sym, _∙_}
 use lib.ListN.{length, drop}
 use denote.Ref.{now}
 use Rattle.tree.specs.Held.{sameBytes}
-use Rattle.tree.specs.Laws.{same-unlike, same-more, same-differs, same-end}
+use Rattle.tree.specs.Laws.Trees.{same-unlike, same-more, same-differs, same-end}
 use borrow.Author.Needs.{needs}
 use Rattle.tree.proofs.property.same_bytes.Statement.{statement}
 use Rattle.tree.proofs.property.same_bytes.Tie as tie

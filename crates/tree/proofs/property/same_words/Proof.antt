@@ -2,9 +2,9 @@ use Prim.Native.Nat.{_-_, _≤_}
 use mathlib.Core.Path.{_≡_, refl, sym, _∙_}
 use lib.ListN.{length, drop}
 use denote.Ref.{now}
-use Rattle.cells.specs.Facts.{not-off, not-on}
+use Rattle.cells.specs.Laws.Facts.{not-off, not-on}
 use Rattle.tree.specs.Held.{sameBytes}
-use Rattle.tree.specs.SameLaws.{same-before, many-more, many-differ, many-last}
+use Rattle.tree.specs.Laws.Same.{same-before, many-more, many-differ, many-last}
 use borrow.Author.Needs.{needs}
 use Rattle.tree.proofs.property.same_words.Statement.{statement}
 use Rattle.tree.proofs.property.same_words.Tie as tie
@@ -29,7 +29,8 @@ same-words-spec =
     let l = c .before .before .before .loop in
     let a = c .before .before .before .before .before .before .args in
     let s = c .before .same-eight in
-    sym (many-differ (now (a .a)) (now (a .b)) (l .k) 8 (search needs) (search needs) (s .result) (s .ensures) (not-off (s .result) (c .if1 .taken)))
+    sym (many-differ (now (a .a)) (now (a .b)) (l .k) 8 (search needs) (search needs) (s .result) (s .ensures)
+    (not-off (s .result) (c .if1 .taken)))
     ∙ l .inv .1)
     (λ c. search needs)
     (λ c. search needs)
@@ -38,7 +39,8 @@ same-words-spec =
     let a = c .before .before .before .before .before .before .args in
     let s = c .before .same-eight in (
       search needs,
-      many-more (now (a .a)) (now (a .b)) (l .k) 8 (search needs) (search needs) (s .result) (s .ensures) (not-on (s .result) (c .if1 .left))
+      many-more (now (a .a)) (now (a .b)) (l .k) 8 (search needs) (search needs) (s .result) (s .ensures)
+          (not-on (s .result) (c .if1 .left))
           ∙ l .inv .1,
     ))
     (λ c κs. search needs)

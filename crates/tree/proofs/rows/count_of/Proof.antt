@@ -4,7 +4,7 @@ use mathlib.Core.Logic.{⊎-elim}
 use native.Mathlib.Omega.{arith}
 use denote.Ref.{now}
 use Rattle.tree.specs.Rows.{countFrom}
-use Rattle.tree.specs.RowLaws.{count-here, count-next, count-none}
+use Rattle.tree.specs.Laws.Rows.{count-here, count-next, count-none}
 use borrow.Author.Needs.{needs}
 use Rattle.tree.proofs.rows.count_of.Statement.{statement}
 use Rattle.tree.proofs.rows.count_of.Tie as tie
@@ -33,8 +33,10 @@ count-of-spec =
     let l = c .before .before .before .loop in
     let a = c .before .before .before .before .args in
     ⊎-elim
-    (λ w. let e = count-here (now (a .owners)) (a .node) (a .held) (l .i) (search needs) (w .0 .taken) in (search needs, omega arith, omega arith))
-    (λ w. let e = count-next (now (a .owners)) (a .node) (a .held) (l .i) (search needs) (w .0 .left) in (search needs, omega arith, omega arith))
+    (λ w. let e = count-here (now (a .owners)) (a .node) (a .held) (l .i) (search needs) (w .0 .taken) in
+    (search needs, omega arith, omega arith))
+    (λ w. let e = count-next (now (a .owners)) (a .node) (a .held) (l .i) (search needs) (w .0 .left) in
+    (search needs, omega arith, omega arith))
     (c .if1 .came))
     (λ c.
     let l = c .before .loop in

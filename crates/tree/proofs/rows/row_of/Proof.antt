@@ -1,6 +1,6 @@
 use mathlib.Core.Path.{sym}
 use borrow.Author.Needs.{needs}
-use Rattle.tree.specs.RowLaws.{row-used, row-unused}
+use Rattle.tree.specs.Laws.Rows.{row-used, row-unused}
 use Rattle.tree.proofs.rows.row_of.Statement.{statement}
 use Rattle.tree.proofs.rows.row_of.Tie as tie
 
@@ -13,5 +13,6 @@ row-of-spec =
     (λ c. search needs)
     (λ c κs. search needs)
     (λ c.
+    let parent = c .before .before .parent in
     let a = c .before .before .before .before .before .before .args in
-    rw (c .before .before .parent .ensures, c .count-of .ensures) (sym (row-used (a .tree) (a .k) (search needs)))))
+    rw (parent .ensures, c .count-of .ensures) (sym (row-used (a .tree) (a .k) (search needs)))))

@@ -1,6 +1,6 @@
 use mathlib.Core.Path.{sym, _∙_}
 use borrow.Author.Tests.{not-true, not-false}
-use Rattle.tree.specs.RowLaws.{rows-size, rows-damaged, rows-good}
+use Rattle.tree.specs.Laws.Rows.{rows-size, rows-damaged, rows-good}
 use borrow.Author.Needs.{needs}
 use Rattle.tree.proofs.rows.rows_refusal.Statement.{statement}
 use Rattle.tree.proofs.rows.rows_refusal.Tie as tie

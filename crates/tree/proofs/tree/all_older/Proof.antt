@@ -4,7 +4,7 @@ use mathlib.Core.Bool.{true}
 use denote.Ref.{now}
 use borrow.Author.Tests.{not-true, not-false}
 use Rattle.tree.specs.Whole.{olderAmong, everyBelow}
-use Rattle.tree.specs.Laws.{every-more, every-fails}
+use Rattle.tree.specs.Laws.Trees.{every-more, every-fails}
 use borrow.Author.Needs.{needs}
 use Rattle.tree.proofs.tree.all_older.Statement.{statement}
 use Rattle.tree.proofs.tree.all_older.Tie as tie
@@ -29,7 +29,8 @@ all-older-spec =
     let i = c .before in
     let l = i .before .before .loop in
     let a = i .before .before .before .args in
-    sym (every-fails (a .nodes) (l .k) (olderAmong (now (a .parents))) (search needs) (sym (i .is-older .ensures) ∙ not-true _ (c .if1 .taken))))
+    sym (every-fails (a .nodes) (l .k) (olderAmong (now (a .parents))) (search needs)
+    (sym (i .is-older .ensures) ∙ not-true _ (c .if1 .taken))))
     (λ c. search needs)
     (λ c. search needs)
     (λ c.

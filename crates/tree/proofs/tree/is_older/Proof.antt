@@ -1,7 +1,7 @@
 use Prim.Native.Nat.{_-_}
 use mathlib.Core.Path.{sym, _∙_}
 use denote.Ref.{now}
-use Rattle.tree.specs.Laws.{older-root, older-child}
+use Rattle.tree.specs.Laws.Trees.{older-root, older-child}
 use borrow.Author.Needs.{needs}
 use Rattle.tree.proofs.tree.is_older.Statement.{statement}
 use Rattle.tree.proofs.tree.is_older.Tie as tie

@@ -3,18 +3,18 @@ use mathlib.Core.Path.{_≡_, refl}
 use native.Mathlib.Omega.{arith}
 use denote.Ref.{now}
 use Rattle.tree.specs.Held.{liveAmong}
-use Rattle.tree.specs.Laws.{live-more, live-none}
+use Rattle.tree.specs.Laws.Trees.{live-more, live-none}
 use borrow.Author.Needs.{needs}
 use Rattle.tree.proofs.tree.live_bytes.Statement.{statement}
 use Rattle.tree.proofs.tree.live_bytes.Tie as tie
 
 -- what is left to sum, with the sum, is the whole
 abbrev Inv-loop : tie.InvT-loop
-Inv-loop names values held sum₀ i₀ sum i =
-    (i ≤ held) × (sum ≤ i * 8589934592) × (sum + liveAmong names values (held - i) i ≡ liveAmong names values held 0)
+Inv-loop nameSizes valueSizes held sum₀ i₀ sum i =
+    (i ≤ held) × (sum ≤ i * 8589934592) × (sum + liveAmong nameSizes valueSizes (held - i) i ≡ liveAmong nameSizes valueSizes held 0)
 
 abbrev μ-loop : tie.MeasureT-loop
-μ-loop names values held sum₀ i₀ sum i = held - i
+μ-loop nameSizes valueSizes held sum₀ i₀ sum i = held - i
 
 pub live-bytes-spec : {M : Type 1} → statement M
 live-bytes-spec =
@@ -38,11 +38,11 @@ live-bytes-spec =
     let a = c .before .before .before .before .before .before .args in (
       search needs,
       search needs,
-      let e = live-more (now (a .names)) (now (a .values)) (a .held - l .i) (l .i) (a .held) (search needs) refl in
+      let e = live-more (now (a .name-sizes)) (now (a .value-sizes)) (a .held - l .i) (l .i) (a .held) (search needs) refl in
           omega arith,
     ))
     (λ c.
     let l = c .before .loop in
     let a = c .before .before .args in
-    let e = live-none (now (a .names)) (now (a .values)) (a .held - l .i) (l .i) (search needs) in
+    let e = live-none (now (a .name-sizes)) (now (a .value-sizes)) (a .held - l .i) (l .i) (search needs) in
     omega arith))

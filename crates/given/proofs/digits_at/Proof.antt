@@ -1,0 +1,30 @@
+-- Nothing is known of the number; the digits left fall. Assumes nothing.
+use Prim.Native.Nat.{_-_}
+use borrow.Author.Needs.{needs}
+use Rattle.given.proofs.digits_at.Statement.{statement}
+use Rattle.given.proofs.digits_at.Tie as tie
+
+abbrev Inv-loop : tie.InvT-loop
+Inv-loop text from n₀ k₀ n k = Unit {0}
+
+abbrev μ-loop : tie.MeasureT-loop
+μ-loop text from n₀ k₀ n k = 8 - k
+
+pub digits-at-spec : {M : Type 1} → statement M
+digits-at-spec =
+    tie.close
+    (tie.spec
+    Inv-loop
+    μ-loop
+    (λ c. search needs)
+    (λ c. search needs)
+    (λ c κs. search needs)
+    (λ c κs. search needs)
+    (λ c. search needs)
+    (λ c. search needs)
+    (λ c κs. search needs)
+    (λ c. search needs)
+    (λ c. search needs)
+    (λ c. search needs)
+    (λ c. search needs)
+    (λ c. search needs))

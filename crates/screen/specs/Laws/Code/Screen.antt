@@ -1,0 +1,152 @@
+-- The screen's definitions, by what the code has learnt where it returns. Assumes nothing.
+use Prim.Native.Nat.{ℕ, _+_, _<_, _≤_}
+use mathlib.Core.Path.{_≡_, refl, sym, _∙_, ap, subst}
+use mathlib.Core.Bool.{Bool, true, false}
+use mathlib.Core.List.{List}
+use mathlib.Core.Logic.{_≢_, ⊎-elim}
+use mathlib.Core.Option.{Option, none, some}
+use native.Mathlib.Omega.{arith}
+use native.Mathlib.Nat.{eq-or-lt-of-le}
+use borrow.Author.Tests.{eq-eqb, ne-eqb}
+use lib.ListN.{length, getD, set, replicate, length-replicate, getD-replicate, List·getD-eq-default}
+use lib.Seq.{getD-set-same, getD-set-other, ext-getD}
+use lib.Dec.{eqb}
+use Rattle.cells.specs.Laws.Facts.{when-true, when-false}
+use Rattle.rom.specs.Sizes.{romMost, marksSize}
+use Rattle.rom.specs.Header.{lengthOf, wideOf, headerOf}
+use Rattle.screen.specs.Laws.Found.Model.{Board, RoundEnd, roomOf, firstBoard, roundsOf, lastOf, laidOf, screenOf}
+use Rattle.screen.specs.Laws.Found.Room.{has-room, zeros}
+use Rattle.screen.specs.Laws.Found.Laid.{header-length, laid-size, laid-at}
+use Rattle.screen.specs.Laws.Code.Walk.{WalkTables}
+use Rattle.screen.specs.Laws.Code.Body.{Bounded}
+use Rattle.screen.specs.Laws.Code.Round.{PassedIs}
+use Rattle.screen.specs.Laws.Found.Screen.{screened, verdictOn, judgedOf, screenedOf}
+use Rattle.screen.specs.declared.screening.Verdict.the-variants.{Passes, Refused}
+use Rattle.screen.specs.Laws.Found.Cell.{markIn, mark-none}
+
+-- ---- a list that is filled from the front
+-- what is filled in is so, as far as i
+pub record Filled (f : ℕ → ℕ) (i : ℕ) (l : List ℕ) : Type 0 where
+  pub each : (k : ℕ) → k < i → getD l k 0 ≡ f k
+
+pub filled-none : (f : ℕ → ℕ) (l : List ℕ) → Filled f 0 l
+filled-none f l = record { each = λ k h. absurd (omega arith) }
+
+pub filled-more : (f : ℕ → ℕ) (i v : ℕ) (l : List ℕ) → i < length l → v ≡ f i → Filled f i l → Filled f (i + 1) (set l i v)
+filled-more f i v l h e k = record { each = λ j q. ⊎-elim (λ s. here j s) (λ s. there j s) (eq-or-lt-of-le (below j q)) }
+  where
+    below : (j : ℕ) → j < i + 1 → j ≤ i
+    below j q = omega arith
+
+    here : (j : ℕ) → j ≡ i → getD (set l i v) j 0 ≡ f j
+    here j s = rw (s, getD-set-same l i v 0 h) e
+
+    there : (j : ℕ) → j < i → getD (set l i v) j 0 ≡ f j
+    there j s = let n : j ≢ i = λ q. omega arith in rw (getD-set-other l i j v 0 n) (k .each j s)
+
+-- a mark is its cell's, and behind the last cell there are none
+pub filled-laid : (seen l : List ℕ) (i : ℕ) → length seen ≤ length l → length l ≡ marksSize → length l ≤ i
+    → Filled (λ k. markIn (getD seen k 0)) i l
+    → l ≡ laidOf seen
+filled-laid seen l i s e h k =
+    ext-getD 0 l (laidOf seen) (e ∙ sym (laid-size seen (omega arith))) (λ j q. k .each j (omega arith) ∙ sym (laid-at seen j))
+
+pub mark-behind : (seen : List ℕ) (i : ℕ) → length seen ≤ i → 0 ≡ markIn (getD seen i 0)
+mark-behind seen i h = rw (List·getD-eq-default seen 0 h) (sym mark-none)
+
+pub filled-zeros : (n : ℕ) (l : List ℕ) (i : ℕ) → length l ≡ n → n ≤ i → Filled (λ k. 0) i l → l ≡ replicate n 0
+filled-zeros n l i e h k =
+    ext-getD 0 l (replicate n 0) (e ∙ sym (length-replicate n 0))
+    (λ j q. k .each j (omega arith) ∙ sym (getD-replicate n j 0 0 (omega arith)))
+
+zeros-bounded : (n : ℕ) → Bounded 65536 (replicate n 0)
+zeros-bounded n = record { each = λ p. rw (zeros n p) (omega arith) }
+
+-- ---- what a program is judged by
+-- a good header, its length, the mark buffer, and clear tables with room for it
+pub record Judging (rom : List ℕ) (n : ℕ) (marks seen work : List ℕ) : Type 0 where
+  pub header : headerOf rom ≡ 0
+  pub size : n ≡ lengthOf rom
+  pub buffer : length marks ≡ marksSize
+  pub clear : seen ≡ replicate (roomOf (lengthOf rom)) 0
+  pub wide : length seen ≤ length work
+
+-- the same before the tables are there
+pub record Judged (rom : List ℕ) (n : ℕ) (marks : List ℕ) (room : ℕ) : Type 0 where
+  pub header : headerOf rom ≡ 0
+  pub size : n ≡ lengthOf rom
+  pub buffer : length marks ≡ marksSize
+  pub fits : room ≡ roomOf n
+
+pub judging : (rom : List ℕ) (n : ℕ) (marks : List ℕ) (room : ℕ) → Judged rom n marks room
+    → Judging rom n marks (replicate room 0) (replicate room 0)
+judging rom n marks room k =
+    record {
+      header = k .header;
+      size = k .size;
+      buffer = k .buffer;
+      clear = rw (← k .size, ← k .fits) refl;
+      wide = omega arith;
+    }
+
+module _ (rom : List ℕ) (n : ℕ) (marks seen work : List ℕ) (k : Judging rom n marks seen work) where
+  cells : length seen ≡ roomOf n
+  cells = rw (k .clear, k .size) (length-replicate (roomOf (lengthOf rom)) 0)
+
+  pub judging-tables : WalkTables n seen work
+  judging-tables =
+      let l : n ≤ romMost = rw (k .size) (header-length rom (k .header)) in
+      let h = has-room n l cells in
+      record { room = h .0; few = h .1; wide = k .wide }
+
+  pub judging-low : Bounded 65536 seen
+  judging-low = rw (k .clear) (zeros-bounded (roomOf (lengthOf rom)))
+
+-- ---- the verdict
+module _ (rom marks : List ℕ) where
+  pub screen-size : (length marks ≡ marksSize → ⊥) → screened (Refused 6) marks ≡ screenedOf rom marks
+  unfolding screenedOf
+  screen-size n = sym (when-false _ _ (eqb (length marks) marksSize) (ne-eqb _ _ n))
+
+  pub screen-header : (why : ℕ) → length marks ≡ marksSize → why ≡ headerOf rom → (why ≡ 0 → ⊥)
+      → screened (Refused why) marks ≡ screenedOf rom marks
+  unfolding screenedOf
+  screen-header why l e n =
+      rw e
+      (sym (when-true _ _ (eqb (length marks) marksSize) (eq-eqb _ _ l) ∙ when-false _ _ (eqb (headerOf rom) 0)
+      (ne-eqb _ _ (λ q. n (e ∙ q)))))
+
+  pub screen-judged : length marks ≡ marksSize → headerOf rom ≡ 0 → judgedOf rom marks ≡ screenedOf rom marks
+  unfolding screenedOf
+  screen-judged l e =
+      sym (when-true _ _ (eqb (length marks) marksSize) (eq-eqb _ _ l) ∙ when-true _ _ (eqb (headerOf rom) 0) (eq-eqb _ _ e))
+
+  module _ (size : ℕ) (b : Board) (good : Bool) (seen′ : List ℕ) (e : size ≡ lengthOf rom)
+      (f : b ≡ firstBoard (roomOf (lengthOf rom)) (wideOf rom))
+      (p : PassedIs (roundsOf rom size romMost b) good seen′) where
+    last-so : roundsOf rom size romMost b ≡ lastOf rom
+    unfolding lastOf
+    last-so =
+        ap (λ (n : ℕ). roundsOf rom n romMost b) e ∙ ap (λ (y : Board). roundsOf rom (lengthOf rom) romMost y) f
+
+    passed-last : PassedIs (lastOf rom) good seen′
+    passed-last = subst (λ (m : RoundEnd). PassedIs m good seen′) last-so p
+
+    pub judge-passes : good ≡ true → (marks′ : List ℕ) → marks′ ≡ laidOf seen′ → screened Passes marks′ ≡ judgedOf rom marks
+    unfolding judgedOf screenOf
+    judge-passes g marks′ m =
+        let k = passed-last in
+        m-so marks′ m (k .whole g) ∙ ap (λ (o : Option (List ℕ)). verdictOn marks o)
+        (sym (when-true (some (laidOf (lastOf rom .board .seen))) none (lastOf rom .good) (k .same ∙ g)))
+      where
+        m-so : (marks′ : List ℕ) → marks′ ≡ laidOf seen′ → lastOf rom .board .seen ≡ seen′
+            → screened Passes marks′ ≡ screened Passes (laidOf (lastOf rom .board .seen))
+        m-so marks′ m s = ap (λ (l : List ℕ). screened Passes l) (m ∙ ap (λ (l : List ℕ). laidOf l) (sym s))
+
+    pub judge-refuses : good ≡ false → (marks′ : List ℕ) → marks′ ≡ replicate (length marks) 0
+        → screened (Refused 31) marks′ ≡ judgedOf rom marks
+    unfolding judgedOf screenOf
+    judge-refuses g marks′ m =
+        let k = passed-last in
+        ap (λ (l : List ℕ). screened (Refused 31) l) m ∙ ap (λ (o : Option (List ℕ)). verdictOn marks o)
+        (sym (when-false (some (laidOf (lastOf rom .board .seen))) none (lastOf rom .good) (k .same ∙ g)))

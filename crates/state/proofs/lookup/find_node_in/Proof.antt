@@ -1,0 +1,16 @@
+use mathlib.Core.Path.{_∙_}
+use denote.Ref.{now}
+use Rattle.state.specs.Laws.Lookup.{node-shown}
+use borrow.Author.Needs.{needs}
+use Rattle.state.proofs.lookup.find_node_in.Statement.{statement}
+use Rattle.state.proofs.lookup.find_node_in.Tie as tie
+
+pub find-node-in-spec : {M : Type 1} → statement M
+find-node-in-spec =
+    tie.close
+    (tie.spec
+    (λ c κs. search needs)
+    (λ c κs. search needs)
+    (λ c.
+    let a = c .before .before .before .before .args in
+    rw (c .before .tree-or-none .ensures) at (c .find-node .ensures) ∙ node-shown (a .state) (now (a .store)) (now (a .path))))
