@@ -142,13 +142,10 @@ def main():
     apart(found, wrong)
     names(found, wrong)
     contents(wrong)
-    rows = table(found)
-    if "--check" in sys.argv:
-        if "\n".join(rows) not in (ROOT / "README.md").read_text():
-            wrong.append("README.md has another table of lines than this:")
-            wrong += rows
-    else:
-        print("\n".join(rows))
+    rows = "\n".join(table(found))
+    print(rows)
+    if "--check" in sys.argv and rows not in (ROOT / "README.md").read_text():
+        wrong.append("README.md has another table of lines than this")
     for line in wrong:
         print(f"tests/believed.py: {line}")
     print(f"{count} public functions, {sum(len(names) for names in JOINTS.values())} of them joints; {len(wrong)} things wrong")

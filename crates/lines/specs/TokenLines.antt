@@ -180,7 +180,7 @@ unfoldable pub linesFrom : ℕ → List ℕ → Bool → ℕ → List ℕ
 linesFrom zero rom wide p = []
 linesFrom (suc k) rom wide p = pieceText rom wide p ++ linesFrom k rom (wideBehind rom wide p) (nextOf rom wide p)
 
--- room for any line: none is longer (`line-short`, TokenLaws.antt)
+-- room for any line: none is longer (`line-short`, Laws/Tokens.antt)
 abbrev pub lineMost : ℕ
 lineMost = 1024
 

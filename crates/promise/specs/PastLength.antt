@@ -11,7 +11,7 @@
 --
 -- It is said of what the contracts of `check_header`, `screen`, `open`, `step`, `run` and of the calls from C promise, and so it holds
 -- of whatever code meets them. `Alike` and `AlikeTo` are in rom/specs/Alike.antt. Every ROM with a good header is alike to what is
--- left of it without the bytes past its length (`cut-alike`, rom/specs/PastLaws.antt). Assumes nothing.
+-- left of it without the bytes past its length (`cut-alike`, rom/specs/Laws/Past.antt). Assumes nothing.
 use Prim.Native.Nat.{ℕ}
 use mathlib.Core.Path.{_≡_}
 use mathlib.Core.List.{List}
