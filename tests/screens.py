@@ -1,7 +1,7 @@
 #!/usr/bin/env python3
-"""What crates/screens is run on and must print: the worked cases, the bench ROMs of documents 01 and 02, the ROMs by which docs/DECISIONS.md
-says how document 01 is read, wrong buffers and headers, and ROMs for the rules that these do not touch. The worked cases were worked out
-apart from the Rattle code, the rest by hand here.
+"""What crates/screens is run on and must print: the worked cases, the bench ROMs of documents 01 and 02, the ROMs by which
+docs/DECISIONS.md says how document 01 is read, wrong buffers and headers, and ROMs for the rules that these do not touch. The worked
+cases were worked out apart from the Rattle code, the rest by hand here.
 
     python3 tests/screens.py           writes crates/screens/stdin and crates/screens/stdout
     python3 tests/screens.py --check   compares them with what it would write, and exits 1 where they differ
