@@ -70,8 +70,9 @@ fieldLines rom = startLine rom ++ (formatLine rom ++ (lengthLine rom ++ sumLine 
 unfoldable pub headerLines : List ℕ → List ℕ
 headerLines rom = pick (ltb romMost (length rom)) overLine (sizeLine (length rom) ++ pick (ltb (length rom) romLeast) [] (fieldLines rom))
 
--- ---- the tree: a node's path, and under it its properties a node is called by its "name" where that is text of 1 to 31 letters, as the
--- standard has a node's name; another by its number, "(node 3)"
+-- ---- the tree: a node's path, and under it its properties
+-- a node is called by its "name" where that is text of 1 to 31 letters, as the standard has a node's name; another by its number,
+-- "(node 3)"
 abbrev pub isTitle : List ℕ → Bool
 isTitle value = leb 2 (length value) && (leb (length value) 32 && isText value)
 

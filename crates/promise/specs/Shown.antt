@@ -3,8 +3,7 @@
 -- with a number from 21 to 27, and `steps` shows no more than the budget. A C program is handed numbers: where `fcode_screen` gives 0,
 -- `fcode_run` with buffers of their sizes gives 0, 28, or a number from 21 to 27, and no more steps than the budget. Both are said of
 -- what the contracts of `list` (listing/src/listing.rt), `fcode_list`, `fcode_screen` and `fcode_run` (host/src/lib.rt) promise: of
--- `fcode_screen` any number that the screen's rules allow, of the others the definitions that they are equations with. Assumes
--- nothing.
+-- `fcode_run` the definition that it is an equation with, of the others any result that the screen's promise allows. Assumes nothing.
 use Prim.Native.Nat.{ℕ, _≤_}
 use mathlib.Core.Path.{_≡_}
 use mathlib.Core.Bool.{not}

@@ -111,7 +111,9 @@ abbrev pub widens : Effect
 widens s t = goes s (withCalls (s .state) (s .state .calls) (t .next) true)
 
 -- ---- a call, and leaving a body: "A body keeps the offset width in force where it was defined"; leaving it gives back the caller's place
--- and width one frame more: where it goes back to, the width there, and the return stack's height
+-- and width
+--
+-- one frame more: where it goes back to, the width there, and the return stack's height
 abbrev pub framedOf : Calls → ℕ → Bool → ℕ → Calls
 framedOf calls place wide base =
     callsOn (set (calls .places) (calls .count) place) (set (calls .wides) (calls .count) wide) (set (calls .bases) (calls .count) base)
@@ -186,8 +188,9 @@ assigns s t =
     (cellOf s 0)))
 
 -- ---- "111 encode-int (four bytes, big-endian, at the work place, which moves only past what 111, 114 and B9 write), 114 encode-string
--- (there too: the bytes as before the token, and a null), 112 encode+" the bytes written at the work place, so many cells taken, and their
--- address and length given
+-- (there too: the bytes as before the token, and a null), 112 encode+"
+--
+-- the bytes written at the work place, so many cells taken, and their address and length given
 abbrev pub encodedOf : Scene → Token → ℕ → List ℕ → Turn
 encodedOf s t takes bytes =
     turn Going

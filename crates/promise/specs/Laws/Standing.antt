@@ -49,9 +49,9 @@ pub record Carried (rom : List ℕ) (home : ℕ) (ns : Numbers) : Type 0 where
   pub full : (d e : ℕ) (f : Defined rom d e) → e ≤ home → (i : ℕ) × (i < ns .count)
       × (getD (ns .programs) i 0 ≡ newNumber (f .token .operand))
 
--- ---- frames in step with the call chain Home is where the run stands outside bodies, and `outer` the setting there. Where a call is open,
--- home is the place of the outermost call: the call chain says so of each text in which a call stands, and nothing is asked of a place in a
--- body.
+-- ---- frames in step with the call chain
+-- Home is where the run stands outside bodies, and `outer` the setting there. Where a call is open, home is the place of the outermost
+-- call: the call chain says so of each text in which a call stands, and nothing is asked of a place in a body.
 abbrev pub AtHome : (text place : ℕ) → Setting → (home : ℕ) → Setting → Type 0
 AtHome zero p s home outer = (p ≡ home) × (s ≡ outer)
 AtHome (suc d) p s home outer = Unit {0}
