@@ -1,25 +1,33 @@
--- Sums of bytes, one byte more at a time. Assumes nothing.
+-- Sums of bytes, from the last one down, one more at a time. Assumes nothing.
 use Prim.Native.Nat.{ℕ, _+_, _-_, _≤_, _<_, _%_, _^_, min}
 use mathlib.Core.Path.{_≡_, sym, _∙_}
-use mathlib.Core.List.{List, [], _∷_, _++_}
+use mathlib.Core.List.{List}
 use native.Mathlib.Omega.{arith}
 use native.Mathlib.Numerals.{add-one}
 use native.Mathlib.Decide.{decLe}
 use lib.ListN.{length, take, drop, getD, length-drop}
-use lib.Seq.{take-suc, take-all}
+use lib.Seq.{drop-cons, drop-length, take-all}
 use Rattle.rom.specs.Sum.{total, programOf, sumOf}
+use Rattle.rom.specs.Joints.Sum.{SummedFrom}
 
-total-append : (xs ys : List ℕ) → total (xs ++ ys) ≡ total xs + total ys
-total-append [] ys = omega arith
-total-append (x ∷ xs) ys = omega (arith, total-append xs ys)
+-- a byte, and what is behind it
+total-from : (bytes : List ℕ) (i : ℕ) → i < length bytes → total (drop i bytes) ≡ getD bytes i 0 + total (drop (i + 1) bytes)
+total-from bytes i h = rw (add-one, drop-cons bytes i 0 h)
 
-pub total-more : (a : List ℕ) (i : ℕ) → i < length a → total (take (i + 1) a) ≡ total (take i a) + getD a i 0
-total-more a i h = rw (add-one, take-suc a i 0 h, total-append) (omega arith)
+module _ (bytes : List ℕ) where
+  -- a sum of nothing, one with the byte before its own, and one of all
+  pub none-summed : SummedFrom bytes (length bytes) 0
+  none-summed = record { within = omega arith; same = rw (drop-length bytes) }
 
--- a wrapped sum with one byte more
-pub wrapped-more : (a : List ℕ) (i sum : ℕ) → i < length a → sum ≡ total (take i a) % 2 ^ 16
-    → (sum + getD a i 0) % 2 ^ 16 ≡ total (take (i + 1) a) % 2 ^ 16
-wrapped-more a i sum h e = omega (arith, total-more a i h)
+  pub one-more : (left sum : ℕ) → 0 < left → SummedFrom bytes left sum
+      → SummedFrom bytes (left - 1) ((sum + getD bytes (left - 1) 0) % 2 ^ 16)
+  one-more left sum h s =
+      let e : left - 1 + 1 ≡ left = omega arith in
+      let here = rw e at (total-from bytes (left - 1) (omega (arith, s .within))) in
+      record { within = omega (arith, s .within); same = omega (arith, here, s .same) }
+
+  pub all-summed : (left sum : ℕ) → left ≡ 0 → SummedFrom bytes left sum → sum ≡ total bytes % 2 ^ 16
+  all-summed left sum e s = rw e at (s .same)
 
 -- what a ROM does not have adds nothing
 pub program-within : (rom : List ℕ) (len : ℕ) → programOf rom len ≡ take (min len (length rom) - 8) (drop 8 rom)

@@ -14,5 +14,7 @@ pub mod Header
 pub mod Alike
 -- Where a branch leads, as document 01 numbers it.
 pub mod Numbered
+-- What the functions of this crate agree on among themselves: definitions for private ones.
+pub mod Joints
 -- What is only proved: nothing here has to be believed.
 pub mod Laws

@@ -1,53 +1,13 @@
 ghost use mathlib.Core.Path.{_≡_};
-ghost use Prim.Native.Nat.{_%_, _^_, min};
 ghost use mathlib.Core.Bool.{not};
 ghost use lib.Dec.{eqb};
-ghost use Rattle.rom.specs.Sum.{total, sumOf};
 ghost use Rattle.rom.specs.Header.{wideOf, startOf, lengthOf, headerOf};
 use crate::bytes::byte;
 use crate::bytes::word16;
 use crate::bytes::word32;
-use crate::sizes::FIRST_PLACE;
 use crate::sizes::ROM_LEAST;
 use crate::sizes::ROM_MOST;
-
-fn wide16(b: u8) -> u16
-    ensures { λ r. ⌜ r ≡ b ⌝ }
-{
-    b as u16
-}
-
-// The sum of bytes modulo 65,536. A sum that wraps at 16 bits is the sum modulo 65,536 with no remainder taken, and is added up several
-// bytes at a time.
-fn byte_sum(body: &[u8]) -> u16
-    ensures { λ r. ⌜ r ≡ total (now (body .entry)) % 2 ^ 16 ⌝ }
-{
-    let mut sum: u16 = 0;
-    let mut i = 0;
-    while i < body.len() {
-        sum = std::num::wrapping_add_u16(sum, wide16(body[i]));
-        i += 1;
-    }
-    sum
-}
-
-// The sum of bytes 8 to length-1 modulo 65,536; those that a ROM does not have count as 0.
-pub fn body_sum(rom: &[u8], length: u32) -> u16
-    ensures { λ r. ⌜ r ≡ sumOf (now (rom .entry)) length ⌝ }
-{
-    let start = FIRST_PLACE;
-    let end = least(length as usize, rom.len());
-    if end <= start {
-        return 0;
-    }
-    byte_sum(&rom[start..end])
-}
-
-fn least(a: usize, b: usize) -> usize
-    ensures { λ r. ⌜ r ≡ min a b ⌝ }
-{
-    if a < b { a } else { b }
-}
+use crate::sum::body_sum;
 
 // The program length that the header gives.
 pub fn program_length(rom: &[u8]) -> u32

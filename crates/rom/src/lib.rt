@@ -4,6 +4,7 @@ mod branch;
 mod bytes;
 mod header;
 pub mod sizes;
+mod sum;
 
 pub use branch::Aim;
 pub use branch::aim_at;
@@ -12,7 +13,7 @@ pub use branch::offset;
 pub use bytes::byte;
 pub use bytes::word16;
 pub use bytes::word32;
-pub use header::body_sum;
 pub use header::check_header;
 pub use header::program_length;
 pub use header::wide_start;
+pub use sum::body_sum;

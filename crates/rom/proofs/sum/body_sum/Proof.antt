@@ -2,8 +2,8 @@ use mathlib.Core.Path.{_∙_}
 use denote.Ref.{now}
 use borrow.Author.Needs.{needs}
 use Rattle.rom.proofs.Totals.{sum-none, sum-some}
-use Rattle.rom.proofs.header.body_sum.Statement.{statement}
-use Rattle.rom.proofs.header.body_sum.Tie as tie
+use Rattle.rom.proofs.sum.body_sum.Statement.{statement}
+use Rattle.rom.proofs.sum.body_sum.Tie as tie
 
 pub body-sum-spec : {M : Type 1} → statement M
 body-sum-spec =

@@ -1,0 +1,4 @@
+-- What the functions of this crate agree on among themselves: definitions for private ones.
+
+-- A sum on its way from the last byte down.
+pub mod Sum

@@ -1,0 +1,12 @@
+// The sum of a program's bytes by itself, for speed/sums to count and to time: a C program cannot call the library's own, which is a part of
+// the header test. It is no call of the library's, and include/fcode.h does not declare it.
+ghost use mathlib.Core.Path.{_≡_};
+ghost use Rattle.rom.specs.Sum.{sumOf};
+use rom::body_sum;
+
+#[no_mangle]
+pub extern "C" fn library_sum(rom: &[u8], length: u32) -> u16
+    ensures { λ r. ⌜ r ≡ sumOf (now (rom .entry)) length ⌝ }
+{
+    body_sum(rom, length)
+}
