@@ -1,7 +1,7 @@
-/* A C program over include/fcode.h: each of the four calls with good ROMs, bad ROMs, buffers of the wrong size and no ROM at all, and
- * the listing of every worked case and of every name that tests/names.py tries. Compared are every answer, every text with the one zero
- * and the untouched bytes behind it, every buffer that a refused call must leave as it was, and what stands before and behind a buffer,
- * which no call may touch. */
+/* A C program over include/fcode.h: each of the four calls with good ROMs, bad ROMs, buffers of the wrong size and no ROM at all, the sum
+ * of programs of many lengths, and the listing of every worked case and of every name that tests/names.py tries. Compared are every answer,
+ * every text with the one zero and the untouched bytes behind it, every buffer that a refused call must leave as it was, and what stands
+ * before and behind a buffer, which no call may touch. */
 #include "fcode.h"
 
 #include <stdio.h>
@@ -143,6 +143,34 @@ static void checks(void) {
     EXPECT(fcode_check(rom, sizeof rom) == 1);
     EXPECT(fcode_check(rom, 0) == 1);
     EXPECT(fcode_check(NULL, 0) == 1);
+}
+
+/* the sum takes in every byte of the program and no other: it is taken in stretches of several sizes, and the length says in which. A byte
+ * with all its bits turned makes another sum; what lies behind the program, left from longer ones, adds nothing */
+static void sums(void) {
+    static uint8_t body[sizeof rom - 8 - 1];
+    uint32_t draw = 1275;
+    for (size_t i = 0; i < sizeof body; i++) {
+        draw = draw * 1664525 + 1013904223;
+        body[i] = (uint8_t)(draw >> 24);
+    }
+    for (size_t n = sizeof body; n > 0; n -= n < 1100 ? 1 : 251) {
+        size_t step = n <= 300 ? 1 : n / 5;
+        int sum_holds = 1;
+        burn(body, n);
+        if (check() != 0 || fcode_check(rom, sizeof rom - 1) != 0) sum_holds = 0;
+        for (size_t i = 0; i < n; i += step) {
+            rom[8 + i] = body[i] ^ 0xFF;
+            if (check() != 5) sum_holds = 0;
+            rom[8 + i] = body[i];
+        }
+        if (!sum_holds) printf("a program of %lu bytes is summed wrongly\n", (unsigned long)n);
+        EXPECT(sum_holds);
+    }
+    /* the largest sum there is */
+    memset(body, 0xFF, sizeof body);
+    burn(body, sizeof body);
+    EXPECT(rom[2] == 0xB8 && rom[3] == 0x08 && check() == 0);
 }
 
 static void screens(void) {
@@ -337,6 +365,7 @@ int main(int words, char **word) {
         return 2;
     }
     checks();
+    sums();
     screens();
     runs();
     lists();

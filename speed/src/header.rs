@@ -1,5 +1,6 @@
 //! The header and its tests.
 
+use crate::sums;
 use crate::SIZE;
 
 /// A ROM with a good header.
@@ -29,15 +30,10 @@ pub fn open(rom: &[u8]) -> Result<Program<'_>, u32> {
         return Err(4);
     }
     let bytes = &rom[..length];
-    if sum(&bytes[8..]) != u16::from_be_bytes([rom[2], rom[3]]) {
+    if sums::halves(&bytes[8..]) != u16::from_be_bytes([rom[2], rom[3]]) {
         return Err(5);
     }
     Ok(Program { bytes, wide })
-}
-
-/// A sum that wraps at 16 bits is the sum modulo 65,536, and many bytes are added at once.
-fn sum(bytes: &[u8]) -> u16 {
-    bytes.iter().fold(0, |sum: u16, byte| sum.wrapping_add(u16::from(*byte)))
 }
 
 /// The header test alone.

@@ -1,6 +1,7 @@
-//! The calls for C, by the names of the library's with `peer_` in front. Only here are pointers made into slices.
+//! The calls for C, by the names of the library's with `peer_` in front, and the forms of the sum. Only here are pointers made into slices.
 #![allow(unsafe_code)]
 
+use crate::sums;
 use std::slice;
 
 /// # Safety
@@ -51,4 +52,25 @@ pub unsafe extern "C" fn peer_run(
     let (answer, count) = crate::run(lent(rom, rom_len), lent_mut(work, work_len), lent_mut(store, store_len), budget);
     *steps = count;
     answer
+}
+
+macro_rules! forms_of_the_sum {
+    ($($name:ident: $form:ident,)*) => { $(
+        /// # Safety
+        /// As `lent`.
+        #[no_mangle]
+        pub unsafe extern "C" fn $name(rom: *const u8, rom_len: usize, length: u32) -> u16 {
+            sums::$form(sums::body(lent(rom, rom_len), length))
+        }
+    )* };
+}
+
+forms_of_the_sum! {
+    sum_plain: plain,
+    sum_lanes: lanes,
+    sum_chunks: chunks,
+    sum_pairs: pairs,
+    sum_halves: halves,
+    sum_by_hand: by_hand,
+    sum_read: read,
 }

@@ -7,6 +7,7 @@ mod header;
 pub mod host;
 mod numbers;
 mod screener;
+mod sums;
 mod tokens;
 mod tree;
 
