@@ -1,5 +1,5 @@
-// The sum of a program's bytes by itself, for speed/sums to count and to time: a C program cannot call the library's own, which is a part of
-// the header test. It is no call of the library's, and include/fcode.h does not declare it.
+// The sum of a program's bytes by itself, for speed/sums to count and to time: in the library it is a part of the header test, which a C
+// program cannot call alone. It is no call of the library's, and include/fcode.h does not declare it.
 ghost use mathlib.Core.Path.{_≡_};
 ghost use Rattle.rom.specs.Sum.{sumOf};
 use rom::body_sum;

@@ -15,11 +15,12 @@ abbrev μ-loop : tie.MeasureT-loop
 
 loop-again : tie.Need-loop-again Inv-loop μ-loop
 loop-again c =
-    let k = c .before .before .before .before in (
+    let k = c .before .before .before .before in
+    let bytes = now (k .before .before .args .body) in (
       search needs,
       search needs,
-      rw (c .wrapping-add-u16 .ensures, c .before .wide16 .ensures) (one-more (now (k .before .before .args .body)) (k .loop .left) (k .loop .sum)
-          (search needs) (k .loop .inv .2)),
+      rw (c .wrapping-add-u16 .ensures, c .before .wide16 .ensures)
+          (one-more bytes (k .loop .left) (k .loop .sum) (search needs) (k .loop .inv .2)),
     )
 
 returns : tie.Need-returns Inv-loop μ-loop

@@ -6,14 +6,15 @@ use Rattle.rom.proofs.sum.byte_sum.Tie as tie
 
 returns : tie.Need-returns
 returns c =
-    let most = c .before .before .most in
-    all-summed (now (c .before .before .before .before .args .body)) (most .result .left) (most .result .sum) (search needs) (most .ensures .1)
+    let k = c .before .before in
+    let s = k .most .result in
+    all-summed (now (k .before .before .args .body)) (s .left) (s .sum) (search needs) (k .most .ensures .1)
 
 returns-2 : tie.Need-returns-2
 returns-2 c =
-    let last = c .taken4 in
-    all-summed (now (c .before .before .before .before .before .before .before .before .args .body)) (last .result .left) (last .result .sum)
-    (search needs) (last .ensures .1)
+    let s = c .taken2 .result in
+    let start = c .before .before .before .before .before .before .before in
+    all-summed (now (start .args .body)) (s .left) (s .sum) (search needs) (c .taken2 .ensures .1)
 
 pub byte-sum-spec : {M : Type 1} → statement M
 byte-sum-spec =
@@ -21,7 +22,6 @@ byte-sum-spec =
     (tie.spec
     (λ c κs. none-summed (now (c .before .args .body)))
     returns
-    (λ c κs. search needs)
     (λ c κs. search needs)
     (λ c κs. search needs)
     (λ c κs. search needs)
