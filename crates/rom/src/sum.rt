@@ -1,6 +1,6 @@
 // The sum of a program's bytes, modulo 65,536: a sum that wraps at 16 bits, with no remainder taken. Bytes are added in stretches whose
 // size is written at the call, so that the compiler lays a stretch out without a loop, and on x86-64 finds the one instruction for it that
-// adds 16 bytes. docs/SPEED.md has the forms that were tried, and what each costs.
+// adds 16 bytes. docs/SPEED.md has the forms that were tried, and what each costs; `speed/sums --count` tells whether that still holds.
 ghost use mathlib.Core.Path.{_≡_};
 ghost use Prim.Native.Nat.{_-_, _*_, _<_, _≤_, _%_, _^_, min};
 ghost use Rattle.rom.specs.Sum.{total, sumOf};
