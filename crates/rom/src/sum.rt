@@ -87,7 +87,8 @@ fn nearly_all(body: &[u8], start: Summed) -> Summed
     taken(body, s, 4)
 }
 
-// The sum of all bytes. A short program passes what is too large for it by two tests, and one that comes out even passes what is small.
+// The sum of all bytes. A short program skips the stretches that are too large for it by two tests, and one that comes out even skips the
+// small ones.
 fn byte_sum(body: &[u8]) -> u16
     ensures { λ r. ⌜ r ≡ total (now (body .entry)) % 2 ^ 16 ⌝ }
 {
