@@ -5,7 +5,8 @@
  * written to do not overlap each other or the ROM, and `steps` leads to a uint32_t outside them. With the length 0 a pointer is not
  * followed, and may be null.
  *
- * The library is for x86-64 Linux and calls nothing but memcpy and memset: no heap, no files. A call may take 200 KB of stack. */
+ * The library is for x86-64 Linux and calls nothing but memcpy and memset: no heap, no files. A call may take FCODE_STACK_SIZE bytes of
+ * stack; fcode_check and fcode_run, and the other two of a program of up to 4,096 bytes, take an eighth of that at most. */
 #ifndef CELESTALAMP_FCODE_H
 #define CELESTALAMP_FCODE_H
 
@@ -16,8 +17,14 @@
 extern "C" {
 #endif
 
+/* a ROM has 8 bytes at least, and so many at most */
+#define FCODE_ROM_MOST 65536
+
+/* the stack, in bytes, that a call may take: 452,408 were measured, the rest is margin */
+#define FCODE_STACK_SIZE 524288
+
 /* the sizes, in bytes, that each buffer must have exactly */
-#define FCODE_MARKS_SIZE 16384
+#define FCODE_MARKS_SIZE 65536
 #define FCODE_WORK_SIZE 16384
 #define FCODE_STORE_SIZE 16384
 #define FCODE_TEXT_SIZE 65536

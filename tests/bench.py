@@ -9,7 +9,7 @@ import pathlib
 import random
 import sys
 
-from roms import with_header
+from roms import of_hex, with_header
 
 BENCH = pathlib.Path(__file__).parent.parent / "crates" / "bench"
 
@@ -44,7 +44,6 @@ KINDS = range(0xB7, 0xBB)
 PROGRAM = range(0x800, 0x1000)
 NOT_INSIDE = DEFINING + (0x00, 0xFF, 0xCC, 0x11F, 0x127)
 NOT_OUTSIDE = (0x33, 0xC2)
-FILLED = {"F": 16384, "G": 16385}
 DEFINED = {0x800: 0xB7, 0x801: 0xB8, 0x802: 0xB9, 0x803: 0xBA}
 
 
@@ -73,7 +72,7 @@ class Reader:
 
 
 def header(rom):
-    if not 8 <= len(rom) <= 16384:
+    if not 8 <= len(rom) <= 65536:
         return 1
     if rom[0] not in (0xFD, 0xF1):
         return 2
@@ -162,8 +161,7 @@ def body(rom, length, wide, place):
 def lines(text):
     for line in text.splitlines():
         letter, digits = line.split(" ")
-        rom = bytes.fromhex(digits)
-        rom += rom[-1:] * (FILLED.get(letter, 0) - len(rom))
+        rom = of_hex(digits)
         verdict = header(rom)
         yield f"header {verdict:x}"
         if letter == "T" and verdict == 0:

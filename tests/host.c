@@ -1,12 +1,14 @@
 /* A C program over include/fcode.h: each of the four calls with good ROMs, bad ROMs, buffers of the wrong size and no ROM at all, the sum
- * of programs of many lengths, and the listing of every worked case and of every name that tests/names.py tries. Compared are every answer,
- * every text with the one zero and the untouched bytes behind it, every buffer that a refused call must leave as it was, and what stands
- * before and behind a buffer, which no call may touch. */
+ * of programs of many lengths, the longest ROM, the stack that a call takes, and the listing of every worked case and of every case of
+ * tests/names.py and tests/long.py. Compared are every answer, every text with the one zero and the untouched bytes behind it, every buffer
+ * that a refused call must leave as it was, and what stands before and behind a buffer, which no call may touch. */
+#define _XOPEN_SOURCE 700
 #include "fcode.h"
 
 #include <stdio.h>
 #include <stdlib.h>
 #include <string.h>
+#include <ucontext.h>
 
 #define GUARD 64
 #define ROOM (FCODE_TEXT_SIZE + 1)
@@ -18,7 +20,7 @@ struct lent {
 };
 
 static struct lent marks, work, store, text;
-static uint8_t rom[16385];
+static uint8_t rom[FCODE_ROM_MOST + 1];
 static size_t rom_len;
 static uint32_t steps;
 static unsigned good, bad;
@@ -93,7 +95,7 @@ static void burn(const void *body, size_t n) {
     rom[2] = (uint8_t)(sum >> 8);
     rom[3] = (uint8_t)sum;
     rom[4] = 0;
-    rom[5] = 0;
+    rom[5] = (uint8_t)(rom_len >> 16);
     rom[6] = (uint8_t)(rom_len >> 8);
     rom[7] = (uint8_t)rom_len;
 }
@@ -170,7 +172,7 @@ static void sums(void) {
     /* the largest sum there is */
     memset(body, 0xFF, sizeof body);
     burn(body, sizeof body);
-    EXPECT(rom[2] == 0xB8 && rom[3] == 0x08 && check() == 0);
+    EXPECT(rom[2] == 0xF8 && rom[3] == 0x08 && check() == 0);
 }
 
 static void screens(void) {
@@ -193,12 +195,92 @@ static void screens(void) {
     EXPECT(untouched(&marks));
 
     /* a wrong size comes before them */
-    for (size_t size = FCODE_MARKS_SIZE - 1; size <= FCODE_MARKS_SIZE + 1; size += 2) {
-        lend_all(size, 0, 0, 0);
+    static const size_t wrong[] = {FCODE_MARKS_SIZE - 1, FCODE_MARKS_SIZE + 1, 16384};
+    for (size_t k = 0; k < sizeof wrong / sizeof wrong[0]; k++) {
+        lend_all(wrong[k], 0, 0, 0);
         EXPECT(screen() == 6);
         EXPECT(untouched(&marks));
     }
     EXPECT(fcode_screen(NULL, 0, NULL, 0) == 6);
+}
+
+/* a ROM of so many bytes: noops and an end0 */
+static void burn_noops(size_t size) {
+    static uint8_t body[FCODE_ROM_MOST - 8];
+    memset(body, 0x7B, sizeof body);
+    body[size - 9] = 0;
+    burn(body, size - 8);
+}
+
+/* a program of full length passes and runs to its end; in a ROM that is one byte too long it does neither */
+static void longest(void) {
+    static uint8_t ones[FCODE_MARKS_SIZE];
+    memset(ones + 8, 1, sizeof ones - 8);
+    burn_noops(FCODE_ROM_MOST);
+    EXPECT(rom_len == 65536 && check() == 0);
+    lend_right();
+    EXPECT(screen() == 0);
+    EXPECT(holds(&marks, ones, sizeof ones));
+    lend_right();
+    EXPECT(run(100000) == 0);
+    EXPECT(steps == 65528);
+    lend_right();
+    EXPECT(prints(100000, NODES "steps 65528\ndone\n"));
+
+    rom_len++;
+    EXPECT(check() == 1);
+    lend_right();
+    EXPECT(screen() == 1 && run(100000) == 1 && steps == 0);
+    EXPECT(prints(100000, "refused 1\n"));
+    EXPECT(untouched(&marks) && untouched(&work) && untouched(&store));
+}
+
+/* what each call leaves of a stack of its own: bytes that are as they were filled were not taken */
+static uint8_t stack[2 * FCODE_STACK_SIZE];
+static ucontext_t here, there;
+static enum { CHECK, SCREEN, RUN, LIST } which_call;
+
+static void call(void) {
+    switch (which_call) {
+    case CHECK: check(); break;
+    case SCREEN: screen(); break;
+    case RUN: run(100000); break;
+    case LIST: list(100000); break;
+    }
+}
+
+static size_t stack_taken(int which) {
+    size_t left = 0;
+    which_call = which;
+    lend_right();
+    memset(stack, 0xC7, sizeof stack);
+    getcontext(&there);
+    there.uc_stack.ss_sp = stack;
+    there.uc_stack.ss_size = sizeof stack;
+    there.uc_link = &here;
+    makecontext(&there, call, 0);
+    swapcontext(&here, &there);
+    while (left < sizeof stack && stack[left] == 0xC7) left++;
+    return sizeof stack - left;
+}
+
+/* fcode.h says how much a call may take, and how much of that with a short program: no table for a long one lies in its way */
+static void stacks(void) {
+    static const size_t sizes[] = {10, 4096, 4097, 16384, FCODE_ROM_MOST};
+    size_t most = 0, most_of_short = 0;
+    for (size_t k = 0; k < sizeof sizes / sizeof sizes[0]; k++) {
+        burn_noops(sizes[k]);
+        for (int which = CHECK; which <= LIST; which++) {
+            int is_short = which == CHECK || which == RUN || sizes[k] <= 4096;
+            size_t taken = stack_taken(which);
+            EXPECT(0 < taken && taken <= FCODE_STACK_SIZE);
+            EXPECT(!is_short || taken <= FCODE_STACK_SIZE / 8);
+            most = most < taken ? taken : most;
+            most_of_short = is_short && most_of_short < taken ? taken : most_of_short;
+        }
+    }
+    printf("tests/host.c: a call took %lu bytes of stack at most, %lu with a short program\n", (unsigned long)most,
+           (unsigned long)most_of_short);
 }
 
 static void runs(void) {
@@ -315,10 +397,10 @@ static void lists(void) {
 
     /* buffers of the wrong size, each alone, before anything else is said of the ROM */
     for (size_t off = 0; off <= 2; off += 2) {
-        size_t size = FCODE_MARKS_SIZE - 1 + off;
         for (int which = 0; which < 3; which++) {
-            lend_all(which == 0 ? size : FCODE_MARKS_SIZE, which == 1 ? size : FCODE_WORK_SIZE, which == 2 ? size : FCODE_STORE_SIZE,
-                     FCODE_TEXT_SIZE);
+            size_t size[3] = {FCODE_MARKS_SIZE, FCODE_WORK_SIZE, FCODE_STORE_SIZE};
+            size[which] += off - 1;
+            lend_all(size[0], size[1], size[2], FCODE_TEXT_SIZE);
             EXPECT(prints(100000, "refused 6\n"));
             EXPECT(untouched(&marks) && untouched(&work) && untouched(&store));
         }
@@ -330,15 +412,18 @@ static void lists(void) {
     EXPECT(fcode_list(NULL, 0, NULL, 0, NULL, 0, NULL, 0, 0, NULL, 0) == 0);
 }
 
-/* two hexadecimal digits as a byte, or -1 */
-static int byte_at(const char *p) {
-    unsigned byte;
-    return strspn(p, "0123456789ABCDEF") >= 2 && sscanf(p, "%2x", &byte) == 1 ? (int)byte : -1;
+/* a hexadecimal digit's value, and two digits as a byte; -1 where there are none */
+static int digit_at(const char *p) {
+    static const char all[] = "0123456789ABCDEF";
+    const char *found = *p == 0 ? NULL : strchr(all, *p);
+    return found == NULL ? -1 : (int)(found - all);
 }
+
+static int byte_at(const char *p) { return digit_at(p) < 0 || digit_at(p + 1) < 0 ? -1 : 16 * digit_at(p) + digit_at(p + 1); }
 
 /* the cases as tests/listings.py prints them: their count, and for each a ROM and a budget, the listing's lines, a dot */
 static void cases(const char *name) {
-    static char line[80000], lines[FCODE_TEXT_SIZE + 1];
+    static char line[2 * sizeof rom + 100], lines[FCODE_TEXT_SIZE + 1];
     FILE *file = fopen(name, "r");
     unsigned long count = 0, all = 0;
     if (file != NULL && fgets(line, sizeof line, file) != NULL) all = strtoul(line, NULL, 10);
@@ -367,6 +452,8 @@ int main(int words, char **word) {
     checks();
     sums();
     screens();
+    longest();
+    stacks();
     runs();
     lists();
     cases(word[1]);

@@ -61,7 +61,11 @@ bytes FD0802780000001612013112066C616E653A31011000 >"$room/colon.rom"
 # a number that is not in the list, of one byte and of two, a branch behind offset16, a definition, and a literal that is cut off
 bytes FD080571000000161501FECC13FFFBB50800B7100000 >"$room/mixed.rom"
 : >"$room/empty.rom"
-head -c 16385 /dev/zero >"$room/long.rom"
+# of full length: noops and an end0; noops alone, so that the program ends without a finish; the first with one byte more
+noops() { head -c "$1" /dev/zero | tr '\000' '{'; }
+{ bytes FD08FBAD00010000; noops 65527; bytes 00; } >"$room/full.rom"
+{ bytes FD08FC2800010000; noops 65528; } >"$room/falls.rom"
+{ cat "$room/full.rom"; bytes 00; } >"$room/long.rom"
 mkdir "$room/folder.rom"
 
 nodes='screen pass
@@ -124,9 +128,15 @@ steps 0
 refused 28" '' - 0 <"$room/scale.rom"
 # a ROM of no bytes or of too many is refused, by document 01; only what cannot be read is status 2
 expect 1 'refused 1' 'standard input: empty' - </dev/null
-expect 1 'refused 1' 'standard input: over 16,384 bytes' - <"$room/long.rom"
+expect 1 'refused 1' 'standard input: over 65,536 bytes' - <"$room/long.rom"
+expect 0 "$nodes
+steps 65528
+done" '' full.rom
+expect 0 "$nodes
+steps 65528
+done" '' - <"$room/full.rom"
 expect 1 'refused 1' 'empty.rom: empty' empty.rom
-expect 1 'refused 1' 'long.rom: over 16,384 bytes' long.rom
+expect 1 'refused 1' 'long.rom: over 65,536 bytes' long.rom
 expect 2 '' 'folder.rom: Is a directory' folder.rom
 expect 2 '' 'missing.rom: No such file or directory' missing.rom
 expect 2 '' "many$no_budget" scale.rom many
@@ -152,7 +162,9 @@ expect 1 'refused 3' '' tokens format.rom
 expect 1 'refused 4' '' tokens length.rom
 expect 1 'refused 5' '' tokens zeroed.rom
 expect 1 'refused 1' 'empty.rom: empty' tokens empty.rom
-expect 1 'refused 1' 'long.rom: over 16,384 bytes' tokens long.rom
+expect 1 'refused 1' 'long.rom: over 65,536 bytes' tokens long.rom
+expect 0 "$(seq 8 65534 | xargs printf '%04X 7B noop\n')
+FFFF 00 end0" '' tokens full.rom
 expect 2 '' 'missing.rom: No such file or directory' tokens missing.rom
 
 # ---- explain
@@ -243,9 +255,34 @@ tree:
 run: refused 11: a token is not in the list, or defines a number or a kind that it may not, steps 0
 at: 0008 raw 15 (no token of the list: the next lines may be its operand)' '' explain mixed.rom
 expect 1 'file: 3 bytes
-verdict: refused 1: the ROM has fewer than 8 or more than 16,384 bytes' '' explain short.rom
-expect 1 'file: more than 16,384 bytes
-verdict: refused 1: the ROM has fewer than 8 or more than 16,384 bytes' 'long.rom: over 16,384 bytes' explain long.rom
+verdict: refused 1: the ROM has fewer than 8 or more than 65,536 bytes' '' explain short.rom
+expect 1 'file: more than 65,536 bytes
+verdict: refused 1: the ROM has fewer than 8 or more than 65,536 bytes' 'long.rom: over 65,536 bytes' explain long.rom
+expect 0 'file: 65536 bytes
+start: FD, 8-bit branch offsets
+format: 08
+length: 65536
+checksum: FBAD, as the program'"'"'s bytes add up
+verdict: passes
+program: 65528 tokens, all of the list
+tree:
+/
+/(node 1)
+run: done, steps 65528' '' explain full.rom
+# the end of the longest program is the one place that four digits do not tell
+expect 1 'file: 65536 bytes
+start: FD, 8-bit branch offsets
+format: 08
+length: 65536
+checksum: FC28, as the program'"'"'s bytes add up
+verdict: refused 31: no stack heights can be assigned to the ROM
+program: 65528 tokens, all of the list
+It does not pass, and is run all the same to show where it leads:
+tree:
+/
+/(node 1)
+run: refused 10: a token'"'"'s bytes pass the program length, steps 65528
+at: 00010000 the program'"'"'s end' '' explain falls.rom
 expect 2 '' 'missing.rom: No such file or directory' explain missing.rom
 expect 2 '' "many$no_budget" explain scale.rom many
 
@@ -285,8 +322,11 @@ zeroed.rom: refused 5: the program'"'"'s bytes do not add up to the checksum
 expect 2 'file,verdict,number,words,steps,name,model
 "missing.rom",unreadable,,"",,"",""' 'missing.rom: No such file or directory
 1 dumps: 0 passed, 0 refused, 0 out of budget, 1 unreadable' scan --csv missing.rom
-expect 1 'empty.rom: refused 1: the ROM has fewer than 8 or more than 16,384 bytes
+expect 1 'empty.rom: refused 1: the ROM has fewer than 8 or more than 65,536 bytes
 1 dumps: 0 passed, 1 refused, 0 out of budget, 0 unreadable' 'empty.rom: empty' scan empty.rom
+expect 1 'full.rom: passes, steps 65528
+long.rom: refused 1: the ROM has fewer than 8 or more than 65,536 bytes
+2 dumps: 1 passed, 1 refused, 0 out of budget, 0 unreadable' 'long.rom: over 65,536 bytes' scan full.rom long.rom
 expect 0 '-: passes, steps 7, name "scale"
 1 dumps: 1 passed, 0 refused, 0 out of budget, 0 unreadable' '' scan - <"$room/scale.rom"
 expect 2 '' "many$no_budget" scan --budget many scale.rom

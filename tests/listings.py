@@ -1,10 +1,11 @@
 #!/usr/bin/env python3
-"""The listing that each worked case and each case of tests/names.py must have, for tests/host.c to compare. First a line with the count
+"""The listing that each worked case and each case of tests/names.py and tests/long.py must have, for tests/host.c to compare. First a line with the count
 of cases; then for each case a line with the ROM in hex ('-': no bytes) and the budget, the listing's lines, and a line with a dot. It
 is put together here from what the case says of screen, run, steps, nodes and properties.
 
     python3 tests/listings.py       prints them
 """
+import long
 import names
 import roms
 
@@ -40,12 +41,12 @@ def listing(told):
 
 
 def main():
-    cases = [*roms.worked_cases(), *names.cases()]
+    cases = [*roms.worked_cases(), *names.cases(), *long.cases()]
     print(len(cases))
     for (rom, budget, *_), told in cases:
         lines = listing(by_kind(told))
         assert "." not in lines
-        print(f"{rom} {budget}", *lines, ".", sep="\n")
+        print(f"{roms.of_hex(rom).hex().upper() or '-'} {budget}", *lines, ".", sep="\n")
 
 
 if __name__ == "__main__":

@@ -11,7 +11,7 @@ PRINTED = range(0x21, 0x7F)
 REFUSED = (string.ascii_uppercase + "/\\:[]@").encode("ascii")
 TRIED = range(0x20, 0x80)
 BUDGET = 1000
-# so many names of 31 bytes that their ROM has at most 2,048 bytes, which crates/runs reads of one
+# so many names of 31 bytes in one ROM
 TOGETHER = 50
 
 # a name around one byte, for each place in which it is tried

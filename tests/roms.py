@@ -3,15 +3,22 @@ and the worked cases, read once for all that run them.
 
 A worked case starts with 'case HEXROM BUDGET [PATH ...]' ('-': no bytes) and ends with '.'; the lines between are what it must
 give, the kind of each in its first word. They were worked out from documents 01 and 02 apart from the Rattle code. tests/cases.txt
-has the cases as they stand with the newest request; tests/cases-kept.txt those of earlier requests that it has no more, and that
-hold as they did.
+has the cases as they stand with the newest request; tests/cases-long.txt those of its ROMs that are too long to be read;
+tests/cases-kept.txt those of earlier requests that it has no more, and that hold as they did.
+
+Where a byte stands often, how often may stand between two stars behind it, 'FD08007B*3*00' for FD08007B7B7B00; and a mark that places
+without a gap between them have may stand once, '8-10:1' for 8:1 9:1 10:1.
 """
+import itertools
 import pathlib
+import re
 import zlib
 
 NARROW, WIDE = 0xFD, 0xF1
 HERE = pathlib.Path(__file__).parent
-CASES = (HERE / "cases.txt", HERE / "cases-kept.txt")
+CASES = (HERE / "cases.txt", HERE / "cases-long.txt", HERE / "cases-kept.txt")
+# so many equal bytes in a row are worth their stars
+OFTEN = 8
 
 
 def with_header(program, start=NARROW):
@@ -25,6 +32,41 @@ def text(content):
 
 def put(name, value):
     return text(value) + text(name) + bytes.fromhex("0110")
+
+
+def in_hex(rom):
+    """A ROM as a word, short where a byte stands often."""
+    word = ""
+    for byte, same in itertools.groupby(rom):
+        count = len(list(same))
+        word += f"{byte:02X}*{count}*" if count >= OFTEN else f"{byte:02X}" * count
+    return word
+
+
+def of_hex(word):
+    """The bytes of such a word."""
+    return bytes.fromhex(re.sub(r"(..)\*(\d+)\*", lambda found: found[1] * int(found[2]), word.replace("-", "")))
+
+
+def marked(marks):
+    """The line of marks, by the mark of each place that has one."""
+    told = []
+    for place in sorted(marks):
+        if told and told[-1][1:] == (place - 1, marks[place]):
+            told[-1] = (told[-1][0], place, marks[place])
+        else:
+            told.append((place, place, marks[place]))
+    return " ".join(["marks", *(f"{first}:{mark}" if first == last else f"{first}-{last}:{mark}" for first, last, mark in told)])
+
+
+def marks_of(line):
+    """The marks that such a line tells, by place."""
+    marks = {}
+    for word in line.split(" ")[1:]:
+        places, mark = word.split(":")
+        first, _, last = places.partition("-")
+        marks.update((place, int(mark)) for place in range(int(first), int(last or first) + 1))
+    return marks
 
 
 def kind(line):
@@ -55,9 +97,11 @@ def rows(told):
     return " ".join(["rows", *(f"{parent}:{owners.count(str(node))}" for node, parent in enumerate(parents))])
 
 
-def left(answer, steps, place, data=(), back=(), frames="", numbers="", nodes="1 0 0", props=(), work_place=0, work=b"", store=b""):
-    """The lines of a run with offsets of 8 bits."""
-    lines = ["open 0", f"run {answer}", f"steps {steps}", f"place {place} width 8"]
+def left(
+    answer, steps, place, width=8, data=(), back=(), frames="", numbers="", nodes="1 0 0", props=(), work_place=0, work=b"", store=b""
+):
+    """The lines of a run."""
+    lines = ["open 0", f"run {answer}", f"steps {steps}", f"place {place} width {width}"]
     lines.append(" ".join(["data", *(f"{cell:08X}" for cell in data)]))
     lines.append(" ".join(["return", *(f"{cell:08X}" for cell in back)]))
     lines.append(f"frames {frames}".rstrip())

@@ -1,7 +1,7 @@
 #!/usr/bin/env python3
-"""What crates/runs is run on and must print: the worked cases, property names byte by byte (tests/names.py), the bench ROMs of document
-01 that only run, every condition of refusal 7, whole states that no run leaves, the order of the tests, and lookups. The worked cases
-were worked out apart from the Rattle code, the rest by hand here.
+"""What crates/runs is run on and must print: the worked cases, property names byte by byte (tests/names.py), long ROMs (tests/long.py), the
+bench ROMs of document 01 that only run, every condition of refusal 7, whole states that no run leaves, the order of the tests, and
+lookups. The worked cases were worked out apart from the Rattle code, the rest by hand here.
 
     python3 tests/runs.py           writes crates/runs/stdin and crates/runs/stdout
     python3 tests/runs.py --check   compares them with what it would write, and exits 1 where they differ
@@ -30,6 +30,7 @@ here from the lines nodes and prop:
 import pathlib
 import sys
 
+import long
 import names
 import roms
 import written
@@ -52,6 +53,10 @@ def worked_cases():
 
 def name_cases():
     return as_run(names.cases())
+
+
+def long_cases():
+    return as_run(long.cases())
 
 
 def with_rows(lines):
@@ -80,8 +85,6 @@ def bench_roms():
     pushes = with_header(b"\xA6" * 65 + b"\x00")
     yield f"R {pushes.hex().upper()} 1000", left("refused 15", 64, 72, data=[1] * 64)
     yield "R FD0800000000000800 1000", ["open 4"]
-    yield "Z 16385", ["open 1"]
-    yield "Z 16384", ["open 2"]
     yield f"R {SCALE.hex().upper()} 100000", left(
         "finished", 7, 30, props=SCALE_PROPS, work_place=4, work=bytes([0, 0, 0, 3]), store=SCALE_STORE
     )
@@ -220,7 +223,7 @@ ORDERS = (
     ("damaged state, no ROM, work memory one byte short", NOT_DONE.format(6)),
     ("damaged state, no ROM, store one byte long", NOT_DONE.format(6)),
     ("damaged state, no ROM", NOT_DONE.format(1)),
-    ("damaged state, ROM of 16,385 bytes", NOT_DONE.format(1)),
+    ("damaged state, ROM of 65,537 bytes", NOT_DONE.format(1)),
     ("damaged state with a length above the ROM", NOT_DONE.format(7)),
     ("length above the ROM, budget 0", NOT_DONE.format(4)),
     ("unfinished, budget 0", "step going run budget steps 0 changed"),
@@ -337,7 +340,7 @@ def lookups():
 
 
 def cases():
-    for part in (worked_cases, name_cases, bench_roms, calls_open, damages, odd_states, over_itself, orders, lookups):
+    for part in (worked_cases, name_cases, long_cases, bench_roms, calls_open, damages, odd_states, over_itself, orders, lookups):
         yield from part()
 
 

@@ -1,13 +1,13 @@
 #!/usr/bin/env python3
-"""What crates/screens is run on and must print: the worked cases, the bench ROMs of documents 01 and 02, the ROMs by which
-docs/DECISIONS.md says how document 01 is read, wrong buffers and headers, and ROMs for the rules that these do not touch. The worked
-cases were worked out apart from the Rattle code, the rest by hand here.
+"""What crates/screens is run on and must print: the worked cases, long ROMs (tests/long.py), the bench ROMs of documents 01 and 02, the
+ROMs by which docs/DECISIONS.md says how document 01 is read, wrong buffers and headers, and ROMs for the rules that these do not touch.
+The worked cases were worked out apart from the Rattle code, the rest by hand here.
 
     python3 tests/screens.py           writes crates/screens/stdin and crates/screens/stdout
     python3 tests/screens.py --check   compares them with what it would write, and exits 1 where they differ
 
-A line of input is 'S HEX', 'W SIZE HEX' with another mark buffer, or 'Z SIZE HEX' with zeros behind the ROM up to a size. It gives two
-lines: 'screen N' (0 passes), and behind it 'marks P:V ...', or, where N is neither 0 nor 31, whether the mark buffer was written.
+A line of input is 'S HEX', or 'W SIZE HEX' with another mark buffer. It gives two lines: 'screen N' (0 passes), and behind it 'marks P:V
+...', or, where N is neither 0 nor 31, whether the mark buffer was written.
 
 A ROM that passes is written here as its tokens, each with the data height at which it is met, '-' where it is not reached: 'A6:0 46:1
 00:0'. A mark is this height and one. A ROM that is refused is written as bytes alone. Every ROM has its ground beside it.
@@ -15,6 +15,7 @@ A ROM that passes is written here as its tokens, each with the data height at wh
 import pathlib
 import sys
 
+import long
 import roms
 import written
 from roms import NARROW, WIDE, with_header
@@ -24,7 +25,7 @@ SCREENS = pathlib.Path(__file__).parent.parent / "crates" / "screens"
 
 def passed(heights):
     """The lines of a ROM that passes, by the height at each reached place."""
-    return ["screen 0", " ".join(["marks", *(f"{place}:{heights[place] + 1}" for place in sorted(heights))])]
+    return ["screen 0", roms.marked({place: height + 1 for place, height in heights.items()})]
 
 
 def refused(number):
@@ -51,11 +52,20 @@ def bare(text):
     return "".join(word.split(":")[0] for word in text.split())
 
 
-def worked_cases():
-    """Each worked case: its line of input, and the lines that it must give."""
-    for (rom, *_), told in roms.worked_cases():
-        lines = [line for line in told if roms.kind(line) in ("screen", "marks")]
+def as_screened(cases):
+    """Of each case its line of input, and the lines that it must give."""
+    for (rom, *_), told in cases:
+        lines = [line for line in told if roms.kind(line) == "screen"]
+        lines += [roms.marked(roms.marks_of(line)) for line in told if roms.kind(line) == "marks"]
         yield f"S {rom.replace('-', '')}", lines if len(lines) == 2 else lines + ["unwritten"]
+
+
+def worked_cases():
+    return as_screened(roms.worked_cases())
+
+
+def long_cases():
+    return as_screened(long.cases())
 
 
 def pushes(count):
@@ -80,8 +90,6 @@ def bench_roms():
     yield passing(f"{pushes(64)} 00:64")
     yield failing("A6" * 65 + "00")  # height 65
     yield "S FD0800000000000800", refused(4)
-    yield "Z 16385 ", refused(1)
-    yield "Z 16385 FD0800000000000900", refused(1)  # good but for the zeros behind it
     yield f"S {SCALE}", passing("12057363616C65:0 0201:2 A8:0 0111:1 12056C616E6573:2 0110:4 00:0")[1]
     yield f"S {SCALE.replace('0517', '0000')}", refused(5)
 
@@ -128,12 +136,12 @@ def nested_bodies(count):
 
 
 def sizes():
-    """A mark buffer of another size than 16,384 bytes is 6 before all else."""
-    for size in (0, 16383, 16385):
+    """A mark buffer of another size than 65,536 bytes is 6 before all else."""
+    for size in (0, 16384, 65535, 65537):
         yield f"W {size} {SCALE}", refused(6)
-    yield "W 16383 FD0800460000000A4600", refused(6)  # 31 with a right buffer
-    yield "W 16385 ", refused(6)  # 1 with a right buffer
-    yield "W 16384 FD0800000000000900", passed({8: 0})
+    yield "W 65535 FD0800460000000A4600", refused(6)  # 31 with a right buffer
+    yield "W 65537 ", refused(6)  # 1 with a right buffer
+    yield "W 65536 FD0800000000000900", passed({8: 0})
 
 
 def headers():
@@ -144,12 +152,6 @@ def headers():
     yield "S FD0800010000000A00", refused(4)  # length 10 of 9 bytes; 5 comes later
     yield "S FD0800010000000900", refused(5)
     yield "S FD0800000000000900FFFF", passed({8: 0})  # bytes behind the length are ignored
-
-
-def long_roms():
-    """ROMs of 16,384 bytes: bbranch with 16 bits, and zeros to the end."""
-    yield "Z 16384 F108014800004000133FF6", passed({8: 0, 16383: 0})  # to the last byte, an end0
-    yield "Z 16384 F108014900004000133FF7", refused(31)  # to the length: 19
 
 
 DROP = "B50800B7:0 46:1 C2:0"  # its need is 1
@@ -298,7 +300,7 @@ PARTS = (
     readings,
     sizes,
     headers,
-    long_roms,
+    long_cases,
     heights,
     bodies,
     cells_and_frames,

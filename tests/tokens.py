@@ -130,9 +130,11 @@ def roms():
             yield with_header(b"\x47" + bytes.fromhex(token)[:kept], 0xF1)
     yield with_header(b"\x12\xFF" + b"\x00" * 255) + b"\x47\x47"
     yield with_header(b"\xB6\xFF" + b"\xAB" * 255 + b"\x0F\xFF\xBA\x00")
-    # the longest ROMs: full of one-byte tokens with the longest name, and of bytes that are none
-    yield with_header(b"\xB2" * 16376)
-    yield with_header(b"\xFE" * 16376)
+    # the longest ROMs: full of one-byte tokens with the longest name, and of bytes that are none; strings, and branches as far as they lead
+    yield with_header(b"\xB2" * 65528)
+    yield with_header(b"\xFE" * 65528)
+    yield with_header((b"\x12\xFF" + b"m" * 255) * 254 + b"\x7B" * 250)
+    yield with_header(b"\x13\x7F\xFF" * 10922 + b"\x13\x80\x00" * 10920 + b"\x7B\x00", 0xF1)
     some = random.Random(1275)
     for k in range(12):
         size = some.choice((1, 2, 40, 300, 4000))

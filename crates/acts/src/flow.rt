@@ -7,7 +7,7 @@ ghost use Rattle.state.specs.Joints.Apart.{onStack, onCalls, Moves, Looks};
 ghost use Rattle.state.specs.Joints.Moves.{stepped};
 ghost use Rattle.state.specs.declared.answer.Answer.the-variants.{Going};
 ghost use Rattle.acts.specs.Joints.Acts.{Quiet, QuietOf, asTheyAre, pairOn};
-ghost use Rattle.rom.specs.Sizes.{dataMost};
+ghost use Rattle.rom.specs.Sizes.{dataMost, romMost};
 use memory::ROM_BASE;
 use rom::sizes::DATA_MOST;
 use rom::sizes::FRAMES_MOST;
@@ -74,7 +74,7 @@ pub fn pair(cells: &mut [u32; DATA_MOST], core: Core, next: u32, first: u32, sec
 
 // b("): the string, which starts at a place, stays in the ROM.
 pub fn quote(cells: &mut [u32; DATA_MOST], core: Core, start: u32, count: u32, next: u32) -> Handed
-    requires { ⌜ (start ≤ 65536) × (core .height ≤ dataMost) ⌝ }
+    requires { ⌜ (start ≤ romMost + 2) × (core .height ≤ dataMost) ⌝ }
     ensures { λ r. ⌜ Moves (onStack (now (cells .entry))) core r (onStack (now (cells .exit)))
         (λ s t. QuietOf text (Text start count) s next t) ⌝ }
 {

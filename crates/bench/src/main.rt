@@ -1,18 +1,15 @@
-// Runs the header test and the decoder over ROMs in hex on standard input, a line each. Behind H a ROM's header is tested; F and G
-// first fill the ROM up with its last byte, to 16,384 bytes and to one more; behind T the token at each place of its program is shown too,
-// in both offset widths, and the body that would be read from there.
+// Runs the header test and the decoder over ROMs in hex on standard input, a line each. Behind H a ROM's header is tested; behind T the
+// token at each place of its program is shown too, in both offset widths, and the body that would be read from there.
+use given::SPACE;
 use given::bytes_from;
+use given::mark_from;
 use libc::STDIN_FILENO;
 use libc::STDOUT_FILENO;
 use rom::Aim;
-use rom::sizes::ROM_MOST;
 use tokens::Body;
 use tokens::Decoded;
 use tokens::Operand;
 use tokens::Token;
-ghost use Prim.Native.Nat.{_+_, _<_, _≤_, _^_};
-ghost use lib.ListN.{length};
-ghost use Rattle.io.specs.Counts.{Counts};
 
 fn say(text: &[u8]) {
     io::write_all(STDOUT_FILENO, text);
@@ -145,61 +142,24 @@ fn show_rom(rom: &[u8], whole: bool) {
     }
 }
 
-// How long a ROM is made, by the letter of its line.
-fn size_by(letter: u8, n: usize) -> usize {
-    match letter {
-        b'F' => ROM_MOST,
-        b'G' => ROM_MOST + 1,
-        _ => n,
-    }
+// One line: a letter, a space, a ROM.
+fn one_line(line: &[u8]) {
+    let mut space = [0u8; SPACE];
+    let n = bytes_from(line, 2, &mut space);
+    show_rom(&space[..n], rom::byte(line, 0) == b'T');
 }
 
-fn last_of(rom: &[u8], n: usize) -> u8 {
-    if n == 0 { 0 } else { rom::byte(rom, n - 1) }
-}
-
-// Repeats a byte behind the first n, up to a size, and tells how many bytes there are then.
-fn fill(rom: &mut [u8], n: usize, last: u8, size: usize) -> usize
-    requires { ⌜ n ≤ length (now rom) ⌝ }
-    ensures { λ r. ⌜ Counts r (now (rom .exit)) ⌝ }
-{
-    let mut k = n;
-    while k < size {
-        if rom.len() <= k {
-            return k;
-        }
-        rom[k] = last;
-        k += 1;
-    }
-    k
-}
-
-// One line: a letter, a space, a ROM. Gives the place behind it.
-fn run_line(text: &[u8], from: usize) -> usize
-    requires { ⌜ from < 2 ^ 31 ⌝ }
-    ensures { λ r. ⌜ (from < r) × (r ≤ from + 2 ^ 20) ⌝ }
-{
-    let mut space = [0u8; 16400];
-    let letter = rom::byte(text, from);
-    let n = bytes_from(text, from + 2, &mut space);
-    let last = last_of(&space, n);
-    let size = fill(&mut space, n, last, size_by(letter, n));
-    show_rom(&space[..size], letter == b'T');
-    from + 3 + n + n
-}
-
-fn run_lines(text: &[u8]) {
+fn all_lines(text: &[u8]) {
     let mut at = 0;
     while at < text.len() {
-        if 1_000_000_000 < at {
-            return;
-        }
-        at = run_line(text, at);
+        let end = mark_from(text, at, b'\n');
+        one_line(&text[at..end]);
+        at = end + 1;
     }
 }
 
 fn main() {
-    let mut text = [0u8; 65536];
+    let mut text = [0u8; 131072];
     let n = io::read_full(STDIN_FILENO, &mut text);
-    run_lines(&text[..n]);
+    all_lines(&text[..n]);
 }

@@ -36,7 +36,7 @@ fn remark(name: &[u8], size: usize) {
         complain(name, b": empty\n");
     }
     if ROM_MOST < size {
-        complain(name, b": over 16,384 bytes\n");
+        complain(name, b": over 65,536 bytes\n");
     }
 }
 

@@ -61,7 +61,7 @@ unfoldable pub sizeLine : ℕ → List ℕ
 sizeLine n = lettersOf "file: " ++ (decimalOf n ++ (lettersOf " bytes" ++ lineEnd))
 
 abbrev pub overLine : List ℕ
-overLine = lettersOf "file: more than 16,384 bytes" ++ lineEnd
+overLine = lettersOf "file: more than 65,536 bytes" ++ lineEnd
 
 unfoldable pub fieldLines : List ℕ → List ℕ
 fieldLines rom = startLine rom ++ (formatLine rom ++ (lengthLine rom ++ sumLine rom))

@@ -17,7 +17,7 @@ Numbers = List (ℕ × String)
 -- of opening: the ROM, its header, and what is lent; there is no 8 or 9
 unfoldable pub opening : Numbers
 opening =
-    (1, "the ROM has fewer than 8 or more than 16,384 bytes") ∷
+    (1, "the ROM has fewer than 8 or more than 65,536 bytes") ∷
     (2, "byte 0 is neither FD nor F1") ∷
     (3, "byte 1 is not 08") ∷
     (4, "the program length is below 9 or above what is there") ∷

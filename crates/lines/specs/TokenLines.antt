@@ -34,9 +34,12 @@ use Rattle.lines.specs.declared.pieces.Cuts.{Cuts}
 abbrev pub between : List ℕ → ℕ → ℕ → List ℕ
 between rom from to = partOf rom from (to - from)
 
--- a place in four digits, its lowest two bytes: a ROM has at most 16,384 bytes
+-- a place in four digits, and in eight where these do not reach: the end of a program of 65,536 bytes is such a place, and no token is
+abbrev pub highDigits : ℕ → List ℕ
+highDigits p = pick (ltb p 65536) [] (hexOf (p / 16777216 % 256 ∷ p / 65536 % 256 ∷ []))
+
 unfoldable pub placeText : ℕ → List ℕ
-placeText p = hexOf (p / 256 % 256 ∷ p % 256 ∷ [])
+placeText p = highDigits p ++ hexOf (p / 256 % 256 ∷ p % 256 ∷ [])
 
 -- where the parts of an operand meet that starts at a place and ends at another: a string's length byte and its bytes; a number and the
 -- kind behind it; or a string, a number and a kind. Any other operand is one part

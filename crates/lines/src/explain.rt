@@ -143,7 +143,7 @@ pub fn header_lines(text: &mut [u8], at: usize, rom: &[u8]) -> usize
     ensures { λ r. ⌜ Wrote (now (text .entry)) (now (text .exit)) at r (headerLines (now (rom .entry))) ⌝ }
 {
     if ROM_MOST < rom.len() {
-        let at = say(text, at, b"file: more than 16,384 bytes");
+        let at = say(text, at, b"file: more than 65,536 bytes");
         return letter(text, at, b'\n');
     }
     let at = size_line(text, at, rom.len() as u32);

@@ -15,7 +15,7 @@ fn opening_words(text: &mut [u8], at: usize, number: u32) -> usize
         1 => say(
             text,
             at,
-            b"the ROM has fewer than 8 or more than 16,384 bytes",
+            b"the ROM has fewer than 8 or more than 65,536 bytes",
         ),
         2 => say(text, at, b"byte 0 is neither FD nor F1"),
         3 => say(text, at, b"byte 1 is not 08"),

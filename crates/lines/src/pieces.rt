@@ -4,7 +4,7 @@ ghost use mathlib.Core.Path.{_≡_};
 ghost use mathlib.Core.List.{_++_};
 ghost use lib.ListN.{length};
 ghost use Rattle.tokens.specs.Name.{nameOf};
-ghost use Rattle.lines.specs.TokenLines.{placeText, cutsOf, partsAt, operandParts, allShown};
+ghost use Rattle.lines.specs.TokenLines.{highDigits, placeText, cutsOf, partsAt, operandParts, allShown};
 ghost use Rattle.lines.specs.TokenLines.{aimRemark, branchRemark, stringRemark, tokenRemark, rawRemark};
 ghost use Rattle.lines.specs.TokenLines.{lineText, rawLine, tokenLine, pieceText, nextOf, wideBehind};
 ghost use Rattle.lines.specs.Laws.Tokens.{Ordered, OperandLies, TokenLies};
@@ -42,9 +42,21 @@ pub struct PieceTold {
     pub wide: bool,
 }
 
+// The upper half of a place, where it is not 0.
+fn high_digits(text: &mut [u8], at: usize, place: usize) -> usize
+    ensures { λ r. ⌜ Wrote (now (text .entry)) (now (text .exit)) at r (highDigits place) ⌝ }
+{
+    if place < 65536 {
+        return at;
+    }
+    let at = hex_byte(text, at, (place / 16777216 % 256) as u8);
+    hex_byte(text, at, (place / 65536 % 256) as u8)
+}
+
 pub fn place_digits(text: &mut [u8], at: usize, place: usize) -> usize
     ensures { λ r. ⌜ Wrote (now (text .entry)) (now (text .exit)) at r (placeText place) ⌝ }
 {
+    let at = high_digits(text, at, place);
     let at = hex_byte(text, at, (place / 256 % 256) as u8);
     hex_byte(text, at, (place % 256) as u8)
 }

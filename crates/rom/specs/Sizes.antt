@@ -1,6 +1,6 @@
 -- The house sizes of document 01, "What the tool covers": "ROM 8 to 16,384 bytes; data stack 64 cells; return stack 32 cells; 16 call
 -- frames; 256 program numbers; 32 nodes with the root; 128 properties; work memory, property store and mark buffer exactly 16,384 bytes
--- each." Assumes nothing.
+-- each", of which request (vi) of document 02 moves two: "Raise the ROM limit and the mark buffer to 65,536 bytes". Assumes nothing.
 use Prim.Native.Nat.{ℕ}
 use Rattle.rom.specs.declared.sizes.House.{House}
 
@@ -8,7 +8,7 @@ abbrev pub romLeast : ℕ
 romLeast = 8
 
 abbrev pub romMost : ℕ
-romMost = 16384
+romMost = 65536
 
 -- the header has bytes 0 to 7, so that a program's first place is 8
 abbrev pub firstPlace : ℕ
@@ -39,7 +39,7 @@ abbrev pub storeSize : ℕ
 storeSize = 16384
 
 abbrev pub marksSize : ℕ
-marksSize = 16384
+marksSize = 65536
 
 -- the buffer that the listing's text is written to, which document 01 leaves open
 abbrev pub textSize : ℕ

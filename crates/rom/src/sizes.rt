@@ -1,11 +1,11 @@
-// The house sizes of document 01, the first place of a program, which stands behind the header, and the size of the text of a listing.
+// The house sizes of documents 01 and 02, the first place of a program, which stands behind the header, and the size of the text of a listing.
 // specs/Sizes.antt has the same names for the definitions, and `house_sizes` shows that the two agree.
 ghost use mathlib.Core.Path.{_≡_};
 ghost use Rattle.rom.specs.Sizes.{house as Sizes·house};
 
 pub const ROM_LEAST: usize = 8;
 
-pub const ROM_MOST: usize = 16384;
+pub const ROM_MOST: usize = 65536;
 
 pub const FIRST_PLACE: usize = 8;
 
@@ -25,7 +25,7 @@ pub const WORK_SIZE: usize = 16384;
 
 pub const STORE_SIZE: usize = 16384;
 
-pub const MARKS_SIZE: usize = 16384;
+pub const MARKS_SIZE: usize = 65536;
 
 pub const TEXT_SIZE: usize = 65536;
 

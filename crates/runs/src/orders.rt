@@ -49,7 +49,7 @@ fn with_length(state: State, length: u32) -> State {
 }
 
 fn show_roms(rom: &[u8], state: State, bad: State) {
-    let long = [0u8; 16385];
+    let long = [0u8; 65537];
     show_offered(2, &long[..0], bad, 0);
     show_offered(3, &long, bad, 0);
     show_offered(4, rom, with_length(bad, 16384), 0);

@@ -3,7 +3,6 @@ ghost use mathlib.Core.Path.{_≡_};
 ghost use Prim.Native.Nat.{_≤_};
 ghost use lib.ListN.{length, replicate};
 ghost use Rattle.rom.specs.Sizes.{marksSize, romMost};
-ghost use Rattle.rom.specs.Header.{headerOf};
 ghost use Rattle.screen.specs.Laws.Found.Model.{laidOf};
 ghost use Rattle.screen.specs.Laws.Code.Screen.{Judging, Judged};
 ghost use Rattle.screen.specs.Laws.Found.Screen.{screened, judgedOf};
@@ -122,6 +121,15 @@ fn judge_middle(rom: &[u8], length: u32, marks: &mut [u8]) -> Verdict
 }
 
 fn judge_large(rom: &[u8], length: u32, marks: &mut [u8]) -> Verdict
+    requires { ⌜ Judged (now rom) length (now marks) 16384 ⌝ }
+    ensures { λ r. ⌜ screened r (now (marks .exit)) ≡ judgedOf (now (rom .entry)) (now (marks .entry)) ⌝ }
+{
+    let mut seen = [0u32; 16384];
+    let mut work = [0u16; 16384];
+    judge_in(rom, length, marks, &mut seen, &mut work)
+}
+
+fn judge_most(rom: &[u8], length: u32, marks: &mut [u8]) -> Verdict
     requires { ⌜ Judged (now rom) length (now marks) romMost ⌝ }
     ensures { λ r. ⌜ screened r (now (marks .exit)) ≡ judgedOf (now (rom .entry)) (now (marks .entry)) ⌝ }
 {
@@ -130,27 +138,11 @@ fn judge_large(rom: &[u8], length: u32, marks: &mut [u8]) -> Verdict
     judge_in(rom, length, marks, &mut seen, &mut work)
 }
 
-// A ROM with a good header: the smallest tables that have room for its program, since they are cleared at each call.
-fn judge(rom: &[u8], marks: &mut [u8]) -> Verdict
-    requires { ⌜ (headerOf (now rom) ≡ 0) × (length (now marks) ≡ marksSize) ⌝ }
-    ensures { λ r. ⌜ screened r (now (marks .exit)) ≡ judgedOf (now (rom .entry)) (now (marks .entry)) ⌝ }
-{
-    let length = program_length(rom);
-    if length <= 256 {
-        return judge_least(rom, length, marks);
-    }
-    if length <= 1024 {
-        return judge_small(rom, length, marks);
-    }
-    if length <= 4096 {
-        return judge_middle(rom, length, marks);
-    }
-    judge_large(rom, length, marks)
-}
-
 // The screen: a ROM passes exactly where heights can be assigned to it, and the marks are then the data heights. One that is refused for
-// its heights
-// leaves the marks all zero; a mark buffer of another size, or a bad header, leaves it as it was.
+// its heights leaves the marks all zero; a mark buffer of another size, or a bad header, leaves it as it was. A program is judged by the
+// smallest tables that have room for it, since they are cleared at each call. The tests of its length stand behind the others and not in a
+// function of their own: so the compiler takes the calls with the large tables for rare, and does not lay these into the frame that a small
+// ROM's call has (docs/DECISIONS.md, point 122; tests/host.c looks at the stack).
 pub fn screen(rom: &[u8], marks: &mut [u8]) -> Verdict
     ensures { λ r. ⌜ Promised (now (rom .entry)) (now (marks .entry)) r (now (marks .exit)) ⌝ }
 {
@@ -161,5 +153,18 @@ pub fn screen(rom: &[u8], marks: &mut [u8]) -> Verdict
     if why != 0 {
         return Verdict::Refused(why);
     }
-    judge(rom, marks)
+    let length = program_length(rom);
+    if length <= 256 {
+        return judge_least(rom, length, marks);
+    }
+    if length <= 1024 {
+        return judge_small(rom, length, marks);
+    }
+    if length <= 4096 {
+        return judge_middle(rom, length, marks);
+    }
+    if length <= 16384 {
+        return judge_large(rom, length, marks);
+    }
+    judge_most(rom, length, marks)
 }

@@ -24,7 +24,7 @@ use Rattle.state.specs.declared.answer.Answer.the-variants.{Going, Finis
 abbrev pub wrongSize : List ℕ → List ℕ → Bool
 wrongSize work store = not (eqb (length work) workSize) || not (eqb (length store) storeSize)
 
--- 1: "ROM under 8 or over 16,384 bytes"
+-- 1: "ROM under 8 or over 16,384 bytes", 65,536 with request (vi) of document 02
 abbrev pub wrongRom : List ℕ → Bool
 wrongRom rom = ltb (length rom) romLeast || ltb romMost (length rom)
 

@@ -114,3 +114,12 @@ at-the-end : atLine (0xFD ∷ 0x08 ∷ 0x00 ∷ 0x46 ∷ 0x00 ∷ 0x00 ∷ 0x00 
     "at: 000A the program's end\n"
 unfolding atLine endLine pieceText pieceOf placeText hexOf lettersOf
 at-the-end = refl
+
+-- the last place that has four digits, and the end of a program of 65,536 bytes
+last-of-four : placeText 65535 ≡ lettersOf "FFFF"
+unfolding placeText hexOf lettersOf
+last-of-four = refl
+
+end-of-the-longest : placeText 65536 ≡ lettersOf "00010000"
+unfolding placeText hexOf lettersOf
+end-of-the-longest = refl

@@ -1,6 +1,6 @@
 -- Laws of the token list: the parts of an operand lie in order; the lines show the bytes of the program, every byte once and in order;
 -- written one by one they are the list; and none is longer than `lineMost`. Assumes nothing.
-use Prim.Native.Nat.{ℕ, zero, suc, _+_, _*_, _-_, _≤_, _<_}
+use Prim.Native.Nat.{ℕ, zero, suc, _+_, _*_, _-_, _/_, _%_, _≤_, _<_}
 use native.Mathlib.Decide.{decLt}
 use native.Mathlib.Omega.{arith}
 use mathlib.Core.Bool.{Bool, _||_}
@@ -37,7 +37,7 @@ use Rattle.lines.specs.Digits.{hexOf}
 use Rattle.lines.specs.Lines.{lineEnd, shown}
 use Rattle.lines.specs.Printed.{allPrinted, quoted}
 use Rattle.lines.specs.Laws.Texts.{length-shown}
-use Rattle.lines.specs.TokenLines.{between, placeText, cuts, cutsOf, partsAt, tokenCuts, allShown}
+use Rattle.lines.specs.TokenLines.{between, highDigits, placeText, cuts, cutsOf, partsAt, tokenCuts, allShown}
 use Rattle.lines.specs.TokenLines.{aimRemark, branchRemark, stringRemark, rawRemark}
 use Rattle.lines.specs.TokenLines.{Line, lineText, partsJoined, lineBytes, rawLine, tokenLine, pieceLines, tokenText, OwnBytes}
 use Rattle.lines.specs.TokenLines.{bytesShown}
@@ -326,9 +326,13 @@ length-parts rom start c next o =
     let q = o .3 in
     omega arith
 
-length-place : (p : ℕ) → length (placeText p) ≡ 4
+length-high : (p : ℕ) → length (highDigits p) ≤ 4
+unfolding hexOf
+length-high p = pick-is (λ z. length z ≤ 4) (ltb p 65536) [] _ (λ t. omega arith) (λ t. omega arith)
+
+length-place : (p : ℕ) → length (placeText p) ≤ 8
 unfolding placeText hexOf
-length-place p = refl
+length-place p = let a = length-append (highDigits p) (hexOf (p / 256 % 256 ∷ p % 256 ∷ [])) in let b = length-high p in omega arith
 
 -- the remarks
 length-aim : (aim : Aim) → length (aimRemark aim) ≤ 27
@@ -369,7 +373,7 @@ length-raw rom next = pick-is (λ z. length z ≤ 58) (ltb next (endOf rom)) _ [
 
 -- what a line has beside its parts
 length-line : (l : Line)
-    → length (lineText l) ≡ 6 + length (allShown (l .number)) + length (l .word) + length (allShown (l .rest)) + length (l .remark)
+    → length (lineText l) ≤ 10 + length (allShown (l .number)) + length (l .word) + length (allShown (l .rest)) + length (l .remark)
 unfolding lineText lettersOf
 length-line l =
     let number = allShown (l .number) in

@@ -4,7 +4,7 @@ use Prim.Native.Nat.{ℕ}
 use mathlib.Core.Path.{_≡_, refl, _∙_}
 use mathlib.Core.Bool.{Bool, true, false, _&&_}
 use mathlib.Core.List.{List, [], _∷_}
-use lib.ListN.{replicate, take, length-replicate}
+use lib.ListN.{length, replicate, take, length-replicate}
 use lib.Dec.{eqb}
 use Rattle.cells.specs.Arithmetic.{ashiftOf}
 use Rattle.rom.specs.Sizes.{workSize, storeSize, marksSize}
@@ -93,19 +93,34 @@ endsSo c o =
     && (eqb (o .count) (c .steps) && sameBytes (take (o .state .stack .height) (o .state .stack .cells)) (c .leaves))
 
 -- marks, work memory and store as they are lent
-abbrev pub lent : List ℕ
-lent = replicate marksSize 0xAA
+abbrev lent : ℕ → List ℕ
+lent size = replicate size 0xAA
+
+abbrev pub lentMarks : List ℕ
+lentMarks = lent marksSize
+
+abbrev pub lentWork : List ℕ
+lentWork = lent workSize
+
+abbrev pub lentStore : List ℕ
+lentStore = lent storeSize
+
+pub work-size : length lentWork ≡ workSize
+work-size = length-replicate {A = ℕ} workSize 0xAA
+
+pub store-size : length lentStore ≡ storeSize
+store-size = length-replicate {A = ℕ} storeSize 0xAA
 
 -- the screen says of the ROM what the case says
 abbrev pub screens : Case → Bool
-screens c = sameVerdict (screenedOf (c .rom) lent .verdict) (c .verdict)
+screens c = sameVerdict (screenedOf (c .rom) lentMarks .verdict) (c .verdict)
 
 -- the ROM is opened, and its run from there ends as the case says
 abbrev pub runs : Case → Bool
 runs c = sameAnswer (o .answer) Going && endsSo c (runOf (c .budget) (scene (c .rom) (o .work) (o .store) (o .state)))
   where
     o : Turn
-    o = openOf (c .rom) lent lent
+    o = openOf (c .rom) lentWork lentStore
 
 abbrev pub agrees : Case → Bool
 agrees c = screens c && runs c
@@ -116,7 +131,7 @@ every f (c ∷ cs) = f c && every f cs
 
 -- tokens alone are far quicker to compute than a run, which asks everything of its state again before each token
 abbrev tokensAgree : Case → Bool
-tokensAgree c = sameVerdict (verdictOn lent (screenOf (c .rom)) .verdict) (c .verdict) && endsSo c
+tokensAgree c = sameVerdict (verdictOn lentMarks (screenOf (c .rom)) .verdict) (c .verdict) && endsSo c
     (tokensFrom (c .budget) 0 (opened (c .rom)))
 
 abbrev OpensAs : List Case → Type 0
@@ -127,8 +142,8 @@ same-agree : (c : Case) → headerOf (c .rom) ≡ 0 → agrees c ≡ tokensAgree
 unfolding sameAnswer judgedOf
 same-agree c e =
     rw (
-      ← screen-judged (c .rom) lent (length-replicate {A = ℕ} marksSize 0xAA) e,
-      open-good (c .rom) lent lent (length-replicate {A = ℕ} workSize 0xAA) (length-replicate {A = ℕ} storeSize 0xAA) e,
+      ← screen-judged (c .rom) lentMarks (length-replicate {A = ℕ} marksSize 0xAA) e,
+      open-good (c .rom) lentWork lentStore work-size store-size e,
       run-opened (c .budget) (c .rom) e,
     )
 

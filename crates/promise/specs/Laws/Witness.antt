@@ -4,10 +4,8 @@ use Prim.Native.Nat.{ℕ}
 use mathlib.Core.Path.{_≡_, refl, sym, ap, subst}
 use mathlib.Core.Bool.{Bool, true}
 use mathlib.Core.List.{List, _∷_}
-use lib.ListN.{length-replicate}
 use lib.Dec.{T, eqb, eqb→eq}
 use Rattle.cells.specs.Laws.Facts.{holds, and-first, and-second}
-use Rattle.rom.specs.Sizes.{workSize, storeSize}
 use Rattle.screen.specs.Laws.Found.Screen.{screenedOf}
 use Rattle.screen.specs.Promise.{Promised}
 use Rattle.screen.specs.Laws.Exact.Exactly.{promise-kept}
@@ -17,7 +15,8 @@ use Rattle.state.specs.Open.{openOf}
 use Rattle.listing.specs.Listing.{startedOf}
 use Rattle.state.specs.declared.answer.Answer.{Answer}
 use Rattle.state.specs.declared.answer.Answer.the-variants.{Going, Finished, Refused, Spent}
-use Rattle.promise.specs.Laws.Table.{Case, cases, sameAnswer, sameVerdict, endsSo, lent, screens, runs, agrees, every, claim}
+use Rattle.promise.specs.Laws.Table.{Case, cases, sameAnswer, sameVerdict, endsSo, screens, runs, agrees, every, claim}
+use Rattle.promise.specs.Laws.Table.{lentMarks, lentWork, lentStore, work-size, store-size}
 use Rattle.promise.specs.Demand3.{SeenRun}
 use Rattle.promise.specs.Laws.Shown.{seen, seen-ran}
 
@@ -40,27 +39,27 @@ module _ {c : Case} (a : AmongRows c cases) (p : c .verdict ≡ Passes) where
   agreed : agrees c ≡ true
   agreed = among-holds agrees claim a
 
-  pub passes-so : Promised (c .rom) lent Passes (screenedOf (c .rom) lent .marks)
+  pub passes-so : Promised (c .rom) lentMarks Passes (screenedOf (c .rom) lentMarks .marks)
   passes-so =
       let e = and-first (screens c) (runs c) agreed in
-      let v = same-passes (screenedOf (c .rom) lent .verdict) (subst (λ v. sameVerdict (screenedOf (c .rom) lent .verdict) v ≡ true) p e) in
-      subst (λ v. Promised (c .rom) lent v (screenedOf (c .rom) lent .marks)) v (promise-kept (c .rom) lent)
+      let s = screenedOf (c .rom) lentMarks in
+      let v = same-passes (s .verdict) (subst (λ v. sameVerdict (s .verdict) v ≡ true) p e) in
+      subst (λ v. Promised (c .rom) lentMarks v (s .marks)) v (promise-kept (c .rom) lentMarks)
 
   pub seen-case : SeenRun
-  seen-case = seen (c .rom) lent lent lent (c .budget) (length-replicate {A = ℕ} workSize 0xAA) (length-replicate {A = ℕ} storeSize 0xAA)
-      passes-so
+  seen-case = seen (c .rom) lentMarks lentWork lentStore (c .budget) work-size store-size passes-so
 
   -- and its run answered what the case says
   pub ran-so : sameAnswer (seen-case .ran .answer) (c .answer) ≡ true
   unfolding seen-case
   ran-so =
       let e = and-second (screens c) (runs c) agreed in
-      let o = startedOf (c .rom) (openOf (c .rom) lent lent) (c .budget) in
-      let r = and-second (sameAnswer (openOf (c .rom) lent lent .answer) Going) (endsSo c o) e in
+      let opened = openOf (c .rom) lentWork lentStore in
+      let o = startedOf (c .rom) opened (c .budget) in
+      let r = and-second (sameAnswer (opened .answer) Going) (endsSo c o) e in
       let q = and-first (sameAnswer (o .answer) (c .answer)) _ r in
       subst (λ v. sameAnswer (v .answer) (c .answer) ≡ true)
-      (sym (seen-ran (c .rom) lent lent lent (c .budget) (length-replicate {A = ℕ} workSize 0xAA) (length-replicate {A = ℕ} storeSize 0xAA)
-      passes-so)) q
+      (sym (seen-ran (c .rom) lentMarks lentWork lentStore (c .budget) work-size store-size passes-so)) q
 
 -- A6 A5 2B 00 divides by zero: it passes, and its run is refused
 pub divides : SeenRun

@@ -6,10 +6,10 @@ use Rattle.screens.proofs.all_lines.Statement.{statement}
 use Rattle.screens.proofs.all_lines.Tie as tie
 
 abbrev Inv-loop : tie.InvT-loop
-Inv-loop text at₀ t4 at = Unit {0}
+Inv-loop text at₀ at = Unit {0}
 
 abbrev μ-loop : tie.MeasureT-loop
-μ-loop text at₀ t4 at = length text - at
+μ-loop text at₀ at = length text - at
 
 pub all-lines-spec : {M : Type 1} → statement M
 all-lines-spec =
@@ -21,9 +21,6 @@ all-lines-spec =
     (λ c κs. search needs)
     (λ c. search needs)
     (λ c. search needs)
-    (λ c. search needs)
-    (λ c. search needs)
-    (λ c κs. search needs)
     (λ c. search needs)
     (λ c κs. search needs)
     (λ c. search needs)

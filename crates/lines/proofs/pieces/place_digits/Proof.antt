@@ -10,6 +10,7 @@ unfolding placeText hexOf
 place-digits-spec =
     tie.close
     (tie.spec
+    (λ c κs. search needs)
     (λ c. search needs)
     (λ c κs. search needs)
     (λ c. search needs)
@@ -18,4 +19,5 @@ place-digits-spec =
     (λ c.
     let hex-byte2 = c .before .before .hex-byte2 in
     let hex-byte = c .before .before .before .before .before .before .hex-byte in
-    wrote-then (hex-byte .ensures) (hex-byte2 .ensures)))
+    let high-digits = c .before .before .before .before .before .before .before .before .before .before .high-digits in
+    wrote-then (high-digits .ensures) (wrote-then (hex-byte .ensures) (hex-byte2 .ensures))))

@@ -78,6 +78,10 @@ pub record Judged (rom : List ℕ) (n : ℕ) (marks : List ℕ) (room : ℕ) : T
   pub buffer : length marks ≡ marksSize
   pub fits : room ≡ roomOf n
 
+pub judged-with : (rom : List ℕ) (n : ℕ) (marks : List ℕ) (room : ℕ) {why : ℕ} → why ≡ headerOf rom → why ≡ 0 → n ≡ lengthOf rom
+    → length marks ≡ marksSize → room ≡ roomOf n → Judged rom n marks room
+judged-with rom n marks room h z s b f = record { header = sym h ∙ z; size = s; buffer = b; fits = f }
+
 pub judging : (rom : List ℕ) (n : ℕ) (marks : List ℕ) (room : ℕ) → Judged rom n marks room
     → Judging rom n marks (replicate room 0) (replicate room 0)
 judging rom n marks room k =

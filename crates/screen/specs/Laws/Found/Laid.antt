@@ -11,7 +11,7 @@ use Rattle.screen.specs.Laws.Found.Model.{laidOf}
 use Rattle.screen.specs.Laws.Found.Room.{zeros}
 use Rattle.screen.specs.Laws.Found.Cell.{markIn, mark-none}
 
--- a good header leaves a program of 16,384 bytes at most
+-- a good header leaves a program that is no longer than a ROM can be
 pub header-length : (rom : List ℕ) → headerOf rom ≡ 0 → lengthOf rom ≤ romMost
 header-length rom e = let h = header-facts rom e in let a = h .most in let b = h .romTo in omega arith
 

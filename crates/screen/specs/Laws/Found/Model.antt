@@ -496,7 +496,7 @@ firstStand wide = record { start = firstPlace; cell = firstCell; wide = wide; ch
 
 -- how many cells there are for a program of a length: a small one does not pay for what a large one needs
 abbrev pub roomOf : ℕ → ℕ
-roomOf n = pick (leb n 256) 256 (pick (leb n 1024) 1024 (pick (leb n 4096) 4096 romMost))
+roomOf n = pick (leb n 256) 256 (pick (leb n 1024) 1024 (pick (leb n 4096) 4096 (pick (leb n 16384) 16384 romMost)))
 
 abbrev pub firstBoard : ℕ → Bool → Board
 firstBoard room wide = board (replicate room 0) (replicate programsMost 0) (replicate programsMost 0) (firstStand wide)

@@ -15,7 +15,9 @@ room-fits n l =
     pick-is (λ k. n ≤ k) (leb n 256) 256 _ (λ t. leb→le n 256 t)
     (λ t.
     pick-is (λ k. n ≤ k) (leb n 1024) 1024 _ (λ u. leb→le n 1024 u)
-    (λ u. pick-is (λ k. n ≤ k) (leb n 4096) 4096 romMost (λ v. leb→le n 4096 v) (λ v. l)))
+    (λ u.
+    pick-is (λ k. n ≤ k) (leb n 4096) 4096 _ (λ v. leb→le n 4096 v)
+    (λ v. pick-is (λ k. n ≤ k) (leb n 16384) 16384 romMost (λ w. leb→le n 16384 w) (λ w. l))))
 
 -- and there are never more than for the longest
 pub room-most : (n : ℕ) → roomOf n ≤ romMost
@@ -23,7 +25,9 @@ room-most n =
     pick-is (λ k. k ≤ romMost) (leb n 256) 256 _ (λ t. omega arith)
     (λ t.
     pick-is (λ k. k ≤ romMost) (leb n 1024) 1024 _ (λ u. omega arith)
-    (λ u. pick-is (λ k. k ≤ romMost) (leb n 4096) 4096 romMost (λ v. omega arith) (λ v. omega arith)))
+    (λ u.
+    pick-is (λ k. k ≤ romMost) (leb n 4096) 4096 _ (λ v. omega arith)
+    (λ v. pick-is (λ k. k ≤ romMost) (leb n 16384) 16384 romMost (λ w. omega arith) (λ w. omega arith))))
 
 -- so that as many cells are enough for the program, and a walk over them ends
 pub has-room : (n : ℕ) → n ≤ romMost → {k : ℕ} → k ≡ roomOf n → (n ≤ k) × (k ≤ romMost)

@@ -7,7 +7,7 @@ use Rattle.screens.proofs.show.show_last.Statement.{statement}
 use Rattle.screens.proofs.show.show_last.Tie as tie
 
 abbrev Inv-loop : tie.InvT-loop
-Inv-loop rom count marks₀ n₀ k₀ marks n k = length marks ≡ 16384
+Inv-loop rom count marks₀ n₀ k₀ marks n k = length marks ≡ 65536
 
 abbrev μ-loop : tie.MeasureT-loop
 μ-loop rom count marks₀ n₀ k₀ marks n k = count - k

@@ -6,10 +6,10 @@ use Rattle.screens.proofs.show.show_marks.Statement.{statement}
 use Rattle.screens.proofs.show.show_marks.Tie as tie
 
 abbrev Inv-loop : tie.InvT-loop
-Inv-loop marks k₀ t4 k = Unit {0}
+Inv-loop marks k₀ t5 k = Unit {0}
 
 abbrev μ-loop : tie.MeasureT-loop
-μ-loop marks k₀ t4 k = length marks - k
+μ-loop marks k₀ t5 k = length marks - k
 
 pub show-marks-spec : {M : Type 1} → statement M
 show-marks-spec =
@@ -20,9 +20,9 @@ show-marks-spec =
     (λ c. search needs)
     (λ c κs. search needs)
     (λ c. search needs)
-    (λ c. search needs)
     (λ c κs. search needs)
     (λ c. search needs)
+    (λ c κs. search needs)
     (λ c. search needs)
     (λ c. search needs)
     (λ c. search needs)
