@@ -9,7 +9,7 @@
 
 #define FILL 0xA5
 #define UNWRITTEN 0xFFFFFFFFu
-#define LARGEST (16384 + 1)
+#define LARGEST (FCODE_MARKS_SIZE + 1)
 #define SHOWN 10
 
 static const char *path;

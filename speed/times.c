@@ -22,7 +22,6 @@ uint32_t peer_run(const uint8_t *rom, size_t rom_len, uint8_t *work, size_t work
                   uint32_t *steps);
 
 #define BUDGET 100000
-#define SIZE 16384
 #define KINDS_MOST 16
 #define ROUNDS_MOST 1001
 /* a dump that the peer takes less than this for, in microseconds, has no ratio of its own: the clock says too little of it */
@@ -47,7 +46,7 @@ static const char *path;
 static const uint8_t *at, *end;
 static struct kind kinds[KINDS_MOST];
 static uint32_t kind_count;
-static uint8_t marks[SIZE], work[SIZE], store[SIZE];
+static uint8_t marks[FCODE_MARKS_SIZE], work[FCODE_WORK_SIZE], store[FCODE_STORE_SIZE];
 static uint32_t steps;
 
 static void fail(const char *why) {
@@ -105,22 +104,22 @@ static void read_dumps(void) {
 }
 
 static void clear(void) {
-    memset(marks, 0, SIZE);
-    memset(work, 0, SIZE);
-    memset(store, 0, SIZE);
+    memset(marks, 0, sizeof marks);
+    memset(work, 0, sizeof work);
+    memset(store, 0, sizeof store);
     steps = 0;
 }
 
 static uint32_t called(int job, int side, const struct dump *d) {
     if (job == SCREEN)
-        return side == LIBRARY ? fcode_screen(d->rom, d->length, marks, SIZE) : peer_screen(d->rom, d->length, marks, SIZE);
-    return side == LIBRARY ? fcode_run(d->rom, d->length, work, SIZE, store, SIZE, BUDGET, &steps)
-                           : peer_run(d->rom, d->length, work, SIZE, store, SIZE, BUDGET, &steps);
+        return side == LIBRARY ? fcode_screen(d->rom, d->length, marks, sizeof marks) : peer_screen(d->rom, d->length, marks, sizeof marks);
+    return side == LIBRARY ? fcode_run(d->rom, d->length, work, sizeof work, store, sizeof store, BUDGET, &steps)
+                           : peer_run(d->rom, d->length, work, sizeof work, store, sizeof store, BUDGET, &steps);
 }
 
 /* all answers, once: what is timed must be the same work */
 static void compare(void) {
-    static uint8_t others[3][SIZE];
+    static uint8_t other_marks[sizeof marks], other_work[sizeof work], other_store[sizeof store];
     for (uint32_t k = 0; k < kind_count; k++) {
         uint32_t passed = 0, finished = 0, spent = 0;
         double all_steps = 0, bytes = 0;
@@ -128,12 +127,13 @@ static void compare(void) {
             const struct dump *d = &kinds[k].dumps[i];
             clear();
             uint32_t screen = called(SCREEN, LIBRARY, d), run = called(RUN, LIBRARY, d), count = steps;
-            memcpy(others[0], marks, SIZE);
-            memcpy(others[1], work, SIZE);
-            memcpy(others[2], store, SIZE);
+            memcpy(other_marks, marks, sizeof marks);
+            memcpy(other_work, work, sizeof work);
+            memcpy(other_store, store, sizeof store);
             clear();
-            if (called(SCREEN, PEER, d) != screen || called(RUN, PEER, d) != run || steps != count || memcmp(others[0], marks, SIZE) != 0 ||
-                memcmp(others[1], work, SIZE) != 0 || memcmp(others[2], store, SIZE) != 0) {
+            if (called(SCREEN, PEER, d) != screen || called(RUN, PEER, d) != run || steps != count ||
+                memcmp(other_marks, marks, sizeof marks) != 0 || memcmp(other_work, work, sizeof work) != 0 ||
+                memcmp(other_store, store, sizeof store) != 0) {
                 fprintf(stderr, "times: library and peer differ on dump %u of kind %s\n", i, kinds[k].name);
                 exit(1);
             }

@@ -4,7 +4,7 @@ use crate::header::{self, Program};
 use crate::numbers::Numbers;
 use crate::tokens::{aim_at, number_at, token_at, well_formed, Sort, Stands, Token};
 use crate::tree::{is_name, Tree};
-use crate::{DATA_MOST, FRAMES_MOST, RETURN_MOST, SIZE, SPENT};
+use crate::{DATA_MOST, FRAMES_MOST, RETURN_MOST, SPENT, STORE_SIZE, WORK_SIZE};
 
 const ROM_BASE: u32 = 0x1000_0000;
 const WORK_BASE: u32 = 0x2000_0000;
@@ -46,14 +46,14 @@ struct Evaluator<'a> {
     frames: [Frame; FRAMES_MOST],
     calls: usize,
     numbers: Numbers<Defined>,
-    work: &'a mut [u8; SIZE],
+    work: &'a mut [u8; WORK_SIZE],
     work_place: usize,
     tree: Tree<'a>,
 }
 
 /// Opens the ROM and runs it. The answer is 0 where the program finishes, else its refusal; with it the count of tokens carried out.
 pub fn run(rom: &[u8], work: &mut [u8], store: &mut [u8], budget: u32) -> (u32, u32) {
-    let (work, store): (&mut [u8; SIZE], &mut [u8; SIZE]) = match (work.try_into(), store.try_into()) {
+    let (work, store): (&mut [u8; WORK_SIZE], &mut [u8; STORE_SIZE]) = match (work.try_into(), store.try_into()) {
         (Ok(work), Ok(store)) => (work, store),
         _ => return (6, 0),
     };
@@ -78,7 +78,7 @@ fn signed(cell: u32) -> i32 {
 }
 
 impl<'a> Evaluator<'a> {
-    fn new(program: Program<'a>, work: &'a mut [u8; SIZE], store: &'a mut [u8; SIZE]) -> Self {
+    fn new(program: Program<'a>, work: &'a mut [u8; WORK_SIZE], store: &'a mut [u8; STORE_SIZE]) -> Self {
         work.fill(0);
         Evaluator {
             program: program.bytes,
@@ -652,11 +652,11 @@ impl<'a> Evaluator<'a> {
         let size = count as usize;
         let in_rom = address.wrapping_sub(ROM_BASE) as usize;
         let in_work = address.wrapping_sub(WORK_BASE) as usize;
-        let room = if at + size + 1 > SIZE { Err(24u32) } else { Ok(()) };
+        let room = if at + size + 1 > WORK_SIZE { Err(24u32) } else { Ok(()) };
         if let Some(bytes) = self.program.get(in_rom..in_rom + size) {
             room?;
             self.work[at..at + size].copy_from_slice(bytes);
-        } else if in_work + size <= SIZE {
+        } else if in_work + size <= WORK_SIZE {
             room?;
             self.work.copy_within(in_work..in_work + size, at);
         } else {
@@ -751,7 +751,7 @@ impl<'a> Evaluator<'a> {
 /// A range is good where it lies wholly in one window, its end included. An address below a window is a large number here, and no sum of
 /// two 32-bit numbers wraps.
 #[inline(always)]
-fn part_of<'b>(program: &'b [u8], work: &'b [u8; SIZE], address: u32, count: u32) -> Option<&'b [u8]> {
+fn part_of<'b>(program: &'b [u8], work: &'b [u8; WORK_SIZE], address: u32, count: u32) -> Option<&'b [u8]> {
     let size = count as usize;
     let in_work = address.wrapping_sub(WORK_BASE) as usize;
     if let Some(part) = work.get(in_work..in_work + size) {

@@ -1,7 +1,7 @@
 //! The header and its tests.
 
 use crate::sums;
-use crate::SIZE;
+use crate::ROM_MOST;
 
 /// A ROM with a good header.
 #[derive(Clone, Copy)]
@@ -14,7 +14,7 @@ pub struct Program<'a> {
 
 /// Tests the header: the program, or the first of 1 to 5 that applies.
 pub fn open(rom: &[u8]) -> Result<Program<'_>, u32> {
-    if rom.len() < 8 || rom.len() > SIZE {
+    if rom.len() < 8 || rom.len() > ROM_MOST {
         return Err(1);
     }
     let wide = match rom[0] {

@@ -1,5 +1,5 @@
 //! An ordinary evaluator and screener for FCode ROMs, written to be fast and proved nowhere: the yardstick for the library, and a second
-//! reading of documents 01 and 02 that the library's answers are compared with. Requests (i) and (iv) of document 02 are in force.
+//! reading of documents 01 and 02 that the library's answers are compared with. Requests (i), (iv) and (vi) of document 02 are in force.
 #![deny(unsafe_code)]
 
 mod evaluator;
@@ -15,8 +15,13 @@ pub use evaluator::run;
 pub use header::check;
 pub use screener::screen;
 
-/// Work memory, property store and mark buffer have this many bytes each, and a ROM at most as many.
-pub const SIZE: usize = 16_384;
+/// A ROM has at most so many bytes.
+pub const ROM_MOST: usize = 65_536;
+
+/// So many bytes the mark buffer has, work memory, and the property store.
+pub const MARKS_SIZE: usize = 65_536;
+pub const WORK_SIZE: usize = 16_384;
+pub const STORE_SIZE: usize = 16_384;
 
 /// The first place behind the header.
 pub const FIRST_PLACE: usize = 8;

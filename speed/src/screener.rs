@@ -7,7 +7,7 @@
 use crate::header::{self, Program};
 use crate::numbers::Numbers;
 use crate::tokens::{aim_at, token_at, well_formed, Sort, Stands, Token};
-use crate::{DATA_MOST, FRAMES_MOST, NODES_MOST, NO_HEIGHTS, RETURN_MOST, SIZE};
+use crate::{DATA_MOST, FRAMES_MOST, MARKS_SIZE, NODES_MOST, NO_HEIGHTS, RETURN_MOST};
 
 /// The heights at a place: 256 times the return height, plus the data height plus one.
 type Heights = u16;
@@ -73,7 +73,7 @@ struct Screener<'a> {
 
 /// Screens the ROM: 0 where heights can be assigned, with the marks; else 6, 1 to 5, or 31.
 pub fn screen(rom: &[u8], marks: &mut [u8]) -> u32 {
-    if marks.len() != SIZE {
+    if marks.len() != MARKS_SIZE {
         return 6;
     }
     let program = match header::open(rom) {

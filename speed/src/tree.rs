@@ -1,6 +1,6 @@
 //! Nodes, and properties in the store.
 
-use crate::{NODES_MOST, PROPERTIES_MOST, SIZE};
+use crate::{NODES_MOST, PROPERTIES_MOST, STORE_SIZE};
 
 #[derive(Clone, Copy)]
 struct Record {
@@ -11,7 +11,7 @@ struct Record {
 
 /// The store holds name and value of each property in order of creation, so that a record needs no more than its lengths.
 pub struct Tree<'a> {
-    store: &'a mut [u8; SIZE],
+    store: &'a mut [u8; STORE_SIZE],
     /// The bytes of the store that are in use; those behind are zero.
     live: usize,
     records: [Record; PROPERTIES_MOST],
@@ -23,7 +23,7 @@ pub struct Tree<'a> {
 
 impl<'a> Tree<'a> {
     /// The root and its child, which is active. The store is zeroed.
-    pub fn new(store: &'a mut [u8; SIZE]) -> Self {
+    pub fn new(store: &'a mut [u8; STORE_SIZE]) -> Self {
         store.fill(0);
         Tree {
             store,
@@ -77,7 +77,7 @@ impl<'a> Tree<'a> {
                 let record = &mut self.records[index];
                 let old = usize::from(record.value);
                 let live = self.live - old + size;
-                if live > SIZE {
+                if live > STORE_SIZE {
                     return Err(27);
                 }
                 record.value = size as u16;
@@ -89,7 +89,7 @@ impl<'a> Tree<'a> {
             None => {
                 let at = self.live + name.len();
                 let live = at + size;
-                if self.held == PROPERTIES_MOST || live > SIZE {
+                if self.held == PROPERTIES_MOST || live > STORE_SIZE {
                     return Err(27);
                 }
                 self.records[self.held] = Record { node: self.active as u8, name: name.len() as u8, value: size as u16 };

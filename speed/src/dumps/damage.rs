@@ -48,7 +48,7 @@ pub fn spoil_header(draw: &mut Draw, rom: &mut Vec<u8>) {
         5 => rom.truncate(draw.below(12)),
         6 => {
             // bytes behind the program have no effect, up to the largest ROM
-            let size = *draw.one(&[16_383, 16_384, 16_385, 500]);
+            let size = *draw.one(&[65_535, 65_536, 65_537, 16_385, 500]);
             let filler = draw.byte();
             if rom.len() < size {
                 rom.resize(size, filler);

@@ -1,11 +1,11 @@
-//! Dumps by kind, of a size between 0.5 and 16 KB, for the times.
+//! Dumps by kind, of a size between 0.5 and 16 KB, large ones up to 64 KB, for the times.
 
 use crate::damage;
 use crate::draw::Draw;
 use crate::writer::{with_header, Kind, Taste, Writer, MIXED};
 
 /// The kinds, in the order in which they are shown.
-pub const KINDS: [&str; 8] = ["driver", "compute", "call", "memory", "property", "spoilt", "crafted", "tiny"];
+pub const KINDS: [&str; 9] = ["driver", "large", "compute", "call", "memory", "property", "spoilt", "crafted", "tiny"];
 
 /// A run's budget when it is timed.
 pub const BUDGET: u64 = 100_000;
@@ -15,6 +15,10 @@ pub fn dump(kind: &str, draw: &mut Draw, index: usize) -> Vec<u8> {
     let size = draw.between(0, 500) * draw.between(0, 31) + 500;
     match kind {
         "driver" => driver(draw, size),
+        "large" => {
+            let size = draw.between(20_000, 64_000);
+            driver(draw, size)
+        }
         "compute" => looping(draw, size, &COMPUTE, 1),
         "call" => looping(draw, size, &CALLS, 12),
         "memory" => looping(draw, size, &MEMORY, 2),

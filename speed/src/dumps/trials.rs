@@ -1,11 +1,11 @@
-//! ROMs for the comparison: random programs, the same damaged, knots of branches, tokens in any order, any bytes, odd headers, and programs
-//! at the limits.
+//! ROMs for the comparison: random programs, the same damaged, knots of branches, tokens in any order, any bytes, odd headers, long ROMs,
+//! and programs at the limits.
 
 use crate::damage;
 use crate::draw::Draw;
 use crate::knots;
 use crate::writer::{with_header, Kind, Taste, Writer, MIXED};
-use peer::SIZE;
+use peer::{MARKS_SIZE, ROM_MOST, STORE_SIZE, WORK_SIZE};
 
 /// A ROM, the sizes of the buffers that are lent, and the budget.
 pub struct Trial {
@@ -21,9 +21,10 @@ const TRIED: u32 = 3_000;
 
 pub fn trial(draw: &mut Draw) -> Trial {
     let rom = rom(draw);
-    let mut sizes = [SIZE; 3];
+    let mut sizes = [MARKS_SIZE, WORK_SIZE, STORE_SIZE];
     if draw.chance(1, 100) {
-        sizes[draw.below(3)] = *draw.one(&[0, 1, SIZE - 1, SIZE + 1]);
+        let size = &mut sizes[draw.below(3)];
+        *size = *draw.one(&[0, 1, *size - 1, *size + 1, *size / 4]);
     }
     let budget = match draw.below(20) {
         0 => draw.below(3) as u32,
@@ -35,7 +36,7 @@ pub fn trial(draw: &mut Draw) -> Trial {
 }
 
 fn ends(rom: &[u8]) -> bool {
-    let (mut work, mut store) = ([0; SIZE], [0; SIZE]);
+    let (mut work, mut store) = ([0; WORK_SIZE], [0; STORE_SIZE]);
     peer::run(rom, &mut work, &mut store, TRIED).0 != peer::SPENT
 }
 
@@ -65,6 +66,7 @@ fn rom(draw: &mut Draw) -> Vec<u8> {
             damage::spoil_header(draw, &mut rom);
             rom
         }
+        88 => long(draw),
         _ => limits(draw),
     }
 }
@@ -122,6 +124,51 @@ fn tokens(draw: &mut Draw) -> Vec<u8> {
         bytes.push(0);
     }
     with_header(&bytes, wide)
+}
+
+/// A program of some size up to the largest ROM's and past it: mostly noops, with branches that lead as far as an offset reaches, and now
+/// and then other tokens, at places that branches like to lead to.
+fn long(draw: &mut Draw) -> Vec<u8> {
+    let size = *draw.one(&[16_384, 16_385, 32_768, 32_776, 40_000, 60_000, ROM_MOST, ROM_MOST, ROM_MOST]);
+    let size = if draw.chance(1, 12) { size + 1 } else { size - draw.below(3) };
+    let mut bytes = vec![0x7B; size - 8];
+    if draw.chance(7, 8) {
+        bytes[size - 9] = 0;
+    }
+    // from a place to one of its favourites: the ends of the program and of what an offset reaches, and just past them
+    let mut place = 8;
+    for _ in 0..draw.between(1, 8) {
+        let near = draw.below(5) as isize - 2;
+        let back = if place < 8 + 32_767 { 8 } else { place - 32_767 };
+        let aim = *draw.one(&[8, size - 1, size, place + 32_768, place + 20_000, back, size / 2]) as isize + near;
+        let offset = (aim - place as isize - 1).clamp(-32_768, 32_767) as i16;
+        let token: Vec<u8> = match draw.below(4) {
+            0 => [&[0xA5, 0x14][..], &(offset.saturating_sub(1)).to_be_bytes()].concat(),
+            1 => [&[0xA6, 0x14][..], &(offset.saturating_sub(1)).to_be_bytes()].concat(),
+            _ => [&[0x13][..], &offset.to_be_bytes()].concat(),
+        };
+        let at = place - 8;
+        if at + token.len() > bytes.len() {
+            break;
+        }
+        bytes[at..at + token.len()].copy_from_slice(&token);
+        place = match draw.below(3) {
+            0 => place + token.len() + draw.below(3),
+            _ => (place as isize + 1 + isize::from(offset)).max(8) as usize,
+        };
+        if draw.chance(1, 6) {
+            let other = *draw.one(&[&[0xA6, 0x46][..], &[0xB5, 0x08, 0x00, 0xB9], &[0xB5, 0x08, 0x01, 0xB7, 0xC2], &[0x12, 0xFF], &[0x00]]);
+            let at = place - 8;
+            if at + other.len() <= bytes.len() {
+                bytes[at..at + other.len()].copy_from_slice(other);
+                place += other.len();
+            }
+        }
+        if place >= size {
+            break;
+        }
+    }
+    with_header(&bytes, draw.chance(15, 16))
 }
 
 /// Programs that come near a limit of the house, or just past it.
