@@ -2,7 +2,7 @@
 and short programs in such ROMs, branches to both ends of what an offset reaches, a body of 60,000 bytes, 256 numbers over 60,000 bytes,
 strings and fetches at the last bytes.
 """
-from roms import NARROW, WIDE, in_hex, left, marked, put, text, with_header
+from roms import NARROW, WIDE, in_hex, left, marked, text, with_header
 
 MOST = 65536
 NOOP, END, DROP, ONE = b"\x7B", b"\x00", b"\x46", b"\xA6"

@@ -113,7 +113,6 @@ abbrev pub badVisit : Visit
 badVisit = record { good = false; cell = 0; next = 0; aim = 0 }
 
 unfoldable pub tokenVisit : Scope → List ℕ → List ℕ → ℕ → Token → Visit
-unfolding sumAt
 tokenVisit x kinds sums cell t =
     elim (soundOf x kinds t cell && fitsOf (x .within) (effectOf (sumAt sums) t) cell) [
       | true ↦ record {
@@ -130,7 +129,6 @@ readVisit x kinds sums cell (Refused why) = badVisit
 readVisit x kinds sums cell (Good t) = tokenVisit x kinds sums cell t
 
 unfoldable pub visitOf : List ℕ → Scope → List ℕ → List ℕ → ℕ → ℕ → Visit
-unfolding tokenVisit soundOf fitsOf
 visitOf rom x kinds sums p cell = readVisit x kinds sums cell (readOf rom (x .length) (x .wide) (x .within) p)
 
 -- ---- what a body comes to: its need, peaks, frames and ends, token by token as they are met
@@ -208,7 +206,6 @@ putVisit x a q cell =
 
 -- 0 is no place
 unfoldable pub putsOf : Scope → Path → ℕ → ℕ → Path
-unfolding putVisit
 putsOf x a q cell = elim (eqb q 0) [ true ↦ a | false ↦ putVisit x a q cell ]
 
 -- the place that is met next, 0 where none waits, and the rest
@@ -236,11 +233,9 @@ topped rom x sums a =
 
 -- its successors are come to
 unfoldable pub visitedOn : Scope → Path → Visit → Path
-unfolding putsOf
 visitedOn x a v = elim (v .good) [ true ↦ putsOf x (putsOf x a (v .next) (v .cell)) (v .aim) (v .cell) | false ↦ failed a ]
 
 unfoldable pub walkStep : List ℕ → Scope → List ℕ → List ℕ → Path → Path
-unfolding visitOf visitedOn sumAt tallied
 walkStep rom x kinds sums a =
     visitedOn x (topped rom x sums a) (visitOf rom x kinds sums (waiting a) (getD (a .seen) (waiting a) 0))
 
@@ -253,7 +248,6 @@ walking a = a .walk .good && isSome (a .waits)
 
 -- each place is visited once, so that there are always turns enough
 unfoldable pub walkSteps : List ℕ → Scope → List ℕ → List ℕ → ℕ → Path → Path
-unfolding walkStep
 walkSteps rom x kinds sums zero a = elim (walking a) [ true ↦ failed a | false ↦ a ]
 walkSteps rom x kinds sums (suc k) a = elim (walking a) [ true ↦ walkSteps rom x kinds sums k (walkStep rom x kinds sums a) | false ↦ a ]
 
@@ -262,7 +256,6 @@ abbrev pub setOut : ℕ → Walk
 setOut start = record { good = true; far = start; tally = noTally }
 
 unfoldable pub walkAll : List ℕ → Scope → List ℕ → List ℕ → List ℕ → ℕ → ℕ → Path
-unfolding putVisit walkSteps
 walkAll rom x kinds sums seen start cell = walkSteps rom x kinds sums romMost (putVisit x (path seen [] (setOut start)) start cell)
 
 -- ---- outside bodies no two tokens overlap, and a token that ends a round is the highest of it
@@ -395,12 +388,10 @@ abbrev pub places : ℕ → ℕ → ℕ
 places entry end = suc end - entry
 
 unfoldable pub bodyWalked : List ℕ → ℕ → Bool → Board → ℕ → Marked → Path
-unfolding walkAll
 bodyWalked rom length wide b entry m =
     walkAll rom (bodyText length wide entry) (b .kinds) (b .sums) (m .seen) entry entryCell
 
 unfoldable pub bodyShifted : Board → Stand → ℕ → ℕ → ℕ → Path → Tally → RoundEnd
-unfolding shiftOf passesOf
 bodyShifted b s n entry end a y =
     roundEnd (passesOf y)
     (entryOf (board (shiftOf (y .need) (places entry end) entry (a .seen)) (b .kinds) (b .sums) s) s n 0xB7 (sumTold y) (suc end))
@@ -409,7 +400,6 @@ abbrev pub onSeen : Board → List ℕ → Board
 onSeen b seen = board seen (b .kinds) (b .sums) (b .stand)
 
 unfoldable pub colonOf : List ℕ → ℕ → Board → Stand → ℕ → ℕ → RoundEnd
-unfolding startsOf bodyWalked bodyShifted
 colonOf rom length b s n entry =
     elim (m .good) [
       | true ↦ elim (a .walk .good) [
@@ -430,7 +420,6 @@ abbrev pub isNew : Board → ℕ → Bool
 isNew b n = eqb (kindOf (b .kinds) n) 0 && ltb (b .stand .count) numbersMost
 
 unfoldable pub defineOf : List ℕ → ℕ → Board → Stand → Token → RoundEnd
-unfolding colonOf
 defineOf rom length b s t =
     elim (isNew b (newNumber (t .operand))) [
       | true ↦ elim (eqb (kindIn (t .operand)) 0xB7) [
@@ -442,7 +431,6 @@ defineOf rom length b s t =
 
 -- the token that ended a round at a place is carried out
 unfoldable pub advanceOf : List ℕ → ℕ → Board → ℕ → Token → RoundEnd
-unfolding defineOf
 advanceOf rom length b cell t =
     elim (isA define t) [
       | true ↦ defineOf rom length b (stoodOn (b .stand) t cell) t
@@ -457,7 +445,6 @@ advanceOf rom length b cell t =
 
 -- a round's walk, with its overlaps
 unfoldable pub roundOf : List ℕ → ℕ → Board → Path
-unfolding walkAll
 roundOf rom length b =
     walkAll rom (outsideText length (b .stand)) (b .kinds) (b .sums) (b .seen) (b .stand .start) (b .stand .cell)
 
@@ -475,7 +462,6 @@ abbrev pub goOn : (Board → RoundEnd) → RoundEnd → RoundEnd
 goOn go y = elim (y .good) [ true ↦ go (y .board) | false ↦ y ]
 
 unfoldable pub roundsOf : List ℕ → ℕ → ℕ → Board → RoundEnd
-unfolding roundOf apartOf advanceOf
 roundsOf rom length zero b = roundEnd false b
 roundsOf rom length (suc k) b =
     elim (roundGood rom length b a) [
@@ -502,7 +488,6 @@ abbrev pub firstBoard : ℕ → Bool → Board
 firstBoard room wide = board (replicate room 0) (replicate programsMost 0) (replicate programsMost 0) (firstStand wide)
 
 unfoldable pub lastOf : List ℕ → RoundEnd
-unfolding roundsOf
 lastOf rom = roundsOf rom (lengthOf rom) romMost (firstBoard (roomOf (lengthOf rom)) (wideOf rom))
 
 -- behind the last cell there are none
@@ -511,5 +496,4 @@ laidOf seen = map markIn seen ++ replicate (marksSize - length seen) 0
 
 -- the marks of a ROM with a good header, where it passes
 unfoldable pub screenOf : List ℕ → Option (List ℕ)
-unfolding lastOf laidOf
 screenOf rom = elim (lastOf rom .good) [ true ↦ some (laidOf (lastOf rom .board .seen)) | false ↦ none ]

@@ -25,11 +25,9 @@ verdictOn marks none = screened (Refused 31) (replicate (length marks) 0)
 verdictOn marks (some found) = screened Passes found
 
 unfoldable pub judgedOf : List ℕ → List ℕ → Screened
-unfolding screenOf
 judgedOf rom marks = verdictOn marks (screenOf rom)
 
 unfoldable pub screenedOf : List ℕ → List ℕ → Screened
-unfolding judgedOf
 screenedOf rom marks =
     elim (eqb (length marks) marksSize) [
       | true ↦ elim (eqb (headerOf rom) 0) [ true ↦ judgedOf rom marks | false ↦ screened (Refused (headerOf rom)) marks ]
