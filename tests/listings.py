@@ -1,7 +1,7 @@
 #!/usr/bin/env python3
-"""The listing that each worked case and each case of tests/names.py and tests/long.py must have, for tests/host.c to compare. First a line with the count
-of cases; then for each case a line with the ROM in hex ('-': no bytes) and the budget, the listing's lines, and a line with a dot. It
-is put together here from what the case says of screen, run, steps, nodes and properties.
+"""The listing that each worked case and each case of tests/names.py and tests/long.py must have, for tests/host.c to compare. First a
+line with the count of cases; then for each case a line with the ROM in hex ('-': no bytes) and the budget, the listing's lines, and a
+line with a dot. It is put together here from what the case says of screen, run, steps, nodes and properties.
 
     python3 tests/listings.py       prints them
 """

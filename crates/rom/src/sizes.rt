@@ -1,4 +1,4 @@
-// The house sizes of documents 01 and 02, the first place of a program, which stands behind the header, and the size of the text of a listing.
+// The house sizes of documents 01 and 02, the first place of a program, which stands behind the header, and the size of a listing's text.
 // specs/Sizes.antt has the same names for the definitions, and `house_sizes` shows that the two agree.
 ghost use mathlib.Core.Path.{_≡_};
 ghost use Rattle.rom.specs.Sizes.{house as Sizes·house};
