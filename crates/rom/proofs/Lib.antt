@@ -1,3 +1,4 @@
 pub mod Totals
 pub mod Landings
 pub mod Headers
+pub mod Spreads

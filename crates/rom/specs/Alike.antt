@@ -1,10 +1,11 @@
--- "Bytes past the length are ignored": ROMs that differ in such bytes alone. Assumes nothing.
+-- "Bytes past the length are ignored": ROMs that differ in such bytes alone. All of it is said of their FCode bytes. Assumes nothing.
 use Prim.Native.Nat.{ℕ, _≤_, _<_}
 use mathlib.Core.Path.{_≡_}
 use mathlib.Core.List.{List}
 use lib.ListN.{length}
-use Rattle.rom.specs.Sizes.{romLeast, romMost}
+use Rattle.rom.specs.Sizes.{romLeast}
 use Rattle.rom.specs.Bytes.{byteOf}
+use Rattle.rom.specs.Spread.{fcodeMost}
 use Rattle.rom.specs.Header.{lengthOf}
 
 -- the bytes below a place are the same
@@ -16,7 +17,7 @@ SameBelow size rom other = (k : ℕ) → k < size → byteOf rom k ≡ byteOf ot
 pub record AlikeTo (size : ℕ) (rom other : List ℕ) : Type 0 where
   pub same : SameBelow size rom other
   pub least : (romLeast ≤ length rom) × (romLeast ≤ length other)
-  pub most : (length rom ≤ romMost) × (length other ≤ romMost)
+  pub most : (length rom ≤ fcodeMost rom) × (length other ≤ fcodeMost other)
   pub within : (size ≤ length rom) × (size ≤ length other)
 
 -- Two ROMs that differ past the program length alone, which their header tells. The header's bytes are there whatever length it tells.

@@ -2,3 +2,5 @@
 
 -- A sum on its way from the last byte down.
 pub mod Sum
+-- Bytes that lie so far apart, laid one behind the other.
+pub mod Spread

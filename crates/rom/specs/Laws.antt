@@ -1,5 +1,7 @@
 -- What is only proved: nothing here has to be believed.
 
+-- FCode byte k sits at ROM byte k times the spread.
+pub mod Spread
 -- An aim as a number loses nothing: no branch leads inside to 0.
 pub mod Branch
 -- What a good header says of the ROM and of its program length.

@@ -2,6 +2,8 @@
 pub mod Sizes
 -- What stands in a ROM: its bytes, and numbers of two and of four bytes, big-endian.
 pub mod Bytes
+-- Spread bytes: the FCode bytes of a ROM, of which all else speaks.
+pub mod Spread
 -- A text as the bytes of its letters.
 pub mod Words
 -- Where a branch leads.

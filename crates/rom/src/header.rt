@@ -2,25 +2,34 @@ ghost use mathlib.Core.Path.{_≡_};
 ghost use mathlib.Core.Bool.{not};
 ghost use lib.Dec.{eqb};
 ghost use Rattle.rom.specs.Header.{wideOf, startOf, lengthOf, headerOf};
+ghost use Rattle.rom.specs.Spread.{viewOf, fcodeOf};
 use crate::bytes::byte;
 use crate::bytes::word16;
 use crate::bytes::word32;
 use crate::sizes::ROM_LEAST;
 use crate::sizes::ROM_MOST;
+use crate::spread::Spread;
+use crate::spread::fcode_byte;
+use crate::spread::fcode_count;
+use crate::spread::is_spread;
+use crate::spread::spread_of;
 use crate::sum::body_sum;
 
-// The program length that the header gives.
-pub fn program_length(rom: &[u8]) -> u32
-    ensures { λ r. ⌜ r ≡ lengthOf (now (rom .entry)) ⌝ }
+// The program length that the header gives, in FCode bytes.
+pub fn program_length(rom: &[u8], spread: Spread) -> u32
+    ensures { λ r. ⌜ r ≡ lengthOf (viewOf spread (now (rom .entry))) ⌝ }
 {
-    word32(rom, 4)
+    word32(rom, spread, 4)
 }
 
-// Whether the start is start1, with offsets of 16 bits.
+// Whether the start has offsets of 16 bits: start1, start2 and start4 do. The first byte is the first FCode byte too, whatever the spread.
 pub fn wide_start(rom: &[u8]) -> bool
     ensures { λ r. ⌜ r ≡ wideOf (now (rom .entry)) ⌝ }
 {
-    byte(rom, 0) == 0xF1
+    if byte(rom, 0) == 0xF1 {
+        return true;
+    }
+    is_spread(rom)
 }
 
 fn known_start(rom: &[u8]) -> bool
@@ -40,11 +49,15 @@ fn differs(sum: u16, field: u16) -> bool
     sum != field
 }
 
-// The header test: 0, or the first of the refusals 1 to 5 whose condition holds.
+// The header test of a ROM as it is lent: 0, or the first of the refusals 1 to 5 whose condition holds. A ROM under 8 bytes has fewer than
+// 8 FCode bytes, and so has one that is too short for its spread header; only a start that 2 knows is spread, so that neither part of 1 can
+// come before a 2 that should.
 pub fn check_header(rom: &[u8]) -> u32
-    ensures { λ r. ⌜ r ≡ headerOf (now (rom .entry)) ⌝ }
+    ensures { λ r. ⌜ r ≡ headerOf (fcodeOf (now (rom .entry))) ⌝ }
 {
-    if rom.len() < ROM_LEAST {
+    let spread = spread_of(rom);
+    let count = fcode_count(rom, spread);
+    if count < ROM_LEAST {
         return 1;
     }
     if ROM_MOST < rom.len() {
@@ -53,17 +66,17 @@ pub fn check_header(rom: &[u8]) -> u32
     if !known_start(rom) {
         return 2;
     }
-    if byte(rom, 1) != 0x08 {
+    if fcode_byte(rom, spread, 1) != 0x08 {
         return 3;
     }
-    let length = program_length(rom);
+    let length = program_length(rom, spread);
     if length < 9 {
         return 4;
     }
-    if rom.len() < (length as usize) {
+    if count < (length as usize) {
         return 4;
     }
-    if differs(body_sum(rom, length), word16(rom, 2)) {
+    if differs(body_sum(rom, spread, length), word16(rom, spread, 2)) {
         return 5;
     }
     0

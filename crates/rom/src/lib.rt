@@ -4,6 +4,7 @@ mod branch;
 mod bytes;
 mod header;
 pub mod sizes;
+mod spread;
 mod sum;
 
 pub use branch::Aim;
@@ -16,4 +17,10 @@ pub use bytes::word32;
 pub use header::check_header;
 pub use header::program_length;
 pub use header::wide_start;
+pub use spread::Spread;
+pub use spread::fcode_byte;
+pub use spread::fcode_count;
+pub use spread::is_spread;
+pub use spread::lay_fcode;
+pub use spread::spread_of;
 pub use sum::body_sum;

@@ -4,8 +4,13 @@
 ghost use mathlib.Core.Path.{_≡_};
 ghost use Prim.Native.Nat.{_-_, _*_, _<_, _≤_, _%_, _^_, min};
 ghost use Rattle.rom.specs.Sum.{total, sumOf};
-ghost use Rattle.rom.specs.Joints.Sum.{SummedFrom};
+ghost use Rattle.rom.specs.Sizes.{firstPlace};
+ghost use Rattle.rom.specs.Spread.{viewOf};
+ghost use Rattle.rom.specs.Joints.Sum.{SummedFrom, apartSum};
+ghost use Rattle.rom.specs.Joints.Spread.{InRom};
 use crate::sizes::FIRST_PLACE;
+use crate::spread::Spread;
+use crate::spread::fcode_count;
 
 // A sum on its way from the last byte down to the first: `left` bytes are still to be added, the first ones. So one number says both how
 // many there are and where the next ones end.
@@ -106,20 +111,39 @@ fn byte_sum(body: &[u8]) -> u16
     s.sum
 }
 
-fn least(a: usize, b: usize) -> usize
+pub fn least(a: usize, b: usize) -> usize
     ensures { λ r. ⌜ r ≡ min a b ⌝ }
 {
     if a < b { a } else { b }
 }
 
-// The sum of bytes 8 to length-1 modulo 65,536; those that a ROM does not have count as 0.
-pub fn body_sum(rom: &[u8], length: u32) -> u16
-    ensures { λ r. ⌜ r ≡ sumOf (now (rom .entry)) length ⌝ }
+// The sum of the bytes from the first place up to an end, which lie so far apart. As in `lay_by`, the compiler knows the distance.
+fn apart_sum(rom: &[u8], end: usize, apart: usize) -> u16
+    requires { ⌜ (firstPlace ≤ end) × InRom apart firstPlace end (now rom) ⌝ }
+    ensures { λ r. ⌜ r ≡ apartSum apart (now (rom .entry)) (end - firstPlace) % 2 ^ 16 ⌝ }
+{
+    let mut sum: u16 = 0;
+    let mut k = FIRST_PLACE;
+    while k < end {
+        let at = k * apart;
+        sum = std::num::wrapping_add_u16(sum, wide16(rom[at]));
+        k += 1;
+    }
+    sum
+}
+
+// The sum of FCode bytes 8 to length-1 modulo 65,536; those that a ROM does not have count as 0.
+pub fn body_sum(rom: &[u8], spread: Spread, length: u32) -> u16
+    ensures { λ r. ⌜ r ≡ sumOf (viewOf spread (now (rom .entry))) length ⌝ }
 {
     let start = FIRST_PLACE;
-    let end = least(length as usize, rom.len());
+    let end = least(length as usize, fcode_count(rom, spread));
     if end <= start {
         return 0;
     }
-    byte_sum(&rom[start..end])
+    match spread {
+        Spread::One => byte_sum(&rom[start..end]),
+        Spread::Two => apart_sum(rom, end, 2),
+        Spread::Four => apart_sum(rom, end, 4),
+    }
 }

@@ -10,7 +10,9 @@ use Rattle.cells.specs.Choice.{pick}
 use Rattle.cells.specs.Laws.Tests.{tests}
 use Rattle.cells.specs.Laws.Facts.{neither}
 use Rattle.rom.specs.Sizes.{romLeast, romMost}
-use Rattle.rom.specs.Header.{startOf, formatOf, lengthOf, headerOf}
+use Rattle.rom.specs.Spread.{fcodeMost}
+use Rattle.rom.specs.Header.{startOf, formatOf, lengthOf, wrongRom, wrongLength, headerOf}
+use Rattle.rom.specs.Laws.Spread.{most-most}
 
 -- a refusal that was not given was not asked for
 unasked : (b : Bool) (why rest : ℕ) → (why ≡ 0 → ⊥) → pick b why rest ≡ 0 → T (not b) × (rest ≡ 0)
@@ -19,6 +21,7 @@ unasked false why rest n e = (tt, e)
 
 pub record Header (rom : List ℕ) : Type 0 where
   pub romFrom : romLeast ≤ length rom
+  pub fits : length rom ≤ fcodeMost rom
   pub romTo : length rom ≤ romMost
   pub least : 9 ≤ lengthOf rom
   pub most : lengthOf rom ≤ length rom
@@ -26,10 +29,12 @@ pub record Header (rom : List ℕ) : Type 0 where
 pub header-facts : (rom : List ℕ) → headerOf rom ≡ 0 → Header rom
 unfolding headerOf
 header-facts rom e =
-    let p = unasked (ltb (length rom) romLeast || ltb romMost (length rom)) 1 _ (λ z. omega arith) e in
+    let p = unasked (wrongRom rom) 1 _ (λ z. omega arith) e in
     let q = unasked (not (startOf rom)) 2 _ (λ z. omega arith) (p .1) in
     let r = unasked (not (formatOf rom)) 3 _ (λ z. omega arith) (q .1) in
-    let v = unasked (ltb (lengthOf rom) 9 || ltb (length rom) (lengthOf rom)) 4 _ (λ z. omega arith) (r .1) in
-    let (a, b) = neither (ltb (length rom) romLeast) (ltb romMost (length rom)) (p .0) in
+    let v = unasked (wrongLength rom (lengthOf rom)) 4 _ (λ z. omega arith) (r .1) in
+    let (a, b) = neither (ltb (length rom) romLeast) (ltb (fcodeMost rom) (length rom)) (p .0) in
     let (c, d) = neither (ltb (lengthOf rom) 9) (ltb (length rom) (lengthOf rom)) (v .0) in
-    record { romFrom = omega (arith, tests); romTo = omega (arith, tests); least = omega (arith, tests); most = omega (arith, tests) }
+    let f : length rom ≤ fcodeMost rom = omega (arith, tests) in
+    let m = most-most rom in
+    record { romFrom = omega (arith, tests); fits = f; romTo = omega arith; least = omega (arith, tests); most = omega (arith, tests) }

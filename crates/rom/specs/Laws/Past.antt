@@ -10,10 +10,11 @@ use lib.ListN.{length, take, drop, getD, length-take, length-drop}
 use lib.Seq.{length-take-le, ext-getD, getD-take, getD-drop}
 use borrow.Author.Tests.{le-ltb}
 use Rattle.cells.specs.Choice.{pick}
-use Rattle.rom.specs.Sizes.{romLeast, romMost, firstPlace}
+use Rattle.rom.specs.Sizes.{romLeast, firstPlace}
 use Rattle.rom.specs.Bytes.{word16Of, word32Of}
 use Rattle.rom.specs.Branch.{offsetOf, aimOf}
 use Rattle.rom.specs.Sum.{programOf, sumOf}
+use Rattle.rom.specs.Spread.{fcodeMost}
 use Rattle.rom.specs.Header.{wideOf, lengthOf, headerOf}
 use Rattle.rom.specs.Laws.Header.{Header, header-facts}
 use Rattle.rom.specs.Alike.{SameBelow, AlikeTo, Alike}
@@ -100,10 +101,10 @@ module _ {rom other : List ℕ} (a : Alike rom other) where
       let n : lengthOf other ≤ length other = subst (λ n. n ≤ length other) same-length (p .within .1) in
       rw (
         le-ltb (length rom) romLeast (p .least .0),
-        le-ltb romMost (length rom) (p .most .0),
+        le-ltb (fcodeMost rom) (length rom) (p .most .0),
         le-ltb (length rom) (lengthOf rom) (p .within .0),
         le-ltb (length other) romLeast (p .least .1),
-        le-ltb romMost (length other) (p .most .1),
+        le-ltb (fcodeMost other) (length other) (p .most .1),
         le-ltb (length other) (lengthOf other) n,
         same-sum (lengthOf rom) rom other (p .same) (p .within .0) (p .within .1),
         same-length,
@@ -117,10 +118,16 @@ pub cut-alike : (rom : List ℕ) → headerOf rom ≡ 0 → Alike rom (take (len
 cut-alike rom e =
     let h : Header rom = header-facts rom e in
     let n : length (take (lengthOf rom) rom) ≡ lengthOf rom = length-take-le (lengthOf rom) rom (h .most) in
+    let m : fcodeMost (take (lengthOf rom) rom) ≡ fcodeMost rom = rw (← below 0 (omega arith)) in
     record {
       header = λ k l. below k (omega arith);
       program =
-          record { same = below; least = (h .romFrom, omega arith); most = (h .romTo, omega arith); within = (h .most, omega arith) };
+          record {
+            same = below;
+            least = (h .romFrom, omega arith);
+            most = (h .fits, omega (arith, h .fits));
+            within = (h .most, omega arith);
+          };
     }
   where
     below : SameBelow (lengthOf rom) rom (take (lengthOf rom) rom)

@@ -1,5 +1,6 @@
 use denote.Ref.{now}
 use mathlib.Core.Path.{sym, _∙_}
+use Rattle.rom.specs.Spread.{viewOf}
 use Rattle.rom.specs.Laws.Branch.{aim-outside, aim-inside}
 use borrow.Author.Needs.{needs}
 use Rattle.rom.proofs.branch.aim_at.Statement.{statement}
@@ -12,7 +13,7 @@ aim-at-spec =
     (λ c κs. search needs)
     (λ c.
     let a = c .before .before .before .args in
-    sym (aim-outside (now (a .rom)) (a .length) (a .wide) (a .at) (sym (c .before .destination .ensures) ∙ c .if1 .taken)))
+    sym (aim-outside (viewOf (a .spread) (now (a .rom))) (a .length) (a .wide) (a .at) (sym (c .before .destination .ensures) ∙ c .if1 .taken)))
     (λ c.
     let a = c .before .before .before .args in
-    sym (aim-inside (now (a .rom)) (a .length) (a .wide) (a .at) _ (c .before .destination .ensures) (c .if1 .left))))
+    sym (aim-inside (viewOf (a .spread) (now (a .rom))) (a .length) (a .wide) (a .at) _ (c .before .destination .ensures) (c .if1 .left))))

@@ -11,4 +11,4 @@ offset-spec =
     (λ c κs. search needs)
     (λ c. search needs)
     (λ c. rw (c .before .if1 .taken) (c .word16 .ensures))
-    (λ c. rw (c .before .if1 .left) (c .byte .ensures)))
+    (λ c. rw (c .before .if1 .left) (c .fcode-byte .ensures)))

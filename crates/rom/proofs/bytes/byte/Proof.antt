@@ -12,4 +12,4 @@ byte-spec =
     (λ c. search needs)
     (λ c.
     let a = c .before .args in
-    rw (List·getD-eq-default (now (a .rom)) 0 {n = a .k} (search needs))))
+    rw (List·getD-eq-default (now (a .bytes)) 0 {n = a .k} (search needs))))
