@@ -10,7 +10,7 @@ use lib.ListN.{length, getD, set, take, drop, length-set, length-take, length-dr
 use lib.Seq.{getD-set-same, getD-set-other, ext-getD, take-suc, getD-drop}
 use Rattle.rom.specs.Sizes.{firstPlace}
 use Rattle.rom.specs.Sum.{total, programOf, sumOf}
-use Rattle.rom.specs.Spread.{timesOf, viewOf, laidOn}
+use Rattle.rom.specs.Spread.{distanceOf, viewOf, laidOn}
 use Rattle.rom.specs.Joints.Sum.{apartSum}
 use Rattle.rom.specs.Joints.Spread.{InRom, LaidBy}
 use Rattle.rom.specs.Laws.Spread.{view-at, view-within, laid-length, laid-at, laid-behind}
@@ -47,11 +47,11 @@ module _ (apart : ℕ) (rom room : List ℕ) where
 
 -- a room with all that fit is the definition's
 module _ (s : Spread) (rom : List ℕ) where
-  pub view-in : (from end : ℕ) → end ≤ length (viewOf s rom) → InRom (timesOf s) from end rom
+  pub view-in : (from end : ℕ) → end ≤ length (viewOf s rom) → InRom (distanceOf s) from end rom
   view-in from end h = record { each = λ k l q. view-within s rom k (omega arith) }
 
   pub all-laid : (room now : List ℕ) (count : ℕ) → count ≡ min (length (viewOf s rom)) (length room)
-      → LaidBy (timesOf s) rom room count now → now ≡ laidOn room (viewOf s rom)
+      → LaidBy (distanceOf s) rom room count now → now ≡ laidOn room (viewOf s rom)
   all-laid room now count e l =
       ext-getD 0 now (laidOn room (viewOf s rom)) (l .size ∙ sym (laid-length room (viewOf s rom))) (λ k h. each k h)
     where
@@ -69,10 +69,10 @@ module _ (s found : Spread) (rom room : List ℕ) (all count : ℕ) (e : s ≡ f
   counted : count ≡ min (length (viewOf found rom)) (length room)
   counted = n ∙ ap (λ m. min m (length room)) (a ∙ ap (λ t. length (viewOf t rom)) e)
 
-  pub lay-ready : (count ≤ length room) × InRom (timesOf found) 0 count rom
+  pub lay-ready : (count ≤ length room) × InRom (distanceOf found) 0 count rom
   lay-ready = let c = counted in (omega arith, view-in found rom 0 count (omega arith))
 
-  pub lay-done : (now : List ℕ) → LaidBy (timesOf found) rom room count now → now ≡ laidOn room (viewOf s rom)
+  pub lay-done : (now : List ℕ) → LaidBy (distanceOf found) rom room count now → now ≡ laidOn room (viewOf s rom)
   lay-done now l = all-laid found rom room now count counted l ∙ ap (λ t. laidOn room (viewOf t rom)) (sym e)
 
 -- ---- summed
@@ -91,7 +91,7 @@ total-end (x ∷ xs) b = let e = total-end xs b in omega arith
 -- all from the first place on are the program's
 module _ (s : Spread) (rom : List ℕ) where
   program-apart : (n : ℕ) → firstPlace + n ≤ length (viewOf s rom)
-      → apartSum (timesOf s) rom n ≡ total (take n (drop firstPlace (viewOf s rom)))
+      → apartSum (distanceOf s) rom n ≡ total (take n (drop firstPlace (viewOf s rom)))
   unfolding apartSum
   program-apart zero h = refl
   program-apart (suc n) h =
@@ -102,16 +102,16 @@ module _ (s : Spread) (rom : List ℕ) where
       rw (take-suc (drop firstPlace (viewOf s rom)) n 0 (omega arith), total-end (take n (drop firstPlace (viewOf s rom)))) (omega arith)
 
   pub sum-apart : (found : Spread) (len all end : ℕ) → s ≡ found → all ≡ length (viewOf s rom) → end ≡ min len all → firstPlace < end
-      → apartSum (timesOf found) rom (end - firstPlace) % 2 ^ 16 ≡ sumOf (viewOf s rom) len
+      → apartSum (distanceOf found) rom (end - firstPlace) % 2 ^ 16 ≡ sumOf (viewOf s rom) len
   sum-apart found len all end e a m h =
       let f : end ≡ min len (length (viewOf s rom)) = m ∙ ap (λ n. min len n) a in
-      ap (λ t. apartSum (timesOf t) rom (end - firstPlace) % 2 ^ 16) (sym e)
+      ap (λ t. apartSum (distanceOf t) rom (end - firstPlace) % 2 ^ 16) (sym e)
       ∙ ap (λ n. n % 2 ^ 16) (program-apart (end - firstPlace) (omega arith))
       ∙ sum-some (viewOf s rom) len end f
 
   -- the code's end is in the ROM
   pub sum-ready : (found : Spread) (len all end : ℕ) → s ≡ found → all ≡ length (viewOf s rom) → end ≡ min len all → firstPlace < end
-      → (firstPlace ≤ end) × InRom (timesOf found) firstPlace end rom
+      → (firstPlace ≤ end) × InRom (distanceOf found) firstPlace end rom
   sum-ready found len all end e a m h =
       let f : all ≡ length (viewOf found rom) = a ∙ ap (λ t. length (viewOf t rom)) e in
       (omega arith, view-in found rom firstPlace end (omega arith))

@@ -12,10 +12,10 @@ use Rattle.rom.specs.declared.spread.Spread.{Spread}
 use Rattle.rom.specs.declared.spread.Spread.the-variants.{One, Two, Four}
 
 -- a spread as a number
-abbrev pub timesOf : Spread → ℕ
-timesOf One = 1
-timesOf Two = 2
-timesOf Four = 4
+abbrev pub distanceOf : Spread → ℕ
+distanceOf One = 1
+distanceOf Two = 2
+distanceOf Four = 4
 
 -- the first byte tells it, and any other than these two says that nothing is spread
 abbrev pub spreadOf : List ℕ → Spread
@@ -42,7 +42,7 @@ fcodeOf rom = viewOf (spreadOf rom) rom
 
 -- how many FCode bytes a ROM of the largest size has, by its start: gaps count among the ROM's 65,536 bytes
 abbrev pub fcodeMost : List ℕ → ℕ
-fcodeMost fcode = romMost / timesOf (spreadOf fcode)
+fcodeMost fcode = romMost / distanceOf (spreadOf fcode)
 
 -- bytes laid into a room from its front on, as many as there are and have room
 unfoldable pub laidOn : List ℕ → List ℕ → List ℕ

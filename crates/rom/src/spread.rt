@@ -4,7 +4,7 @@ ghost use mathlib.Core.Path.{_≡_};
 ghost use Prim.Native.Nat.{_≤_};
 ghost use lib.ListN.{length};
 ghost use Rattle.rom.specs.Bytes.{byteOf};
-ghost use Rattle.rom.specs.Spread.{timesOf, spreadOf, isSpread, viewOf, laidOn};
+ghost use Rattle.rom.specs.Spread.{distanceOf, spreadOf, isSpread, viewOf, laidOn};
 ghost use Rattle.rom.specs.Joints.Spread.{InRom, LaidBy};
 use crate::bytes::byte;
 use crate::sum::least;
@@ -41,8 +41,8 @@ pub fn is_spread(fcode: &[u8]) -> bool
     start == 0xF3
 }
 
-fn times(spread: Spread) -> usize
-    ensures { λ r. ⌜ r ≡ timesOf spread ⌝ }
+fn distance(spread: Spread) -> usize
+    ensures { λ r. ⌜ r ≡ distanceOf spread ⌝ }
 {
     match spread {
         Spread::One => 1,
@@ -68,7 +68,7 @@ pub fn fcode_byte(rom: &[u8], spread: Spread, k: usize) -> u8
     ensures { λ r. ⌜ r ≡ byteOf (viewOf spread (now (rom .entry))) k ⌝ }
 {
     if k < fcode_count(rom, spread) {
-        let at = k * times(spread);
+        let at = k * distance(spread);
         rom[at]
     } else {
         0

@@ -21,6 +21,7 @@ use crate::programs::PROGRAMS_MOST;
 use crate::read::Read;
 use crate::read::out_of_place;
 use crate::read::read_at;
+use rom::Spread;
 use rom::byte;
 
 // Where a body ends: the place of its b(;), or the place of the first token that is refused, and why.
@@ -116,9 +117,9 @@ fn passed_to(rom: &[u8], kinds: &[u8; PROGRAMS_MOST], place: u32) -> usize
     ensures { λ r. ⌜ ((wide : Bool) → r ≡ passedOf (now (rom .entry)) wide (now (kinds .entry)) place) ⌝ }
 {
     let at = place as usize + 1;
-    let number = number_at(rom, at);
+    let number = number_at(rom, Spread::One, at);
     if kind_of(kinds, number) == 0xB8 {
-        behind_number(rom, at)
+        behind_number(rom, Spread::One, at)
     } else {
         BEYOND
     }
@@ -137,7 +138,7 @@ fn passed(rom: &[u8], wide: bool, kinds: &[u8; PROGRAMS_MOST], place: u32) -> us
     match first {
         0x01..=0x0F => passed_double(rom, kinds, place, first),
         0x10 => at + 5, // b(lit)
-        0x12 => behind_string(rom, at + 1), // b(")
+        0x12 => behind_string(rom, Spread::One, at + 1), // b(")
         0x13 => behind_offset(at + 1, wide), // bbranch
         0x14 => behind_offset(at + 1, wide), // b?branch
         0x1E..=0x20 => at + 1, // + - *

@@ -1,15 +1,18 @@
-// The token at a place, with its operand.
+// The token at a place, with its operand, of a ROM with a spread. The others of this crate read FCode bytes that are laid out, which are so
+// many bytes with a spread of one.
 ghost use mathlib.Core.Path.{_≡_};
 ghost use mathlib.Core.Bool.{_&&_};
 ghost use Prim.Native.Nat.{_+_, _<_, _≤_, _^_};
 ghost use Rattle.cells.specs.Choice.{pick};
+ghost use Rattle.rom.specs.Spread.{viewOf};
 ghost use Rattle.tokens.specs.Table.{isProgram};
 ghost use Rattle.tokens.specs.Decode.{isDouble, numberOf, behindNumber, behindString, behindOf, definitionOf};
 ghost use Rattle.tokens.specs.Decode.{operandOf, isKind, listed as Decode·listed, decodeOf};
 use crate::code::code_of;
 use rom::Aim;
+use rom::Spread;
 use rom::aim_at;
-use rom::byte;
+use rom::fcode_byte;
 use rom::offset;
 use rom::word32;
 
@@ -51,24 +54,24 @@ fn is_double(first: u8) -> bool
 }
 
 // The number at a place.
-pub fn number_at(rom: &[u8], at: usize) -> u32
+pub fn number_at(rom: &[u8], spread: Spread, at: usize) -> u32
     requires { ⌜ at < 2 ^ 40 ⌝ }
-    ensures { λ r. ⌜ r ≡ numberOf (now (rom .entry)) at ⌝ }
+    ensures { λ r. ⌜ r ≡ numberOf (viewOf spread (now (rom .entry))) at ⌝ }
 {
-    let first = byte(rom, at);
+    let first = fcode_byte(rom, spread, at);
     if is_double(first) {
-        (first as u32) * 256 + (byte(rom, at + 1) as u32)
+        (first as u32) * 256 + (fcode_byte(rom, spread, at + 1) as u32)
     } else {
         first as u32
     }
 }
 
 // The place behind the number at a place.
-pub fn behind_number(rom: &[u8], at: usize) -> usize
+pub fn behind_number(rom: &[u8], spread: Spread, at: usize) -> usize
     requires { ⌜ at < 2 ^ 40 ⌝ }
-    ensures { λ r. ⌜ (r ≡ behindNumber (now (rom .entry)) at) × (at < r) × (r ≤ at + 2) ⌝ }
+    ensures { λ r. ⌜ (r ≡ behindNumber (viewOf spread (now (rom .entry))) at) × (at < r) × (r ≤ at + 2) ⌝ }
 {
-    if is_double(byte(rom, at)) {
+    if is_double(fcode_byte(rom, spread, at)) {
         at + 2
     } else {
         at + 1
@@ -76,11 +79,11 @@ pub fn behind_number(rom: &[u8], at: usize) -> usize
 }
 
 // The place behind the string at a place.
-pub fn behind_string(rom: &[u8], at: usize) -> usize
+pub fn behind_string(rom: &[u8], spread: Spread, at: usize) -> usize
     requires { ⌜ at < 2 ^ 40 ⌝ }
-    ensures { λ r. ⌜ (r ≡ behindString (now (rom .entry)) at) × (at < r) × (r ≤ at + 256) ⌝ }
+    ensures { λ r. ⌜ (r ≡ behindString (viewOf spread (now (rom .entry))) at) × (at < r) × (r ≤ at + 256) ⌝ }
 {
-    at + 1 + (byte(rom, at) as usize)
+    at + 1 + (fcode_byte(rom, spread, at) as usize)
 }
 
 pub fn behind_offset(at: usize, wide: bool) -> usize
@@ -91,51 +94,51 @@ pub fn behind_offset(at: usize, wide: bool) -> usize
 }
 
 // The place behind an operand of a form.
-fn behind(rom: &[u8], wide: bool, at: usize, form: u32) -> usize
+fn behind(rom: &[u8], spread: Spread, wide: bool, at: usize, form: u32) -> usize
     requires { ⌜ at < 2 ^ 34 ⌝ }
-    ensures { λ r. ⌜ (r ≡ behindOf (now (rom .entry)) wide at form) × (at ≤ r) × (r ≤ at + 260) ⌝ }
+    ensures { λ r. ⌜ (r ≡ behindOf (viewOf spread (now (rom .entry))) wide at form) × (at ≤ r) × (r ≤ at + 260) ⌝ }
 {
     match form {
         1 => at + 4,
-        2 => behind_string(rom, at),
+        2 => behind_string(rom, spread, at),
         3 => behind_offset(at, wide),
-        4 => behind_number(rom, at),
-        5 => behind_number(rom, at) + 1,
-        6 => behind_number(rom, behind_string(rom, at)) + 1,
+        4 => behind_number(rom, spread, at),
+        5 => behind_number(rom, spread, at) + 1,
+        6 => behind_number(rom, spread, behind_string(rom, spread, at)) + 1,
         _ => at,
     }
 }
 
 // The number and the kind of a definition.
-fn definition_at(rom: &[u8], at: usize) -> Operand
+fn definition_at(rom: &[u8], spread: Spread, at: usize) -> Operand
     requires { ⌜ at < 2 ^ 34 ⌝ }
-    ensures { λ r. ⌜ r ≡ definitionOf (now (rom .entry)) at ⌝ }
+    ensures { λ r. ⌜ r ≡ definitionOf (viewOf spread (now (rom .entry))) at ⌝ }
 {
     Operand::Definition {
-        number: number_at(rom, at),
-        kind: byte(rom, behind_number(rom, at)) as u32,
+        number: number_at(rom, spread, at),
+        kind: fcode_byte(rom, spread, behind_number(rom, spread, at)) as u32,
     }
 }
 
 // The operand of a form at a place.
-fn operand_at(rom: &[u8], length: u32, wide: bool, at: u32, form: u32) -> Operand
+fn operand_at(rom: &[u8], spread: Spread, length: u32, wide: bool, at: u32, form: u32) -> Operand
     requires { ⌜ (form ≡ 2 → at + 1 < 2 ^ 32) ⌝ }
-    ensures { λ r. ⌜ r ≡ operandOf (now (rom .entry)) length wide at form ⌝ }
+    ensures { λ r. ⌜ r ≡ operandOf (viewOf spread (now (rom .entry))) length wide at form ⌝ }
 {
     let k = at as usize;
     match form {
-        1 => Operand::Literal(word32(rom, at)),
+        1 => Operand::Literal(word32(rom, spread, at)),
         2 => Operand::Text {
             start: at + 1,
-            count: byte(rom, k) as u32,
+            count: fcode_byte(rom, spread, k) as u32,
         },
         3 => Operand::Branch {
-            bits: offset(rom, wide, at),
-            aim: aim_at(rom, length, wide, at),
+            bits: offset(rom, spread, wide, at),
+            aim: aim_at(rom, spread, length, wide, at),
         },
-        4 => Operand::Number(number_at(rom, k)),
-        5 => definition_at(rom, k),
-        6 => definition_at(rom, behind_string(rom, k)),
+        4 => Operand::Number(number_at(rom, spread, k)),
+        5 => definition_at(rom, spread, k),
+        6 => definition_at(rom, spread, behind_string(rom, spread, k)),
         _ => Operand::Nothing,
     }
 }
@@ -187,19 +190,19 @@ fn listed(code: u32, operand: Operand) -> bool
 }
 
 // The token at a place, with the offset width in force there: whole, or cut off by the program length, or none of the list's.
-pub fn decode(rom: &[u8], length: u32, wide: bool, place: u32) -> Decoded
-    ensures { λ r. ⌜ r ≡ decodeOf (now (rom .entry)) length wide place ⌝ }
+pub fn decode(rom: &[u8], spread: Spread, length: u32, wide: bool, place: u32) -> Decoded
+    ensures { λ r. ⌜ r ≡ decodeOf (viewOf spread (now (rom .entry))) length wide place ⌝ }
 {
     let at = place as usize;
-    let number = number_at(rom, at);
+    let number = number_at(rom, spread, at);
     let code = code_of(number);
     let form = code / 0x1_0000 % 16;
-    let start = behind_number(rom, at);
-    let next = behind(rom, wide, start, form);
+    let start = behind_number(rom, spread, at);
+    let next = behind(rom, spread, wide, start, form);
     if (length as usize) < next {
         return Decoded::Cut;
     }
-    let operand = operand_at(rom, length, wide, start as u32, form);
+    let operand = operand_at(rom, spread, length, wide, start as u32, form);
     if listed(code, operand) {
         Decoded::Whole(Token {
             number: number,

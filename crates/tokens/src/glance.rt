@@ -13,6 +13,7 @@ use crate::decoding::behind_offset;
 use crate::decoding::behind_string;
 use crate::decoding::is_definition;
 use crate::decoding::number_at;
+use rom::Spread;
 use rom::byte;
 use rom::destination;
 
@@ -165,7 +166,7 @@ fn branched(rom: &[u8], length: u32, wide: bool, code: u32, number: u32, start: 
         code: code,
         number: number,
         next: next as u32,
-        aim: destination(rom, length, wide, start),
+        aim: destination(rom, Spread::One, length, wide, start),
         kind: 0,
     }
 }
@@ -175,11 +176,11 @@ fn defined(rom: &[u8], length: u32, code: u32, at: usize) -> Glance
     requires { ⌜ at < 2 ^ 34 ⌝ }
     ensures { λ r. ⌜ r ≡ glanceDefined (now (rom .entry)) length code at ⌝ }
 {
-    let end = behind_number(rom, at);
+    let end = behind_number(rom, Spread::One, at);
     if (length as usize) < end + 1 {
         return nothing();
     }
-    let number = number_at(rom, at);
+    let number = number_at(rom, Spread::One, at);
     let kind = byte(rom, end) as u32;
     if is_definition(number, kind) {
         Glance {
@@ -203,11 +204,16 @@ fn with_operand(rom: &[u8], length: u32, wide: bool, code: u32, number: u32, sta
     let form = code / 0x1_0000 % 16;
     match form {
         1 => ended(length, code, number, at + 4),
-        2 => ended(length, code, number, behind_string(rom, at)),
+        2 => ended(length, code, number, behind_string(rom, Spread::One, at)),
         3 => branched(rom, length, wide, code, number, start),
-        4 => ended(length, code, number_at(rom, at), behind_number(rom, at)),
+        4 => ended(
+            length,
+            code,
+            number_at(rom, Spread::One, at),
+            behind_number(rom, Spread::One, at),
+        ),
         5 => defined(rom, length, code, at),
-        6 => defined(rom, length, code, behind_string(rom, at)),
+        6 => defined(rom, length, code, behind_string(rom, Spread::One, at)),
         _ => ended(length, code, number, at),
     }
 }

@@ -5,6 +5,7 @@ ghost use Rattle.tokens.specs.Place.{misplacedOf, readOf};
 use crate::decoding::Decoded;
 use crate::decoding::Token;
 use crate::decoding::decode;
+use rom::Spread;
 
 pub enum Read {
     Refused(u32),
@@ -34,7 +35,7 @@ fn misfit(code: u32, within: bool) -> u32
 pub fn read_at(rom: &[u8], length: u32, wide: bool, within: bool, place: u32) -> Read
     ensures { λ r. ⌜ r ≡ readOf (now (rom .entry)) length wide within place ⌝ }
 {
-    match decode(rom, length, wide, place) {
+    match decode(rom, Spread::One, length, wide, place) {
         Decoded::Cut => Read::Refused(10),
         Decoded::Unlisted(code) => Read::Refused(misfit(code, within)),
         Decoded::Whole(token) => {

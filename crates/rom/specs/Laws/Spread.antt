@@ -7,7 +7,7 @@ use lib.ListN.{length, take, getD}
 use lib.Seq.{ext-getD, getD-take, length-take-le}
 use Rattle.rom.specs.Sizes.{romMost}
 use Rattle.rom.specs.Bytes.{byteOf}
-use Rattle.rom.specs.Spread.{timesOf, spreadOf, secondsOf, viewOf, fcodeOf, fcodeMost, laidOn}
+use Rattle.rom.specs.Spread.{distanceOf, spreadOf, secondsOf, viewOf, fcodeOf, fcodeMost, laidOn}
 use Rattle.rom.specs.declared.spread.Spread.{Spread}
 use Rattle.rom.specs.declared.spread.Spread.the-variants.{One, Two, Four}
 
@@ -27,7 +27,7 @@ seconds-at (b ∷ c ∷ bs) zero = refl
 seconds-at (b ∷ c ∷ bs) (suc k) = let e : suc k * 2 ≡ suc (suc (k * 2)) = omega arith in rw e (seconds-at bs k)
 
 -- ---- the reading, once over the spread
-pub view-at : (s : Spread) (rom : List ℕ) (k : ℕ) → byteOf (viewOf s rom) k ≡ byteOf rom (k * timesOf s)
+pub view-at : (s : Spread) (rom : List ℕ) (k : ℕ) → byteOf (viewOf s rom) k ≡ byteOf rom (k * distanceOf s)
 view-at One rom k = let e : k * 1 ≡ k = omega arith in rw e
 view-at Two rom k = seconds-at rom k
 view-at Four rom k =
@@ -35,7 +35,7 @@ view-at Four rom k =
     seconds-at (secondsOf rom) k ∙ seconds-at rom (k * 2) ∙ ap (λ n. getD rom n 0) e
 
 -- how many there are: so many that the last one's place is in the ROM, and one more's is not
-pub view-length : (s : Spread) (rom : List ℕ) → length (viewOf s rom) ≡ (length rom + (timesOf s - 1)) / timesOf s
+pub view-length : (s : Spread) (rom : List ℕ) → length (viewOf s rom) ≡ (length rom + (distanceOf s - 1)) / distanceOf s
 view-length One rom = omega arith
 view-length Two rom = seconds-length rom
 view-length Four rom =
@@ -43,26 +43,26 @@ view-length Four rom =
     let f = seconds-length (secondsOf rom) in
     omega arith
 
-pub sits : (rom : List ℕ) (k : ℕ) → byteOf (fcodeOf rom) k ≡ byteOf rom (k * timesOf (spreadOf rom))
+pub sits : (rom : List ℕ) (k : ℕ) → byteOf (fcodeOf rom) k ≡ byteOf rom (k * distanceOf (spreadOf rom))
 sits rom k = view-at (spreadOf rom) rom k
 
 -- the first byte is the first FCode byte, so that the FCode bytes tell the spread that they had
 pub same-start : (s : Spread) (rom : List ℕ) → byteOf (viewOf s rom) 0 ≡ byteOf rom 0
 same-start s rom = view-at s rom 0 ∙ ap (λ n. getD rom n 0) (none s)
   where
-    none : (s : Spread) → 0 * timesOf s ≡ 0
+    none : (s : Spread) → 0 * distanceOf s ≡ 0
     none s = omega arith
 
 pub same-spread : (s : Spread) (rom : List ℕ) → spreadOf (viewOf s rom) ≡ spreadOf rom
 same-spread s rom = rw (same-start s rom)
 
 -- a place is an FCode byte's exactly where it is in the ROM
-pub view-within : (s : Spread) (rom : List ℕ) (k : ℕ) → k < length (viewOf s rom) → k * timesOf s < length rom
+pub view-within : (s : Spread) (rom : List ℕ) (k : ℕ) → k < length (viewOf s rom) → k * distanceOf s < length rom
 view-within One rom k h = omega arith
 view-within Two rom k h = let e = view-length Two rom in omega arith
 view-within Four rom k h = let e = view-length Four rom in omega arith
 
-pub view-past : (s : Spread) (rom : List ℕ) (k : ℕ) → length (viewOf s rom) ≤ k → length rom ≤ k * timesOf s
+pub view-past : (s : Spread) (rom : List ℕ) (k : ℕ) → length (viewOf s rom) ≤ k → length rom ≤ k * distanceOf s
 view-past One rom k h = omega arith
 view-past Two rom k h = let e = view-length Two rom in omega arith
 view-past Four rom k h = let e = view-length Four rom in omega arith
@@ -74,12 +74,12 @@ view-fewer Two rom = let e = view-length Two rom in omega arith
 view-fewer Four rom = let e = view-length Four rom in omega arith
 
 -- ---- the largest
-most-at : (s : Spread) (rom : List ℕ) → length rom ≤ romMost → length (viewOf s rom) ≤ romMost / timesOf s
+most-at : (s : Spread) (rom : List ℕ) → length rom ≤ romMost → length (viewOf s rom) ≤ romMost / distanceOf s
 most-at One rom h = omega arith
 most-at Two rom h = let e = view-length Two rom in omega arith
 most-at Four rom h = let e = view-length Four rom in omega arith
 
-over-at : (s : Spread) (rom : List ℕ) → romMost < length rom → romMost / timesOf s < length (viewOf s rom)
+over-at : (s : Spread) (rom : List ℕ) → romMost < length rom → romMost / distanceOf s < length (viewOf s rom)
 over-at One rom h = omega arith
 over-at Two rom h = let e = view-length Two rom in omega arith
 over-at Four rom h = let e = view-length Four rom in omega arith
@@ -91,7 +91,7 @@ pub fcode-over : (rom : List ℕ) → romMost < length rom → fcodeMost (fcodeO
 fcode-over rom h = rw (same-spread (spreadOf rom) rom) (over-at (spreadOf rom) rom h)
 
 -- and no ROM has more FCode bytes than the largest that is not spread
-most-of : (s : Spread) → romMost / timesOf s ≤ romMost
+most-of : (s : Spread) → romMost / distanceOf s ≤ romMost
 most-of One = omega arith
 most-of Two = omega arith
 most-of Four = omega arith

@@ -12,18 +12,18 @@ mul-at : tie.Need-mul-at
 mul-at c =
     let a = c .before .before .before .before .args in
     let b = view-within (a .spread) (now (a .rom)) (a .k) (omega (arith, c .before .before .fcode-count .ensures, c .before .if1 .taken)) in
-    rw (c .times .ensures) (record { fits = omega arith })
+    rw (c .distance .ensures) (record { fits = omega arith })
 
 shared-slice-read-result : tie.Need-shared-slice-read-result
 shared-slice-read-result c =
     let a = c .before .before .before .before .before .args in
-    rw (c .before .times .ensures)
+    rw (c .before .distance .ensures)
     (view-within (a .spread) (now (a .rom)) (a .k) (omega (arith, c .before .before .before .fcode-count .ensures, c .before .before .if1 .taken)))
 
 returns : tie.Need-returns
 returns c =
     let a = c .before .before .before .before .before .args in
-    rw (c .before .times .ensures) (sym (view-at (a .spread) (now (a .rom)) (a .k)))
+    rw (c .before .distance .ensures) (sym (view-at (a .spread) (now (a .rom)) (a .k)))
 
 returns-2 : tie.Need-returns-2
 returns-2 c =

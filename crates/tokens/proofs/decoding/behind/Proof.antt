@@ -1,6 +1,7 @@
 use mathlib.Core.Path.{sym}
 use denote.Ref.{now}
 use borrow.Author.Needs.{needs}
+use Rattle.rom.specs.Spread.{viewOf}
 use Rattle.cells.specs.Laws.Tests.{find-none}
 use Rattle.tokens.specs.Decode.{behinds, behindOf}
 use Rattle.tokens.proofs.decoding.behind.Statement.{statement}
@@ -30,4 +31,4 @@ behind-spec =
     (rw (match .keys6, ← c .before .behind-string2 .ensures .0, ← c .behind-number3 .ensures .0), search needs, search needs))
     (λ c.
     let a = c .before .before .args in
-    (sym (find-none (Unit {0}) (behinds (now (a .rom)) (a .wide) (a .at)) (a .at) (a .form) (c .match .rest)), search needs, search needs)))
+    (sym (find-none (Unit {0}) (behinds (viewOf (a .spread) (now (a .rom))) (a .wide) (a .at)) (a .at) (a .form) (c .match .rest)), search needs, search needs)))

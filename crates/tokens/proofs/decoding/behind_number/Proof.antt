@@ -11,8 +11,8 @@ behind-number-spec =
     (λ c. search needs)
     (λ c. search needs)
     (λ c.
-    let byte = c .before .before .byte in
+    let byte = c .before .before .fcode-byte in
     (rw (← byte .ensures, ← c .before .is-double .ensures, c .if1 .taken), search needs, search needs))
     (λ c.
-    let byte = c .before .before .byte in
+    let byte = c .before .before .fcode-byte in
     (rw (← byte .ensures, ← c .before .is-double .ensures, c .if1 .left), search needs, search needs)))

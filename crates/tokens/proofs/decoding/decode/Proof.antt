@@ -1,6 +1,7 @@
 use mathlib.Core.Path.{sym, _∙_}
 use denote.Ref.{now}
 use borrow.Author.Needs.{needs}
+use Rattle.rom.specs.Spread.{viewOf}
 use Rattle.tokens.proofs.Wholes.{Found, cut-off, is-whole, is-unlisted, string-fits}
 use Rattle.tokens.proofs.decoding.decode.Statement.{statement}
 use Rattle.tokens.proofs.decoding.decode.Tie as tie
@@ -10,7 +11,7 @@ start b = b .before .before .before .before .before
 
 -- what is known of the token once its end is
 found : (b : tie.After-behind)
-    → Found (now (start b .args .rom)) (start b .args .wide) (start b .args .place) (b .before .before .before .number-at .result)
+    → Found (viewOf (start b .args .spread) (now (start b .args .rom))) (start b .args .wide) (start b .args .place) (b .before .before .before .number-at .result)
     (b .before .before .code-of .result) (b .before .behind-number .result) (b .behind .result)
 found b =
     record {

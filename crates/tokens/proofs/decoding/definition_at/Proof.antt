@@ -12,4 +12,4 @@ definition-at-spec =
     (λ c. search needs)
     (λ c.
     let number-at = c .before .before .number-at in
-    rw (← number-at .ensures, ← c .before .behind-number .ensures .0, ← c .byte .ensures)))
+    rw (← number-at .ensures, ← c .before .behind-number .ensures .0, ← c .fcode-byte .ensures)))

@@ -17,7 +17,7 @@ number-at-spec =
     (λ c. search needs)
     (λ c.
     let k = c .before in
-    rw (← k .before .before .byte .ensures, ← k .before .is-double .ensures, k .if1 .taken, ← c .byte2 .ensures))
+    rw (← k .before .before .fcode-byte .ensures, ← k .before .is-double .ensures, k .if1 .taken, ← c .fcode-byte2 .ensures))
     (λ c.
-    let byte = c .before .before .byte in
+    let byte = c .before .before .fcode-byte in
     rw (← byte .ensures, ← c .before .is-double .ensures, c .if1 .left)))

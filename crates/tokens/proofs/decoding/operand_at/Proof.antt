@@ -1,6 +1,7 @@
 use mathlib.Core.Path.{sym}
 use denote.Ref.{now}
 use borrow.Author.Needs.{needs}
+use Rattle.rom.specs.Spread.{viewOf}
 use Rattle.cells.specs.Laws.Tests.{find-none}
 use Rattle.tokens.specs.Decode.{operands, operandOf}
 use Rattle.tokens.specs.declared.decoding.Operand.the-variants.{Nothing}
@@ -25,7 +26,7 @@ operand-at-spec =
     (λ c κs. search needs)
     (λ c κs. search needs)
     (λ c. rw (c .before .match .keys1, ← c .word32 .ensures))
-    (λ c. rw (c .before .match .keys2, ← c .byte .ensures))
+    (λ c. rw (c .before .match .keys2, ← c .fcode-byte .ensures))
     (λ c.
     let match = c .before .before .match in
     rw (match .keys3, ← c .before .offset .ensures, ← c .aim-at .ensures))
@@ -36,4 +37,4 @@ operand-at-spec =
     rw (match .keys6, ← c .before .behind-string .ensures .0) (c .definition-at2 .ensures))
     (λ c.
     let a = c .before .before .args in
-    sym (find-none (Unit {0}) (operands (now (a .rom)) (a .length) (a .wide) (a .at)) Nothing (a .form) (c .match .rest))))
+    sym (find-none (Unit {0}) (operands (viewOf (a .spread) (now (a .rom))) (a .length) (a .wide) (a .at)) Nothing (a .form) (c .match .rest))))

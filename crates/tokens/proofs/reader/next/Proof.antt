@@ -45,6 +45,7 @@ use denote.Triple.Table.{entered, cited}
 use denote.Triple.Walked.{says, Stays, stay-none, walkOf, goes-none, Walks, ends-at, walked, walk-meets}
 use denote.Triple.Clauses.{ensured, lasts}
 use denote.Exit.{yes}
+use Rattle.rom.specs.Spread.{fcodeOf}
 use Rattle.tokens.specs.Reader.{pieceOf}
 use Rattle.tokens.specs.declared.reader.Reader.{Reader}
 use Rattle.tokens.specs.declared.reader.Piece.{Piece}
@@ -83,7 +84,7 @@ module _ {M : Type 1} (𝓤 : URA M) (H : Heap 𝓤) (A : Atoms 𝓤) (W : Given
   v = sliceVal (d .rom .ptr) (length (d .rom .now))
 
   abbrev found : Piece
-  found = pieceOf (now (d .rom)) (d .wide) (d .place)
+  found = pieceOf (fcodeOf (now (d .rom))) (d .wide) (d .place)
 
   abbrev Post : Val → SProp 𝓤
   Post = walkOf 𝓤 H A next.ended stayed (next.clauses 𝓤 H A mem run) .post (((κ, tt), (q, tt), tt, (d, tt), (mach ∷ [], tt)), tt)

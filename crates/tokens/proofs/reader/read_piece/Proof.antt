@@ -42,6 +42,7 @@ use denote.Triple.Walked.{says, Stays, stay-none-slice, stay-none, walkOf, goes-
 use denote.Triple.Clauses.{ensured, lasts}
 use denote.Exit.{yes}
 use Rattle.rom.specs.Header.{wideOf}
+use Rattle.rom.specs.Spread.{fcodeOf}
 use Rattle.tokens.specs.Reader.{pieceOf}
 use Rattle.tokens.specs.declared.reader.Reader.{Reader}
 use Rattle.tokens.specs.declared.reader.Piece.{Piece}
@@ -91,7 +92,7 @@ module _ {M : Type 1} (𝓤 : URA M) (H : Heap 𝓤) (A : Atoms 𝓤) (W : Given
   v = sliceVal (s .ptr) (length (s .now))
 
   abbrev found : Piece
-  found = pieceOf (now s) t n
+  found = pieceOf (fcodeOf (now s)) t n
 
   -- a reader's lifetime as a body's local has it
   abbrev αᵉ : NamedLft
@@ -157,7 +158,7 @@ module _ {M : Type 1} (𝓤 : URA M) (H : Heap 𝓤) (A : Atoms 𝓤) (W : Given
       (1 ∷ 0 ∷ []) $ join ! $ frame ! $ done !
 
   abbrev Stands : Reader → Piece → Type 0
-  Stands r p = p ≡ pieceOf (now (r .rom)) (r .wide) (r .place)
+  Stands r p = p ≡ pieceOf (fcodeOf (now (r .rom))) (r .wide) (r .place)
 
   next-said : (r : Reader) (p : Piece) → ent 𝓤 (ensured 𝓤 H A next.ended (next.clauses 𝓤 H A mem run) (κ, tt) (r, tt) tt p)
       (fact 𝓤 (Stands r p))
@@ -166,8 +167,8 @@ module _ {M : Type 1} (𝓤 : URA M) (H : Heap 𝓤) (A : Atoms 𝓤) (W : Given
   -- the three answers together are the contract
   together : (r r′ : Reader) (p : Piece) → AtFirst r → There r r′ → Stands r′ p → p ≡ found
   together r r′ p first there stands = stands
-      ∙ (ap (λ (x : RefT (List ℕ)). pieceOf (now x) (r′ .wide) (r′ .place)) (there .0 ∙ first .0)
-      ∙ (ap (λ (w : Bool). pieceOf (now s) w (r′ .place)) (there .2) ∙ ap (pieceOf (now s) t) (there .1)))
+      ∙ (ap (λ (x : RefT (List ℕ)). pieceOf (fcodeOf (now x)) (r′ .wide) (r′ .place)) (there .0 ∙ first .0)
+      ∙ (ap (λ (w : Bool). pieceOf (fcodeOf (now s)) w (r′ .place)) (there .2) ∙ ap (pieceOf (fcodeOf (now s)) t) (there .1)))
 
   exits : (p : Piece) (u : Val) → p ≡ found
       → ent 𝓤 (⋆ 𝓤 H A (‵ (P.the-row .own p (u ∷ [])) ∷ (‵ (flft κ q) ⊛ ‵ ftrue) ∷ ‵ Own ∷ [])) (Post u)
