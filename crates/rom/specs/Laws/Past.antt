@@ -11,7 +11,7 @@ use lib.Seq.{length-take-le, ext-getD, getD-take, getD-drop}
 use borrow.Author.Tests.{le-ltb}
 use Rattle.cells.specs.Choice.{pick}
 use Rattle.rom.specs.Sizes.{romLeast, firstPlace}
-use Rattle.rom.specs.Bytes.{word16Of, word32Of}
+use Rattle.rom.specs.Bytes.{byteOf, word16Of, word32Of}
 use Rattle.rom.specs.Branch.{offsetOf, aimOf}
 use Rattle.rom.specs.Sum.{programOf, sumOf}
 use Rattle.rom.specs.Spread.{fcodeMost}
@@ -19,33 +19,47 @@ use Rattle.rom.specs.Header.{wideOf, lengthOf, headerOf}
 use Rattle.rom.specs.Laws.Header.{Header, header-facts}
 use Rattle.rom.specs.Alike.{SameBelow, AlikeTo, Alike}
 
-pub same-back : (size : ℕ) (rom other : List ℕ) → SameBelow size rom other → SameBelow size other rom
-same-back size rom other same k l = sym (same k l)
+-- the bytes from one place up to another are the same
+abbrev pub SameFrom : ℕ → ℕ → List ℕ → List ℕ → Type 0
+SameFrom from size rom other = (k : ℕ) → from ≤ k → k < size → byteOf rom k ≡ byteOf other k
 
-module _ (size : ℕ) (rom other : List ℕ) (same : SameBelow size rom other) where
-  pub same-word16 : (at : ℕ) → at + 2 ≤ size → word16Of rom at ≡ word16Of other at
-  same-word16 at l = rw (same at (omega arith), same (at + 1) (omega arith))
+pub same-back : (from size : ℕ) (rom other : List ℕ) → SameFrom from size rom other → SameFrom from size other rom
+same-back from size rom other same k h l = sym (same k h l)
 
-  pub same-word32 : (at : ℕ) → at + 4 ≤ size → word32Of rom at ≡ word32Of other at
-  same-word32 at l =
-      rw (same at (omega arith), same (at + 1) (omega arith), same (at + 2) (omega arith), same (at + 3) (omega arith))
+-- below a place all are
+pub same-all : (size : ℕ) (rom other : List ℕ) → SameBelow size rom other → SameFrom 0 size rom other
+same-all size rom other same k h l = same k l
 
-  pub same-offset : (wide : Bool) (at : ℕ) → at + pick wide 2 1 ≤ size → offsetOf rom wide at ≡ offsetOf other wide at
-  same-offset true at l = same-word16 at l
-  same-offset false at l = same at (omega arith)
+module _ (from size : ℕ) (rom other : List ℕ) (same : SameFrom from size rom other) where
+  pub same-word16 : (at : ℕ) → from ≤ at → at + 2 ≤ size → word16Of rom at ≡ word16Of other at
+  same-word16 at h l = rw (same at (omega arith) (omega arith), same (at + 1) (omega arith) (omega arith))
 
-  pub same-aim : (length : ℕ) (wide : Bool) (at : ℕ) → at + pick wide 2 1 ≤ size → aimOf rom length wide at ≡ aimOf other length wide at
+  pub same-word32 : (at : ℕ) → from ≤ at → at + 4 ≤ size → word32Of rom at ≡ word32Of other at
+  same-word32 at h l =
+      rw (
+        same at (omega arith) (omega arith),
+        same (at + 1) (omega arith) (omega arith),
+        same (at + 2) (omega arith) (omega arith),
+        same (at + 3) (omega arith) (omega arith),
+      )
+
+  pub same-offset : (wide : Bool) (at : ℕ) → from ≤ at → at + pick wide 2 1 ≤ size → offsetOf rom wide at ≡ offsetOf other wide at
+  same-offset true at h l = same-word16 at h l
+  same-offset false at h l = same at (omega arith) (omega arith)
+
+  pub same-aim : (length : ℕ) (wide : Bool) (at : ℕ) → from ≤ at → at + pick wide 2 1 ≤ size
+      → aimOf rom length wide at ≡ aimOf other length wide at
   unfolding aimOf
-  same-aim length wide at l = rw (same-offset wide at l)
+  same-aim length wide at h l = rw (same-offset wide at h l)
 
   module _ (here : size ≤ length rom) (there : size ≤ length other) where
     -- a part that ends before the place
-    pub same-part : (start count : ℕ) → start + count ≤ size → take count (drop start rom) ≡ take count (drop start other)
-    same-part start count l =
+    pub same-part : (start count : ℕ) → from ≤ start → start + count ≤ size → take count (drop start rom) ≡ take count (drop start other)
+    same-part start count f l =
         ext-getD 0 (take count (drop start rom)) (take count (drop start other)) (long rom (omega arith) ∙ sym (long other (omega arith)))
         (λ i h.
         let n = long rom (omega arith) in
-        at rom i (omega arith) ∙ same (start + i) (omega arith) ∙ sym (at other i (omega arith)))
+        at rom i (omega arith) ∙ same (start + i) (omega arith) (omega arith) ∙ sym (at other i (omega arith)))
       where
         long : (m : List ℕ) → start + count ≤ length m → length (take count (drop start m)) ≡ count
         long m h = rw (length-take count (drop start m), length-drop start m) (omega arith)
@@ -53,14 +67,14 @@ module _ (size : ℕ) (rom other : List ℕ) (same : SameBelow size rom other) w
         at : (m : List ℕ) (i : ℕ) → i < count → getD (take count (drop start m)) i 0 ≡ getD m (start + i) 0
         at m i h = getD-take count (drop start m) i 0 h ∙ getD-drop start m i 0
 
-    pub same-sum : sumOf rom size ≡ sumOf other size
+    pub same-sum : from ≤ firstPlace → sumOf rom size ≡ sumOf other size
     unfolding sumOf
-    same-sum = rw same-program
+    same-sum f = rw same-program
       where
         same-program : programOf rom size ≡ programOf other size
         same-program =
             elim (decLe firstPlace size) [
-              | yes l ↦ same-part firstPlace (size - firstPlace) (omega arith)
+              | yes l ↦ same-part firstPlace (size - firstPlace) f (omega arith)
               | no l ↦ let z : size - firstPlace ≡ 0 = omega arith in rw z
             ]
 
@@ -81,7 +95,7 @@ alike-below l a =
 
 module _ {rom other : List ℕ} (a : Alike rom other) where
   pub same-length : lengthOf rom ≡ lengthOf other
-  same-length = same-word32 romLeast rom other (a .header) 4 (omega arith)
+  same-length = same-word32 0 romLeast rom other (same-all romLeast rom other (a .header)) 4 (omega arith) (omega arith)
 
   pub same-wide : wideOf rom ≡ wideOf other
   same-wide = rw (a .header 0 (omega arith))
@@ -89,7 +103,7 @@ module _ {rom other : List ℕ} (a : Alike rom other) where
   pub alike-back : Alike other rom
   alike-back =
       record {
-        header = same-back romLeast rom other (a .header);
+        header = λ k l. sym (a .header k l);
         program = subst (λ n. AlikeTo n other rom) same-length (alike-to-back (a .program));
       }
 
@@ -106,11 +120,11 @@ module _ {rom other : List ℕ} (a : Alike rom other) where
         le-ltb (length other) romLeast (p .least .1),
         le-ltb (fcodeMost other) (length other) (p .most .1),
         le-ltb (length other) (lengthOf other) n,
-        same-sum (lengthOf rom) rom other (p .same) (p .within .0) (p .within .1),
+        same-sum 0 (lengthOf rom) rom other (same-all (lengthOf rom) rom other (p .same)) (p .within .0) (p .within .1) (omega arith),
         same-length,
         a .header 0 (omega arith),
         a .header 1 (omega arith),
-        same-word16 romLeast rom other (a .header) 2 (omega arith),
+        same-word16 0 romLeast rom other (same-all romLeast rom other (a .header)) 2 (omega arith) (omega arith),
       )
 
 -- ---- a ROM with a good header is one of which this speaks: it differs past its length alone from what is left of it without all that
