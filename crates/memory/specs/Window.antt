@@ -1,12 +1,15 @@
 -- The two windows of document 01: "ROM byte k has address 10000000+k up to the program length, work byte k 20000000+k. A range is good when
 -- it lies wholly in one window, its end included, so a zero length at a window's end is good. A string resolves to a part of the ROM or of
--- work memory, never a copy." Addresses are hexadecimal, and a range's end is counted without wrapping. Assumes nothing.
+-- work memory, never a copy." Addresses are hexadecimal, and a range's end is counted without wrapping. Request (vii) of document 02: "The
+-- ROM window is still numbered by FCode byte, so a string in a spread ROM can't be handed back as a part: such a string gives 22, a house
+-- rule, until (xii) is done." A ROM is its FCode bytes here. Assumes nothing.
 use Prim.Native.Nat.{ℕ, _+_, _-_, min}
 use mathlib.Core.Bool.{Bool, true, false, _&&_}
 use mathlib.Core.List.{List, []}
 use lib.ListN.{length, take, drop}
 use lib.Dec.{leb}
 use Rattle.cells.specs.Choice.{pick}
+use Rattle.rom.specs.Spread.{isSpread}
 use Rattle.memory.specs.declared.window.Window.{Window}
 use Rattle.memory.specs.declared.window.Window.the-variants.{Rom, Work, Nowhere}
 
@@ -47,6 +50,15 @@ rangeOf rom work size address count = windowOf (min size (length rom)) (length w
 -- refusal 22, "address range in no window"
 abbrev pub badRange : List ℕ → List ℕ → ℕ → ℕ → ℕ → Bool
 badRange rom work size address count = isNowhere (rangeOf rom work size address count)
+
+-- the same of a string: what lies in a spread ROM's window, an empty one too, may be fetched and is no part that could be handed back
+abbrev pub noPart : Bool → Window → Bool
+noPart spread (Rom k) = spread
+noPart spread (Work k) = false
+noPart spread Nowhere = true
+
+abbrev pub badString : List ℕ → List ℕ → ℕ → ℕ → ℕ → Bool
+badString rom work size address count = noPart (isSpread rom) (rangeOf rom work size address count)
 
 -- the bytes of a range, none where it lies in no window
 unfoldable pub resolveOf : List ℕ → List ℕ → ℕ → ℕ → ℕ → List ℕ

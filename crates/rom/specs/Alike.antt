@@ -16,6 +16,8 @@ SameBelow size rom other = (k : ℕ) → k < size → byteOf rom k ≡ byteOf ot
 -- the ROM as it is lent. What lies past the length may differ, and how much of it there is.
 pub record AlikeTo (size : ℕ) (rom other : List ℕ) : Type 0 where
   pub same : SameBelow size rom other
+  -- the first byte tells how far apart the others lie
+  pub start : byteOf rom 0 ≡ byteOf other 0
   pub least : (romLeast ≤ length rom) × (romLeast ≤ length other)
   pub most : (length rom ≤ fcodeMost rom) × (length other ≤ fcodeMost other)
   pub within : (size ≤ length rom) × (size ≤ length other)

@@ -1,6 +1,6 @@
 -- Opening: "Tests run in the order 6, 1, 2, 3, 4, 5. Opening then zeroes work memory and store and starts unfinished at place 8 with the
 -- start's offset width, stacks, frames and numbers empty and work place 0; node 0 is the root, node 1 its child and active; both have no
--- properties. Refused opening writes nothing and hands back an all-zero state." Assumes nothing.
+-- properties. Refused opening writes nothing and hands back an all-zero state." A ROM is its FCode bytes here. Assumes nothing.
 use Prim.Native.Nat.{ℕ}
 use mathlib.Core.Bool.{Bool, true, false}
 use mathlib.Core.List.{List}

@@ -19,7 +19,7 @@ use Rattle.tokens.specs.declared.decoding.Operand.the-variants.{Nothing, Litera
 use Rattle.tokens.specs.declared.decoding.Token.{Token}
 use Rattle.tokens.specs.declared.body.Body.{Body}
 use Rattle.tokens.specs.declared.body.Body.the-variants.{Ends, Stops}
-use Rattle.memory.specs.Window.{badRange, resolveOf}
+use Rattle.memory.specs.Window.{badRange, badString, resolveOf}
 use Rattle.memory.specs.Cells.{uneven, outsideWork}
 use Rattle.tree.specs.Property.{valueOf, badName, overfull, wouldHold}
 use Rattle.tree.specs.Node.{noRoom, outermost}
@@ -122,13 +122,17 @@ cellSize t = pick (isCell t) 4 1
 abbrev pub bad : Scene → ℕ → ℕ → Bool
 bad s address count = badRange (s .rom) (s .work) (s .state .length) address count
 
+-- of a string that a token resolves; one in a spread ROM gives 22 too
+abbrev pub badText : Scene → ℕ → ℕ → Bool
+badText s address count = badString (s .rom) (s .work) (s .state .length) address count
+
 abbrev pub noWindow : Scene → Token → Bool
 noWindow s t =
     asked fetch t (λ s t. bad s (cellOf s 0) (cellSize t)) s
     || asked store t (λ s t. outsideWork (s .work) (cellOf s 0) (cellSize t)) s
-    || asked encodeString t (λ s t. bad s (cellOf s 1) (cellOf s 0)) s
-    || asked property t (λ s t. bad s (cellOf s 1) (cellOf s 0) || bad s (cellOf s 3) (cellOf s 2)) s
-    || asked titled t (λ s t. bad s (cellOf s 1) (cellOf s 0)) s
+    || asked encodeString t (λ s t. badText s (cellOf s 1) (cellOf s 0)) s
+    || asked property t (λ s t. badText s (cellOf s 1) (cellOf s 0) || badText s (cellOf s 3) (cellOf s 2)) s
+    || asked titled t (λ s t. badText s (cellOf s 1) (cellOf s 0)) s
 
 -- ---- 23: "cell address not a multiple of 4"
 abbrev pub notAligned : Scene → Token → Bool

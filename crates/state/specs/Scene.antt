@@ -1,4 +1,4 @@
--- What a step has before it and what it leaves: the ROM, work memory, the store and the state. Assumes nothing.
+-- What a step has before it and what it leaves: the ROM's FCode bytes, work memory, the store and the state. Assumes nothing.
 use Prim.Native.Nat.{ℕ}
 use mathlib.Core.List.{List}
 use Rattle.state.specs.Stacks.{topOf}

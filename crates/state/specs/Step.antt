@@ -1,13 +1,15 @@
 -- A step: "In a step: 6, 1 (the ROM again), 7, 4 (the state's length against it), then 10, 18, 11, 12, 13, 14, 19, 16, 15, 17, 20, and 21
 -- to 27 by number. A refused step leaves state, work memory and store as before it. After the first four tests a finished state says
--- finished again and takes no step." Assumes nothing.
+-- finished again and takes no step." The ROM is its FCode bytes, whose first one tells the spread: 1 asks for both its parts, and 4 for the
+-- bytes that the length needs, as the header test does. Assumes nothing.
 use Prim.Native.Nat.{ℕ}
 use mathlib.Core.Bool.{Bool, true, false, not, _||_}
 use mathlib.Core.List.{List}
 use lib.ListN.{length}
-use lib.Dec.{ltb, eqb}
+use lib.Dec.{eqb}
 use Rattle.cells.specs.Choice.{pick}
-use Rattle.rom.specs.Sizes.{romLeast, romMost, workSize, storeSize}
+use Rattle.rom.specs.Sizes.{workSize, storeSize}
+use Rattle.rom.specs.Header.{wrongRom, wrongLength}
 use Rattle.tokens.specs.Place.{readOf}
 use Rattle.tokens.specs.declared.decoding.Token.{Token}
 use Rattle.tokens.specs.declared.read.Read.{Read}
@@ -23,14 +25,6 @@ use Rattle.state.specs.declared.answer.Answer.the-variants.{Going, Finis
 -- 6: "a lent buffer has the wrong size"
 abbrev pub wrongSize : List ℕ → List ℕ → Bool
 wrongSize work store = not (eqb (length work) workSize) || not (eqb (length store) storeSize)
-
--- 1: "ROM under 8 or over 16,384 bytes", 65,536 with request (vi) of document 02
-abbrev pub wrongRom : List ℕ → Bool
-wrongRom rom = ltb (length rom) romLeast || ltb romMost (length rom)
-
--- 4: "length below 9 or above the ROM lent"
-abbrev pub wrongLength : List ℕ → ℕ → Bool
-wrongLength rom size = ltb size 9 || ltb (length rom) size
 
 -- what is known before a token is looked at: refused, finished before, or going on to the token
 unfoldable pub readyOf : Scene → Answer

@@ -2,6 +2,7 @@
 ghost use mathlib.Core.Path.{_≡_};
 ghost use mathlib.Core.Bool.{false};
 ghost use Rattle.state.specs.Scene.{handedBack};
+ghost use Rattle.rom.specs.Spread.{fcodeOf};
 ghost use Rattle.state.specs.Open.{emptyState, zeroState, openOf};
 use crate::answer::Stepped;
 use crate::moves::going;
@@ -21,6 +22,7 @@ use rom::sizes::NUMBERS_MOST;
 use rom::sizes::RETURN_MOST;
 use rom::sizes::STORE_SIZE;
 use rom::sizes::WORK_SIZE;
+use rom::spread_of;
 use rom::wide_start;
 use tree::Tree;
 use tree::fresh_tree;
@@ -80,7 +82,7 @@ fn zero_state() -> State
 // opening writes nothing and hands back the all-zero state.
 pub fn open(rom: &[u8], work: &mut [u8], store: &mut [u8]) -> Stepped
     ensures { λ r. ⌜ handedBack r (now (work .exit)) (now (store .exit))
-        ≡ openOf (now (rom .entry)) (now (work .entry)) (now (store .entry)) ⌝ }
+        ≡ openOf (fcodeOf (now (rom .entry))) (now (work .entry)) (now (store .entry)) ⌝ }
 {
     if work.len() != WORK_SIZE {
         return refused(zero_state(), 6);
@@ -92,7 +94,8 @@ pub fn open(rom: &[u8], work: &mut [u8], store: &mut [u8]) -> Stepped
     if why != 0 {
         return refused(zero_state(), why);
     }
+    let length = program_length(rom, spread_of(rom));
     clear_from(work, 0);
     clear_from(store, 0);
-    going(empty_state(program_length(rom), START, wide_start(rom), 1, fresh_tree()))
+    going(empty_state(length, START, wide_start(rom), 1, fresh_tree()))
 }

@@ -14,6 +14,8 @@ use borrow.Author.Tests.{le-leb, lt-leb, leb-true}
 use Rattle.cells.specs.Choice.{pick}
 use Rattle.cells.specs.Laws.Tests.{pick-is}
 use Rattle.memory.specs.Window.{windowOf, romBase, workBase, lies, isNowhere, partOf, heldBy, rangeOf, badRange, resolveOf}
+use Rattle.memory.specs.Window.{noPart, badString}
+use Rattle.rom.specs.Spread.{isSpread}
 use Rattle.memory.specs.Writing.{writtenOf}
 use Rattle.memory.specs.declared.window.Window.{Window}
 use Rattle.memory.specs.declared.window.Window.the-variants.{Rom, Work, Nowhere}
@@ -181,6 +183,15 @@ module _ (rom work : List ℕ) (size address count : ℕ) where
       (λ p q e. length-part rom (address - romBase) count (omega arith))
       (λ p q e. length-part work (address - workBase) count (omega arith))
       (λ e. absurd (true≢false e))
+
+  -- a string that may be handed back lies in a window
+  pub string-range : badString rom work size address count ≡ false → badRange rom work size address count ≡ false
+  string-range e = told (rangeOf rom work size address count) e
+    where
+      told : (w : Window) → noPart (isSpread rom) w ≡ false → isNowhere w ≡ false
+      told (Rom k) e = refl
+      told (Work k) e = refl
+      told Nowhere e = e
 
   -- a range in no window has none
   pub none-resolved : badRange rom work size address count ≡ true → resolveOf rom work size address count ≡ []

@@ -10,9 +10,9 @@ use Rattle.cells.specs.Choice.{pick}
 use Rattle.cells.specs.Laws.Tests.{tests}
 use Rattle.cells.specs.Laws.Facts.{neither}
 use Rattle.rom.specs.Sizes.{romLeast, romMost}
-use Rattle.rom.specs.Spread.{fcodeMost}
-use Rattle.rom.specs.Header.{startOf, formatOf, lengthOf, wrongRom, wrongLength, headerOf}
-use Rattle.rom.specs.Laws.Spread.{most-most}
+use Rattle.rom.specs.Spread.{spreadOf, fcodeOf, fcodeMost}
+use Rattle.rom.specs.Header.{wideOf, startOf, formatOf, lengthOf, wrongRom, wrongLength, headerOf}
+use Rattle.rom.specs.Laws.Spread.{most-most, same-start}
 
 -- a refusal that was not given was not asked for
 unasked : (b : Bool) (why rest : ℕ) → (why ≡ 0 → ⊥) → pick b why rest ≡ 0 → T (not b) × (rest ≡ 0)
@@ -38,3 +38,7 @@ header-facts rom e =
     let f : length rom ≤ fcodeMost rom = omega (arith, tests) in
     let m = most-most rom in
     record { romFrom = omega (arith, tests); fits = f; romTo = omega arith; least = omega (arith, tests); most = omega (arith, tests) }
+
+-- the ROM as it is lent tells the first width too
+pub lent-wide : (rom : List ℕ) → wideOf rom ≡ wideOf (fcodeOf rom)
+lent-wide rom = rw (same-start (spreadOf rom) rom)

@@ -82,6 +82,7 @@ pub alike-to-back : {size : ℕ} {rom other : List ℕ} → AlikeTo size rom oth
 alike-to-back a =
     record {
       same = λ k l. sym (a .same k l);
+      start = sym (a .start);
       least = (a .least .1, a .least .0);
       most = (a .most .1, a .most .0);
       within = (a .within .1, a .within .0);
@@ -91,7 +92,7 @@ alike-to-back a =
 pub alike-below : {n size : ℕ} {rom other : List ℕ} → n ≤ size → AlikeTo size rom other → AlikeTo n rom other
 alike-below l a =
     let w = a .within in
-    record { same = λ k h. a .same k (omega arith); least = a .least; most = a .most; within = (omega arith, omega arith) }
+    record { same = λ k h. a .same k (omega arith); start = a .start; least = a .least; most = a .most; within = (omega arith, omega arith) }
 
 module _ {rom other : List ℕ} (a : Alike rom other) where
   pub same-length : lengthOf rom ≡ lengthOf other
@@ -138,6 +139,7 @@ cut-alike rom e =
       program =
           record {
             same = below;
+            start = below 0 (omega arith);
             least = (h .romFrom, omega arith);
             most = (h .fits, omega (arith, h .fits));
             within = (h .most, omega arith);

@@ -23,7 +23,8 @@ use Rattle.state.specs.Open.{openRefusal, openOf}
 use Rattle.state.specs.Numbers.{isBody, seekOf}
 use Rattle.state.specs.Refusals.{refusalOf}
 use Rattle.state.specs.Effects.{effects, nothing, defines, colons, values, variables, calls, actOf}
-use Rattle.state.specs.Step.{wrongSize, wrongRom, wrongLength, readyOf, doneOf, readTurn, tokenTurn}
+use Rattle.rom.specs.Header.{wrongRom, wrongLength}
+use Rattle.state.specs.Step.{wrongSize, readyOf, doneOf, readTurn, tokenTurn}
 use Rattle.state.specs.Run.{RunResult, ended, then, runOn, unless, runFrom, runOf}
 use Rattle.state.specs.Laws.Keeps.Tests.{_▸_, find-at}
 use Rattle.state.specs.declared.answer.Answer.{Answer}

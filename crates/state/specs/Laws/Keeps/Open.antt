@@ -64,6 +64,7 @@ fresh-ready rom work store w s e =
       work = w;
       store = s;
       romFrom = h .romFrom;
+      fits = h .fits;
       romTo = h .romTo;
       least = h .least;
       most = h .most;

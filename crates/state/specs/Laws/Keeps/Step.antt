@@ -152,6 +152,7 @@ module _ (s : Scene) (t : Token) (z : Sized (s .state)) (l : Lent s) (w : Parts 
         work = g;
         store = h;
         romFrom = l .romFrom;
+        fits = l .fits;
         romTo = l .romTo;
         least = rw e (l .least);
         most = rw e (l .most);

@@ -23,7 +23,10 @@ use Rattle.state.specs.Whole.{isPlace, heightsWhole, nextBase, frameWhol
 use Rattle.state.specs.Scene.{Scene, Turn}
 use Rattle.state.specs.Run.{then}
 use Rattle.state.specs.Laws.Sized.{Sized}
-use Rattle.state.specs.Step.{wrongSize, wrongRom, wrongLength, readyOf}
+use Rattle.rom.specs.Spread.{fcodeMost}
+use Rattle.rom.specs.Header.{wrongRom, wrongLength}
+use Rattle.rom.specs.Laws.Spread.{most-most}
+use Rattle.state.specs.Step.{wrongSize, readyOf}
 use Rattle.state.specs.declared.state.State.{State}
 use Rattle.state.specs.declared.state.Calls.{Calls}
 use Rattle.state.specs.declared.state.Numbers.{Numbers}
@@ -201,6 +204,7 @@ pub record Lent (s : Scene) : Type 0 where
   pub work : length (s .work) ≡ workSize
   pub store : length (s .store) ≡ storeSize
   pub romFrom : romLeast ≤ length (s .rom)
+  pub fits : length (s .rom) ≤ fcodeMost (s .rom)
   pub romTo : length (s .rom) ≤ romMost
   pub least : 9 ≤ s .state .length
   pub most : s .state .length ≤ length (s .rom)
@@ -226,13 +230,16 @@ ready-facts s e =
     let v = passed (wrongLength (s .rom) (s .state .length)) (Refused 4) _ (not-going 4) (r .1) in
     let w = passed (s .state .finished) Finished Going not-finished (v .1) in
     let (a, b) = neither (not (eqb (length (s .work)) workSize)) (not (eqb (length (s .store)) storeSize)) (p .0) in
-    let (c, d) = neither (ltb (length (s .rom)) romLeast) (ltb romMost (length (s .rom))) (q .0) in
-    let (f, g) = neither (ltb (s .state .length) 9) (ltb (length (s .rom)) (s .state .length)) (v .0) in (
+    let (c, d) = neither (ltb (length (s .rom)) romLeast) (ltb (fcodeMost (s .rom)) (length (s .rom))) (q .0) in
+    let (f, g) = neither (ltb (s .state .length) 9) (ltb (length (s .rom)) (s .state .length)) (v .0) in
+    let k : length (s .rom) ≤ fcodeMost (s .rom) = omega (arith, tests) in
+    let m = most-most (s .rom) in (
       record {
         work = not-unequal (length (s .work)) workSize a;
         store = not-unequal (length (s .store)) storeSize b;
         romFrom = omega (arith, tests);
-        romTo = omega (arith, tests);
+        fits = k;
+        romTo = omega arith;
         least = omega (arith, tests);
         most = omega (arith, tests);
         unfinished = is-false (s .state .finished) (w .0);
@@ -248,7 +255,7 @@ ready-is s l =
       eq-eqb (length (s .work)) workSize (l .work),
       eq-eqb (length (s .store)) storeSize (l .store),
       le-ltb (length (s .rom)) romLeast (l .romFrom),
-      le-ltb romMost (length (s .rom)) (l .romTo),
+      le-ltb (fcodeMost (s .rom)) (length (s .rom)) (l .fits),
       le-ltb (s .state .length) 9 (l .least),
       le-ltb (length (s .rom)) (s .state .length) (l .most),
     )
