@@ -22,7 +22,7 @@ use Rattle.state.specs.State.{baseOf}
 use Rattle.state.specs.Numbers.{seekOf, isHeld, isBody, kindsOf}
 use Rattle.state.specs.declared.state.Numbers.{Numbers}
 use Rattle.state.specs.Scene.{Scene, cellOf}
-use Rattle.state.specs.Refusals.{refusalOf, bad, rounded, titleOf, namedHere, valueHere, titledHere, noRoomFor}
+use Rattle.state.specs.Refusals.{refusalOf, bad, badText, rounded, titleOf, namedHere, valueHere, titledHere, noRoomFor}
 use Rattle.acts.specs.Joints.Acts.{ofCell}
 use Rattle.rom.specs.Sizes.{dataMost, framesMost, numbersMost, workSize}
 
@@ -99,17 +99,17 @@ module _ (s : Scene) (n : ℕ) (o : Operand) (next : ℕ) where
   string-low h = simp (lt-ltb height 2 h)
 
   module _ (h : height ≤ dataMost) (l : 2 ≤ height) where
-    pub string-bad : bad s (cellOf s 1) (cellOf s 0) ≡ true → refusalOf s (tokenOf n 0x1300_0022 o next) ≡ 22
+    pub string-bad : badText s (cellOf s 1) (cellOf s 0) ≡ true → refusalOf s (tokenOf n 0x1300_0022 o next) ≡ 22
     unfolding refusalOf
     string-bad e = simp (le-ltb height 2 l, le-ltb dataMost (height - 2 + 2) (omega arith), e)
 
-    pub string-full : bad s (cellOf s 1) (cellOf s 0) ≡ false → workSize < place + (cellOf s 0 + 1)
+    pub string-full : badText s (cellOf s 1) (cellOf s 0) ≡ false → workSize < place + (cellOf s 0 + 1)
         → refusalOf s (tokenOf n 0x1300_0022 o next) ≡ 24
     unfolding refusalOf
     string-full e f =
         simp (le-ltb height 2 l, le-ltb dataMost (height - 2 + 2) (omega arith), e, lt-ltb workSize (place + (cellOf s 0 + 1)) f)
 
-    pub string-good : bad s (cellOf s 1) (cellOf s 0) ≡ false → place + (cellOf s 0 + 1) ≤ workSize
+    pub string-good : badText s (cellOf s 1) (cellOf s 0) ≡ false → place + (cellOf s 0 + 1) ≤ workSize
         → refusalOf s (tokenOf n 0x1300_0022 o next) ≡ 0
     unfolding refusalOf
     string-good e f =
@@ -292,16 +292,16 @@ module _ (s : Scene) (n : ℕ) (o : Operand) (next : ℕ) where
   property-low h = simp (lt-ltb height 4 h)
 
   module _ (h : height ≤ dataMost) (l : 4 ≤ height) where
-    pub property-bad-name : bad s (cellOf s 1) (cellOf s 0) ≡ true → refusalOf s (tokenOf n 0x1500_0040 o next) ≡ 22
+    pub property-bad-name : badText s (cellOf s 1) (cellOf s 0) ≡ true → refusalOf s (tokenOf n 0x1500_0040 o next) ≡ 22
     unfolding refusalOf
     property-bad-name e = simp (le-ltb height 4 l, le-ltb dataMost (height - 4 + 0) (omega arith), e)
 
-    module _ (e : bad s (cellOf s 1) (cellOf s 0) ≡ false) where
-      pub property-bad-value : bad s (cellOf s 3) (cellOf s 2) ≡ true → refusalOf s (tokenOf n 0x1500_0040 o next) ≡ 22
+    module _ (e : badText s (cellOf s 1) (cellOf s 0) ≡ false) where
+      pub property-bad-value : badText s (cellOf s 3) (cellOf s 2) ≡ true → refusalOf s (tokenOf n 0x1500_0040 o next) ≡ 22
       unfolding refusalOf
       property-bad-value f = simp (le-ltb height 4 l, le-ltb dataMost (height - 4 + 0) (omega arith), e, f)
 
-      pub property-put : (b w : Bool) → bad s (cellOf s 3) (cellOf s 2) ≡ false → badName (namedHere s) ≡ b
+      pub property-put : (b w : Bool) → badText s (cellOf s 3) (cellOf s 2) ≡ false → badName (namedHere s) ≡ b
           → noRoomFor s (namedHere s) (valueHere s) ≡ w
           → refusalOf s (tokenOf n 0x1500_0040 o next) ≡ pick b 26 (pick w 27 0)
       unfolding refusalOf
@@ -315,11 +315,11 @@ module _ (s : Scene) (n : ℕ) (o : Operand) (next : ℕ) where
   title-low h = simp (lt-ltb height 2 h)
 
   module _ (h : height ≤ dataMost) (l : 2 ≤ height) where
-    pub title-bad : bad s (cellOf s 1) (cellOf s 0) ≡ true → refusalOf s (tokenOf n 0x1600_0020 o next) ≡ 22
+    pub title-bad : badText s (cellOf s 1) (cellOf s 0) ≡ true → refusalOf s (tokenOf n 0x1600_0020 o next) ≡ 22
     unfolding refusalOf
     title-bad e = simp (le-ltb height 2 l, le-ltb dataMost (height - 2 + 0) (omega arith), e)
 
-    pub title-put : (w : Bool) → bad s (cellOf s 1) (cellOf s 0) ≡ false → noRoomFor s (titleOf n) (titledHere s) ≡ w
+    pub title-put : (w : Bool) → badText s (cellOf s 1) (cellOf s 0) ≡ false → noRoomFor s (titleOf n) (titledHere s) ≡ w
         → refusalOf s (tokenOf n 0x1600_0020 o next) ≡ pick w 27 0
     unfolding refusalOf
     title-put true e i = simp (le-ltb height 2 l, le-ltb dataMost (height - 2 + 0) (omega arith), e, i)

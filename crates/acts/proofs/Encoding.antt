@@ -8,9 +8,9 @@ use borrow.Author.Tests.{eq-eqb, ne-eqb}
 use lib.ListN.{length, set, length-append}
 use Rattle.tokens.specs.Family.{encodeInt, encodeString, join}
 use Rattle.tokens.specs.Decode.{tokenOf}
-use Rattle.memory.specs.Window.{badRange, rangeOf, windowOf, partOf, resolveOf}
+use Rattle.memory.specs.Window.{badString, rangeOf, windowOf, partOf, resolveOf}
 use Rattle.memory.specs.Writing.{writtenOf, bytesOf}
-use Rattle.memory.specs.Laws.Memory.{written-append, written-more, written-none, length-resolved, range-rom, resolved-rom, resolved-work}
+use Rattle.memory.specs.Laws.Memory.{written-append, written-more, written-none, length-resolved, string-range, range-rom, resolved-rom, resolved-work}
 use Rattle.memory.specs.Laws.Memory.{resolved-none}
 use Rattle.memory.specs.declared.window.Window.{Window}
 use Rattle.memory.specs.declared.window.Window.the-variants.{Rom, Work, Nowhere}
@@ -114,14 +114,14 @@ module _ (rom work then : List ℕ) (size address count at : ℕ) (h : size ≤ 
 module _ (st : State) (next : ℕ) (h : st .stack .height ≤ dataMost) (l : 2 ≤ st .stack .height) (p q : Popped) (e : p ≡ popOf st)
     (f : q ≡ popOf (p .state))
     (rom work : List ℕ) where
-  pub string-bad-told : (r : Stepped) → badRange rom work (st .length) (q .cell) (p .cell) ≡ true → r ≡ stepped (Refused 22) st
+  pub string-bad-told : (r : Stepped) → badString rom work (st .length) (q .cell) (p .cell) ≡ true → r ≡ stepped (Refused 22) st
       → WritesFrom encodeString rom work work st next r
   string-bad-told r b w n o store =
       let c = two-pops st p q l e f in
       rw w (sym (stopped (scene rom work store st) (tokenOf n 0x1300_0022 o next) 22 refl
       (string-bad (scene rom work store st) n o next h l (rw (← c .0, ← c .1) b))))
 
-  module _ (b : badRange rom work (st .length) (q .cell) (p .cell) ≡ false) where
+  module _ (b : badString rom work (st .length) (q .cell) (p .cell) ≡ false) where
     pub string-full-told : (r : Stepped) → workSize < st .«work_place» + (p .cell + 1) → r ≡ stepped (Refused 24) st
         → WritesFrom encodeString rom work work st next r
     string-full-told r m w n o store =
@@ -138,8 +138,9 @@ module _ (st : State) (next : ℕ) (h : st .stack .height ≤ dataMost) (l : 2 �
       string-told then last r a d w n o store =
           let c = two-pops st p q l e f in
           let bytes = resolveOf rom work (st .length) (cellAt st 1) (cellAt st 0) in
-          let v : badRange rom work (st .length) (cellAt st 1) (cellAt st 0) ≡ false = rw (← c .0, ← c .1) b in
-          let g : length bytes ≡ cellAt st 0 = length-resolved rom work (st .length) (cellAt st 1) (cellAt st 0) v in
+          let v : badString rom work (st .length) (cellAt st 1) (cellAt st 0) ≡ false = rw (← c .0, ← c .1) b in
+          let g : length bytes ≡ cellAt st 0 = length-resolved rom work (st .length) (cellAt st 1) (cellAt st 0)
+          (string-range rom work (st .length) (cellAt st 1) (cellAt st 0) v) in
           let i : p .cell + 1 ≡ length (bytes ++ (0 ∷ [])) = sym (length-append bytes (0 ∷ []) ∙ ap (λ (k : ℕ). k + 1) (g ∙ sym (c .0))) in
           let x : then ≡ writtenOf work (st .«work_place») bytes = rw (← c .0, ← c .1) a in
           let j : last ≡ writtenOf work (st .«work_place») (bytes ++ (0 ∷ [])) =

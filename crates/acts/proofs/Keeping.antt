@@ -11,7 +11,7 @@ use Rattle.cells.specs.Choice.{pick}
 use Rattle.tokens.specs.Family.{finishDevice, newDevice}
 use Rattle.tokens.specs.Decode.{tokenOf}
 use Rattle.tokens.specs.declared.decoding.Token.{Token}
-use Rattle.memory.specs.Window.{badRange, resolveOf}
+use Rattle.memory.specs.Window.{badString, resolveOf}
 use Rattle.tree.specs.Whole.{parentOf, wholeTree}
 use Rattle.tree.specs.Property.{valueOf, badName, overfull, wouldHold, putRefusal, treePut, storePut, putOf, storeOf}
 use Rattle.tree.specs.Node.{Written, Activated, activated, noRoom, outermost, childOf, newDeviceOf, finishDeviceOf, writeRefused}
@@ -206,7 +206,7 @@ other-title n r = rw (ne-eqb n 0x201 (r .0 .1), ne-eqb n 0x119 (r .1))
 module _ (rom work store : List ℕ) (st : State) (next : ℕ) (h : st .stack .height ≤ dataMost) (l : 4 ≤ st .stack .height) (p q t u : Popped)
     (e : p ≡ popOf st) (f : q ≡ popOf (p .state)) (g : t ≡ popOf (q .state)) (i : u ≡ popOf (t .state)) where
   abbrev range : ℕ → ℕ → Bool
-  range address count = badRange rom work (st .length) address count
+  range address count = badString rom work (st .length) address count
 
   pub property-bad-name-told : (r : Stepped) → range (q .cell) (p .cell) ≡ true → r ≡ stepped (Refused 22) st
       → KeepsFrom rom work store store st next r
@@ -251,14 +251,14 @@ module _ (rom work store : List ℕ) (st : State) (next : ℕ) (h : st .stack .h
 -- ---- device-name, model, device-type
 module _ (rom work store : List ℕ) (st : State) (n next : ℕ) (h : st .stack .height ≤ dataMost) (l : 2 ≤ st .stack .height) (p q : Popped)
     (e : p ≡ popOf st) (f : q ≡ popOf (p .state)) where
-  pub title-bad-told : (r : Stepped) → badRange rom work (st .length) (q .cell) (p .cell) ≡ true → r ≡ stepped (Refused 22) st
+  pub title-bad-told : (r : Stepped) → badString rom work (st .length) (q .cell) (p .cell) ≡ true → r ≡ stepped (Refused 22) st
       → KeepsBy n rom work store store st next r
   title-bad-told r b w o =
       let c = two-pops st p q l e f in
       rw w (sym (stopped (scene rom work store st) (tokenOf n 0x1600_0020 o next) 22 refl
       (title-bad (scene rom work store st) n o next h l (rw (← c .0, ← c .1) b))))
 
-  pub title-told : (value then : List ℕ) (v : Written) (r : Stepped) → badRange rom work (st .length) (q .cell) (p .cell) ≡ false
+  pub title-told : (value then : List ℕ) (v : Written) (r : Stepped) → badString rom work (st .length) (q .cell) (p .cell) ≡ false
       → length store ≡ storeSize → wholeTree (st .tree) ≡ true → value ≡ resolveOf rom work (st .length) (q .cell) (p .cell)
       → v ≡ putOf (st .tree) store (st .active) (titleOf n) (valueOf value true)
       → then ≡ storeOf (st .tree) store (st .active) (titleOf n) (valueOf value true)

@@ -3,7 +3,7 @@ ghost use mathlib.Core.Path.{_≡_};
 ghost use Prim.Native.Nat.{_≤_, _+_};
 ghost use lib.ListN.{length};
 ghost use Rattle.tokens.specs.Family.{encodeInt, encodeString, join};
-ghost use Rattle.memory.specs.Window.{badRange, resolveOf};
+ghost use Rattle.memory.specs.Window.{badString, resolveOf};
 ghost use Rattle.memory.specs.Writing.{writtenOf};
 ghost use Rattle.state.specs.Joints.Apart.{onStack, Moves};
 ghost use Rattle.state.specs.Joints.Moves.{stepped};
@@ -18,6 +18,7 @@ use memory::copy_within;
 use memory::put;
 use memory::window_of;
 use memory::write_cell;
+use rom::is_spread;
 use rom::sizes::DATA_MOST;
 use rom::sizes::WORK_SIZE;
 use state::Core;
@@ -82,13 +83,13 @@ pub fn encode_int(work: &mut [u8], cells: &mut [u32; DATA_MOST], core: Core, nex
     encoded(cells, p.core, next, 4)
 }
 
-// Whether a range lies in no window, of a program that the ROM holds.
-pub fn bad_range(rom: &[u8], work: &[u8], size: u32, address: u32, count: u32) -> bool
+// Whether a string is no part of a program that the ROM holds or of work memory; one in a spread ROM is none.
+pub fn bad_string(rom: &[u8], work: &[u8], size: u32, address: u32, count: u32) -> bool
     requires { ⌜ size ≤ length (now rom) ⌝ }
-    ensures { λ r. ⌜ r ≡ badRange (now (rom .entry)) (now (work .entry)) size address count ⌝ }
+    ensures { λ r. ⌜ r ≡ badString (now (rom .entry)) (now (work .entry)) size address count ⌝ }
 {
     match window_of(size as usize, work.len(), address, count) {
-        Window::Rom(_) => false,
+        Window::Rom(_) => is_spread(rom),
         Window::Work(_) => false,
         Window::Nowhere => true,
     }
@@ -135,7 +136,7 @@ pub fn encode_string(
     let p = pop(&*cells, core);
     let q = pop(&*cells, p.core);
     let count = p.cell;
-    if bad_range(rom, &*work, core.length, q.cell, count) {
+    if bad_string(rom, &*work, core.length, q.cell, count) {
         return stop(core, 22);
     }
     let at = core.work_place;

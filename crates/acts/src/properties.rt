@@ -10,7 +10,7 @@ ghost use Rattle.acts.specs.Joints.Acts.{KeepsFrom, KeepsBy, Files, file
 ghost use Rattle.rom.specs.Sizes.{dataMost};
 use crate::acted::Acted;
 use crate::acted::refuse;
-use crate::encode::bad_range;
+use crate::encode::bad_string;
 use memory::resolve;
 use rom::sizes::DATA_MOST;
 use rom::sizes::PROPERTIES_MOST;
@@ -71,10 +71,10 @@ pub fn put_named<'a>(
     let q = pop(cells, p.core);
     let t = pop(cells, q.core);
     let u = pop(cells, t.core);
-    if bad_range(rom, work, core.length, q.cell, p.cell) {
+    if bad_string(rom, work, core.length, q.cell, p.cell) {
         return refuse(core, tail, 22);
     }
-    if bad_range(rom, work, core.length, u.cell, t.cell) {
+    if bad_string(rom, work, core.length, u.cell, t.cell) {
         return refuse(core, tail, 22);
     }
     let name = resolve(rom, work, core.length, q.cell, p.cell);
@@ -176,7 +176,7 @@ pub fn put_titled<'a>(
     }
     let p = pop(cells, core);
     let q = pop(cells, p.core);
-    if bad_range(rom, work, core.length, q.cell, p.cell) {
+    if bad_string(rom, work, core.length, q.cell, p.cell) {
         return refuse(core, tail, 22);
     }
     let value = resolve(rom, work, core.length, q.cell, p.cell);

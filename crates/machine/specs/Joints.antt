@@ -2,3 +2,5 @@
 
 -- How a run ends, of a state that is taken apart, and a step from a run of one token.
 pub mod Cruised
+-- The rooms that the FCode bytes of a spread ROM are laid into.
+pub mod Rooms

@@ -1,6 +1,9 @@
 // A step and a run. Both test the state, take it apart once, carry tokens out in place, and put it together once.
 ghost use mathlib.Core.Path.{_≡_};
 ghost use Prim.Native.Nat.{_≤_, _<_};
+ghost use lib.ListN.{length};
+ghost use Rattle.rom.specs.Header.{wrongRom, wrongLength};
+ghost use Rattle.rom.specs.Spread.{viewOf, fcodeOf};
 ghost use Rattle.state.specs.Scene.{scene, handedBack};
 ghost use Rattle.state.specs.Step.{readyOf, tokenTurn, stepOf};
 ghost use Rattle.state.specs.Run.{runOf, toldRan, ranOf};
@@ -8,10 +11,14 @@ ghost use Rattle.state.specs.Joints.Apart.{joined, arrays};
 ghost use Rattle.state.specs.Laws.Sized.{Sized};
 ghost use Rattle.acts.specs.Joints.Acts.{Ready};
 ghost use Rattle.machine.specs.Joints.Cruised.{cruisedBy, cruisedTo, oneOf};
+ghost use Rattle.machine.specs.Joints.Rooms.{smallRoom, largeRoom};
 use acts::cold_token;
 use acts::fill_tables;
 use reckon::Fared;
 use reckon::fast;
+use rom::Spread;
+use rom::fcode_count;
+use rom::lay_fcode;
 use rom::sizes::DATA_MOST;
 use rom::sizes::FRAMES_MOST;
 use rom::sizes::NODES_MOST;
@@ -22,6 +29,7 @@ use rom::sizes::ROM_LEAST;
 use rom::sizes::ROM_MOST;
 use rom::sizes::STORE_SIZE;
 use rom::sizes::WORK_SIZE;
+use rom::spread_of;
 use state::Answer;
 use state::Back;
 use state::Calls;
@@ -40,6 +48,11 @@ use tokens::programs::PROGRAMS_MOST;
 use tree::Tree;
 use tree::tail_of;
 
+// Rooms for the FCode bytes of a spread ROM: the larger one has as many as there can be.
+const SMALL_ROOM: usize = 4096;
+
+const LARGE_ROOM: usize = ROM_MOST / 2;
+
 // How a run ended, of a state that is taken apart.
 pub struct Cruised {
     pub answer: Answer,
@@ -47,9 +60,29 @@ pub struct Cruised {
     pub core: Core,
 }
 
+// Refusal 1 of a ROM as it is lent: it has fewer FCode bytes than a header, or more bytes than a ROM, gaps counted.
+fn wrong_rom(rom: &[u8]) -> bool
+    ensures { λ r. ⌜ r ≡ wrongRom (fcodeOf (now (rom .entry))) ⌝ }
+{
+    if fcode_count(rom, spread_of(rom)) < ROM_LEAST {
+        return true;
+    }
+    ROM_MOST < rom.len()
+}
+
+// Refusal 4 of a length: it is below 9, or its last FCode byte is not in the ROM.
+fn wrong_length(rom: &[u8], length: u32) -> bool
+    ensures { λ r. ⌜ r ≡ wrongLength (fcodeOf (now (rom .entry))) length ⌝ }
+{
+    if length < 9 {
+        return true;
+    }
+    fcode_count(rom, spread_of(rom)) < (length as usize)
+}
+
 // What is known before a token is looked at: 6, 1, 7, 4, or that the state is finished.
 fn ready(rom: &[u8], work: &[u8], store: &[u8], st: State) -> Answer
-    ensures { λ r. ⌜ r ≡ readyOf (scene (now (rom .entry)) (now (work .entry)) (now (store .entry)) st) ⌝ }
+    ensures { λ r. ⌜ r ≡ readyOf (scene (fcodeOf (now (rom .entry))) (now (work .entry)) (now (store .entry)) st) ⌝ }
 {
     if work.len() != WORK_SIZE {
         return Answer::Refused(6);
@@ -57,19 +90,13 @@ fn ready(rom: &[u8], work: &[u8], store: &[u8], st: State) -> Answer
     if store.len() != STORE_SIZE {
         return Answer::Refused(6);
     }
-    if rom.len() < ROM_LEAST {
-        return Answer::Refused(1);
-    }
-    if ROM_MOST < rom.len() {
+    if wrong_rom(rom) {
         return Answer::Refused(1);
     }
     if !is_whole(st) {
         return Answer::Refused(7);
     }
-    if st.length < 9 {
-        return Answer::Refused(4);
-    }
-    if rom.len() < (st.length as usize) {
+    if wrong_length(rom, st.length) {
         return Answer::Refused(4);
     }
     if st.finished {
@@ -89,7 +116,7 @@ fn halted(answer: Answer, count: u32, core: Core) -> Cruised
     }
 }
 
-// The tokens of a state that is ready and taken apart, until one finishes or is refused or the budget is spent. It is lent every array of
+// The tokens of a state that is ready and taken apart, over FCode bytes that lie one behind the other, until one finishes or is refused or the budget is spent. It is lent every array of
 // the state, and so has one parameter for each, in the state's order. The state is not tested again, but for one thing: a finish-device can
 // make the root active where a state was offered whose node 2 or above is a child of the root, and that is 7.
 fn cruise(
@@ -278,6 +305,91 @@ fn tokens(rom: &[u8], work: &mut [u8], store: &mut [u8], st: State, budget: u32)
     ended(answer, r.count, state)
 }
 
+// The same of a spread ROM: its FCode bytes are laid into a room first, as many as the state's length says, so that the loop over tokens
+// reads every ROM alike.
+fn tokens_laid(
+    rom: &[u8],
+    spread: Spread,
+    room: &mut [u8],
+    work: &mut [u8],
+    store: &mut [u8],
+    st: State,
+    budget: u32,
+) -> Ran
+    requires { ⌜ Ready (viewOf spread (now rom)) (now work) (now store) st × Sized st × (st .length ≤ length (now room)) ⌝ }
+    ensures { λ r. ⌜ toldRan r (now (work .exit)) (now (store .exit)) ≡ runOf budget
+        (scene (viewOf spread (now (rom .entry))) (now (work .entry)) (now (store .entry)) st) ⌝ }
+{
+    let n = st.length as usize;
+    lay_fcode(rom, spread, &mut room[..n]);
+    tokens(&room[..n], work, store, st, budget)
+}
+
+// A room is cleared at each call, so that a small program has a small one.
+fn tokens_small(
+    rom: &[u8],
+    spread: Spread,
+    work: &mut [u8],
+    store: &mut [u8],
+    st: State,
+    budget: u32,
+) -> Ran
+    requires { ⌜ Ready (viewOf spread (now rom)) (now work) (now store) st × Sized st × (st .length ≤ smallRoom) ⌝ }
+    ensures { λ r. ⌜ toldRan r (now (work .exit)) (now (store .exit)) ≡ runOf budget
+        (scene (viewOf spread (now (rom .entry))) (now (work .entry)) (now (store .entry)) st) ⌝ }
+{
+    let mut room = [0u8; SMALL_ROOM];
+    tokens_laid(rom, spread, &mut room, work, store, st, budget)
+}
+
+fn tokens_large(
+    rom: &[u8],
+    spread: Spread,
+    work: &mut [u8],
+    store: &mut [u8],
+    st: State,
+    budget: u32,
+) -> Ran
+    requires { ⌜ Ready (viewOf spread (now rom)) (now work) (now store) st × Sized st × (st .length ≤ largeRoom) ⌝ }
+    ensures { λ r. ⌜ toldRan r (now (work .exit)) (now (store .exit)) ≡ runOf budget
+        (scene (viewOf spread (now (rom .entry))) (now (work .entry)) (now (store .entry)) st) ⌝ }
+{
+    let mut room = [0u8; LARGE_ROOM];
+    tokens_laid(rom, spread, &mut room, work, store, st, budget)
+}
+
+fn tokens_spread(
+    rom: &[u8],
+    spread: Spread,
+    work: &mut [u8],
+    store: &mut [u8],
+    st: State,
+    budget: u32,
+) -> Ran
+    requires { ⌜ Ready (viewOf spread (now rom)) (now work) (now store) st × Sized st × (st .length ≤ largeRoom) ⌝ }
+    ensures { λ r. ⌜ toldRan r (now (work .exit)) (now (store .exit)) ≡ runOf budget
+        (scene (viewOf spread (now (rom .entry))) (now (work .entry)) (now (store .entry)) st) ⌝ }
+{
+    if (st.length as usize) <= SMALL_ROOM {
+        return tokens_small(rom, spread, work, store, st, budget);
+    }
+    tokens_large(rom, spread, work, store, st, budget)
+}
+
+// The tokens of a state that is ready, of a ROM as it is lent.
+fn tokens_lent(rom: &[u8], work: &mut [u8], store: &mut [u8], st: State, budget: u32) -> Ran
+    requires { ⌜ Ready (fcodeOf (now rom)) (now work) (now store) st × Sized st ⌝ }
+    ensures { λ r. ⌜ toldRan r (now (work .exit)) (now (store .exit)) ≡ runOf budget
+        (scene (fcodeOf (now (rom .entry))) (now (work .entry)) (now (store .entry)) st) ⌝ }
+{
+    let spread = spread_of(rom);
+    match spread {
+        Spread::One => tokens(rom, work, store, st, budget),
+        Spread::Two => tokens_spread(rom, spread, work, store, st, budget),
+        Spread::Four => tokens_spread(rom, spread, work, store, st, budget),
+    }
+}
+
 // A step from a run of one token: a token that was carried out goes on or finishes, whatever the run met behind it.
 fn one(ran: Ran) -> Stepped
     ensures { λ r. ⌜ r ≡ oneOf ran ⌝ }
@@ -303,17 +415,17 @@ fn one(ran: Ran) -> Stepped
 
 // The token of a state that is ready.
 fn token(rom: &[u8], work: &mut [u8], store: &mut [u8], st: State) -> Stepped
-    requires { ⌜ Ready (now rom) (now work) (now store) st × Sized st ⌝ }
+    requires { ⌜ Ready (fcodeOf (now rom)) (now work) (now store) st × Sized st ⌝ }
     ensures { λ r. ⌜ handedBack r (now (work .exit)) (now (store .exit)) ≡ tokenTurn
-        (scene (now (rom .entry)) (now (work .entry)) (now (store .entry)) st) ⌝ }
+        (scene (fcodeOf (now (rom .entry))) (now (work .entry)) (now (store .entry)) st) ⌝ }
 {
-    one(tokens(rom, work, store, st, 1))
+    one(tokens_lent(rom, work, store, st, 1))
 }
 
 // One token, or why it is refused; a finished state says so again. A refused step leaves the state, work memory and store as they were.
 pub fn step(rom: &[u8], work: &mut [u8], store: &mut [u8], st: State) -> Stepped
     ensures { λ r. ⌜ handedBack r (now (work .exit)) (now (store .exit)) ≡ stepOf
-        (scene (now (rom .entry)) (now (work .entry)) (now (store .entry)) st) ⌝ }
+        (scene (fcodeOf (now (rom .entry))) (now (work .entry)) (now (store .entry)) st) ⌝ }
 {
     match ready(rom, &*work, &*store, st) {
         Answer::Going => token(rom, work, store, st),
@@ -343,10 +455,10 @@ fn ended(answer: Answer, count: u32, state: State) -> Ran
 // The count is that of the tokens carried out.
 pub fn run(rom: &[u8], work: &mut [u8], store: &mut [u8], st: State, budget: u32) -> Ran
     ensures { λ r. ⌜ toldRan r (now (work .exit)) (now (store .exit)) ≡ runOf budget
-        (scene (now (rom .entry)) (now (work .entry)) (now (store .entry)) st) ⌝ }
+        (scene (fcodeOf (now (rom .entry))) (now (work .entry)) (now (store .entry)) st) ⌝ }
 {
     match ready(rom, &*work, &*store, st) {
-        Answer::Going => tokens(rom, work, store, st, budget),
+        Answer::Going => tokens_lent(rom, work, store, st, budget),
         Answer::Finished => ended(Answer::Finished, 0, st),
         Answer::Refused(why) => ended(Answer::Refused(why), 0, st),
         Answer::Spent(n) => ended(Answer::Spent(n), 0, st),

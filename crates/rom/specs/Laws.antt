@@ -8,7 +8,11 @@ pub mod Branch
 pub mod Header
 -- The header test at work on bench ROMs of document 01: antt computes each.
 pub mod Examples
+-- The header test of the ROM as it is lent, as document 02 has it.
+pub mod Lent
 -- The header of two ROMs that are the same up to the length.
 pub mod Past
+-- The same FCode bytes behind start1.
+pub mod Unspread
 -- What the enums of this crate say is what the definitions compute.
 pub mod Numbered

@@ -5,6 +5,7 @@ use Prim.Native.Nat.{ℕ, _/_}
 use mathlib.Core.Bool.{Bool, _||_}
 use mathlib.Core.List.{List, [], _∷_}
 use lib.Dec.{eqb}
+use lib.ListN.{drop}
 use Rattle.cells.specs.Choice.{pick}
 use Rattle.rom.specs.Sizes.{romMost}
 use Rattle.rom.specs.Bytes.{byteOf}
@@ -39,6 +40,10 @@ viewOf Four rom = secondsOf (secondsOf rom)
 -- the FCode bytes of a ROM
 abbrev pub fcodeOf : List ℕ → List ℕ
 fcodeOf rom = viewOf (spreadOf rom) rom
+
+-- the same FCode bytes behind start1, which are a ROM that is not spread
+abbrev pub unspreadOf : List ℕ → List ℕ
+unspreadOf fcode = 0xF1 ∷ drop 1 fcode
 
 -- how many FCode bytes a ROM of the largest size has, by its start: gaps count among the ROM's 65,536 bytes
 abbrev pub fcodeMost : List ℕ → ℕ

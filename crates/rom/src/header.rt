@@ -1,7 +1,7 @@
 ghost use mathlib.Core.Path.{_≡_};
 ghost use mathlib.Core.Bool.{not};
 ghost use lib.Dec.{eqb};
-ghost use Rattle.rom.specs.Header.{wideOf, startOf, lengthOf, headerOf};
+ghost use Rattle.rom.specs.Header.{wideOf, startOf, lengthOf, wrongRom, wrongLength, headerOf};
 ghost use Rattle.rom.specs.Spread.{viewOf, fcodeOf};
 use crate::bytes::byte;
 use crate::bytes::word16;
@@ -49,31 +49,44 @@ fn differs(sum: u16, field: u16) -> bool
     sum != field
 }
 
-// The header test of a ROM as it is lent: 0, or the first of the refusals 1 to 5 whose condition holds. A ROM under 8 bytes has fewer than
-// 8 FCode bytes, and so has one that is too short for its spread header; only a start that 2 knows is spread, so that neither part of 1 can
-// come before a 2 that should.
+// Refusal 1 of a ROM as it is lent: it has fewer FCode bytes than a header, or more bytes than a ROM, gaps counted. One under 8 bytes has
+// fewer than 8 FCode bytes too.
+pub fn wrong_rom(rom: &[u8]) -> bool
+    ensures { λ r. ⌜ r ≡ wrongRom (fcodeOf (now (rom .entry))) ⌝ }
+{
+    if fcode_count(rom, spread_of(rom)) < ROM_LEAST {
+        return true;
+    }
+    ROM_MOST < rom.len()
+}
+
+// Refusal 4 of a length: it is below 9, or its last FCode byte is not in the ROM.
+pub fn wrong_length(rom: &[u8], length: u32) -> bool
+    ensures { λ r. ⌜ r ≡ wrongLength (fcodeOf (now (rom .entry))) length ⌝ }
+{
+    if length < 9 {
+        return true;
+    }
+    fcode_count(rom, spread_of(rom)) < (length as usize)
+}
+
+// The header test of a ROM as it is lent: 0, or the first of the refusals 1 to 5 whose condition holds. Only a start that 2 knows is spread,
+// so that neither part of 1 can come before a 2 that should.
 pub fn check_header(rom: &[u8]) -> u32
     ensures { λ r. ⌜ r ≡ headerOf (fcodeOf (now (rom .entry))) ⌝ }
 {
-    let spread = spread_of(rom);
-    let count = fcode_count(rom, spread);
-    if count < ROM_LEAST {
-        return 1;
-    }
-    if ROM_MOST < rom.len() {
+    if wrong_rom(rom) {
         return 1;
     }
     if !known_start(rom) {
         return 2;
     }
+    let spread = spread_of(rom);
     if fcode_byte(rom, spread, 1) != 0x08 {
         return 3;
     }
     let length = program_length(rom, spread);
-    if length < 9 {
-        return 4;
-    }
-    if count < (length as usize) {
+    if wrong_length(rom, length) {
         return 4;
     }
     if differs(body_sum(rom, spread, length), word16(rom, spread, 2)) {

@@ -17,6 +17,8 @@ pub use bytes::word32;
 pub use header::check_header;
 pub use header::program_length;
 pub use header::wide_start;
+pub use header::wrong_length;
+pub use header::wrong_rom;
 pub use spread::Spread;
 pub use spread::fcode_byte;
 pub use spread::fcode_count;

@@ -23,5 +23,7 @@ pub mod Name
 pub mod Examples
 -- "Bytes past the length are ignored": a token is read alike from two ROMs whose bytes are the same below the length.
 pub mod Past
+-- The same FCode bytes behind start1 have the same tokens.
+pub mod Unspread
 -- What the enums of this crate say is what the definitions compute.
 pub mod Numbered

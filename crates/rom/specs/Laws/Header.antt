@@ -39,6 +39,9 @@ header-facts rom e =
     let m = most-most rom in
     record { romFrom = omega (arith, tests); fits = f; romTo = omega arith; least = omega (arith, tests); most = omega (arith, tests) }
 
--- the ROM as it is lent tells the first width too
+-- the ROM as it is lent tells start and first width too
+pub lent-start : (rom : List ℕ) → startOf rom ≡ startOf (fcodeOf rom)
+lent-start rom = rw (same-start (spreadOf rom) rom)
+
 pub lent-wide : (rom : List ℕ) → wideOf rom ≡ wideOf (fcodeOf rom)
 lent-wide rom = rw (same-start (spreadOf rom) rom)

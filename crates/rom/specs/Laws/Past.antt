@@ -128,23 +128,25 @@ module _ {rom other : List ℕ} (a : Alike rom other) where
         same-word16 0 romLeast rom other (same-all romLeast rom other (a .header)) 2 (omega arith) (omega arith),
       )
 
--- ---- a ROM with a good header is one of which this speaks: it differs past its length alone from what is left of it without all that
+-- ---- what is left of a ROM without the bytes past a place, and past its length where it has a good header
+pub cut-to : (size : ℕ) (rom : List ℕ) → romLeast ≤ size → size ≤ length rom → length rom ≤ fcodeMost rom
+    → AlikeTo size rom (take size rom)
+cut-to size rom h l f =
+    let n : length (take size rom) ≡ size = length-take-le size rom l in
+    let m : fcodeMost (take size rom) ≡ fcodeMost rom = rw (← below 0 (omega arith)) in
+    record {
+      same = below;
+      start = below 0 (omega arith);
+      least = (omega arith, omega arith);
+      most = (f, omega arith);
+      within = (l, omega arith);
+    }
+  where
+    below : SameBelow size rom (take size rom)
+    below k l = sym (getD-take size rom k 0 l)
+
 pub cut-alike : (rom : List ℕ) → headerOf rom ≡ 0 → Alike rom (take (lengthOf rom) rom)
 cut-alike rom e =
     let h : Header rom = header-facts rom e in
-    let n : length (take (lengthOf rom) rom) ≡ lengthOf rom = length-take-le (lengthOf rom) rom (h .most) in
-    let m : fcodeMost (take (lengthOf rom) rom) ≡ fcodeMost rom = rw (← below 0 (omega arith)) in
-    record {
-      header = λ k l. below k (omega arith);
-      program =
-          record {
-            same = below;
-            start = below 0 (omega arith);
-            least = (h .romFrom, omega arith);
-            most = (h .fits, omega (arith, h .fits));
-            within = (h .most, omega arith);
-          };
-    }
-  where
-    below : SameBelow (lengthOf rom) rom (take (lengthOf rom) rom)
-    below k l = sym (getD-take (lengthOf rom) rom k 0 l)
+    let p = cut-to (lengthOf rom) rom (omega arith) (h .most) (h .fits) in
+    record { header = λ k l. p .same k (omega arith); program = p }

@@ -1,6 +1,9 @@
 -- "FCode byte k sits at ROM byte k times the spread", and how many FCode bytes a ROM has. Assumes nothing.
 use Prim.Native.Nat.{ℕ, zero, suc, _+_, _-_, _*_, _/_, _≤_, _<_}
 use native.Mathlib.Omega.{arith}
+use native.Mathlib.Decide.{decLe}
+use borrow.Author.Tests.{lt-ltb, le-ltb}
+use lib.Dec.{ltb}
 use mathlib.Core.Path.{_≡_, refl, sym, ap, _∙_, subst}
 use mathlib.Core.List.{List, [], _∷_}
 use lib.ListN.{length, take, getD}
@@ -89,6 +92,25 @@ fcode-most rom h = rw (same-spread (spreadOf rom) rom) (most-at (spreadOf rom) r
 
 pub fcode-over : (rom : List ℕ) → romMost < length rom → fcodeMost (fcodeOf rom) < length (fcodeOf rom)
 fcode-over rom h = rw (same-spread (spreadOf rom) rom) (over-at (spreadOf rom) rom h)
+
+-- so that either may be asked
+pub over-told : (rom : List ℕ) → ltb romMost (length rom) ≡ ltb (fcodeMost (fcodeOf rom)) (length (fcodeOf rom))
+over-told rom =
+    elim (decLe (length rom) romMost) [
+      | yes h ↦ le-ltb romMost (length rom) h ∙ sym (le-ltb (fcodeMost (fcodeOf rom)) (length (fcodeOf rom)) (fcode-most rom h))
+      | no h ↦
+          let l : romMost < length rom = omega arith in
+          lt-ltb romMost (length rom) l ∙ sym (lt-ltb (fcodeMost (fcodeOf rom)) (length (fcodeOf rom)) (fcode-over rom l))
+    ]
+
+-- a spread ROM has half as many at most
+pub half-most : (s : Spread) (rom : List ℕ) → (s ≡ One → ⊥) → s ≡ spreadOf rom → fcodeMost (viewOf s rom) ≤ romMost / 2
+half-most s rom n e = rw (same-spread s rom, ← e) (halved s n)
+  where
+    halved : (s : Spread) → (s ≡ One → ⊥) → romMost / distanceOf s ≤ romMost / 2
+    halved One n = absurd (n refl)
+    halved Two n = omega arith
+    halved Four n = omega arith
 
 -- and no ROM has more FCode bytes than the largest that is not spread
 most-of : (s : Spread) → romMost / distanceOf s ≤ romMost

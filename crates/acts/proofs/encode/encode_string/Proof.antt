@@ -21,7 +21,7 @@ encode-string-spec =
     (λ c κs. search needs)
     (λ c. search needs)
     (λ c.
-    let bad-range = c .before .before .bad-range in
+    let bad-string = c .before .before .bad-string in
     let pop2 = c .before .before .before .before .pop2 in
     let pop = c .before .before .before .before .before .before .pop in
     let if1 = c .before .before .before .before .before .before .before .before .if1 in
@@ -30,7 +30,7 @@ encode-string-spec =
     let pre = c₁ .pre in
     λ a. string-bad-told (joined (onStack (now (args .cells)) a) (args .core)) (args .next) (pre .0) (if1 .left)
     (takenOn (onStack (now (args .cells)) a) (pop .result)) (takenOn (onStack (now (args .cells)) a) (pop2 .result)) (pop .ensures a)
-    (pop2 .ensures a) (now (args .rom)) (now (args .work)) _ (sym (bad-range .ensures) ∙ c .before .if2 .taken)
+    (pop2 .ensures a) (now (args .rom)) (now (args .work)) _ (sym (bad-string .ensures) ∙ c .before .if2 .taken)
     (back (onStack (now (args .cells)) a) _ _ _ (c .stop2 .ensures)))
     (λ c. search needs)
     (λ c. search needs)
@@ -40,7 +40,7 @@ encode-string-spec =
     (λ c. search needs)
     (λ c.
     let if2 = c .before .before .if2 in
-    let bad-range = c .before .before .before .bad-range in
+    let bad-string = c .before .before .before .bad-string in
     let pop2 = c .before .before .before .before .before .pop2 in
     let pop = c .before .before .before .before .before .before .before .pop in
     let if1 = c .before .before .before .before .before .before .before .before .before .if1 in
@@ -50,7 +50,7 @@ encode-string-spec =
     let pre = c₂ .pre in
     λ a. string-full-told (joined (onStack (now (args .cells)) a) (args .core)) (args .next) (pre .0) (if1 .left)
     (takenOn (onStack (now (args .cells)) a) (pop .result)) (takenOn (onStack (now (args .cells)) a) (pop2 .result)) (pop .ensures a)
-    (pop2 .ensures a) (now (args .rom)) (now (args .work)) (sym (bad-range .ensures) ∙ if2 .left) _ (c .before .if3 .taken)
+    (pop2 .ensures a) (now (args .rom)) (now (args .work)) (sym (bad-string .ensures) ∙ if2 .left) _ (c .before .if3 .taken)
     (back (onStack (now (args .cells)) a) _ _ _ (c .stop3 .ensures)))
     (λ c κs. search needs)
     (λ c. search needs)
@@ -61,7 +61,7 @@ encode-string-spec =
     (λ c κs.
     let if3 = c .before .before .before .before .before .before .before .before .before .if3 in
     let if2 = c .before .before .before .before .before .before .before .before .before .before .if2 in
-    let bad-range = c .before .before .before .before .before .before .before .before .before .before .before .bad-range in
+    let bad-string = c .before .before .before .before .before .before .before .before .before .before .before .bad-string in
     let c₁ = c .before .before .before .before .before .before .before .before .before .before .before .before in
     let pop2 = c₁ .before .pop2 in
     let pop = c₁ .before .before .before .pop in
@@ -71,14 +71,14 @@ encode-string-spec =
     let pre = c₂ .pre in
     let a = noArrays in string-room (joined (onStack (now (args .cells)) a) (args .core)) (args .next) (pre .0) (if1 .left)
     (takenOn (onStack (now (args .cells)) a) (pop .result)) (takenOn (onStack (now (args .cells)) a) (pop2 .result)) (pop .ensures a)
-    (pop2 .ensures a) (now (args .rom)) (now (args .work)) (sym (bad-range .ensures) ∙ if2 .left) (if3 .left))
+    (pop2 .ensures a) (now (args .rom)) (now (args .work)) (sym (bad-string .ensures) ∙ if2 .left) (if3 .left))
     (λ c. search needs)
     (λ c.
     let put = c .before .before .before .before .put in
     let lay-string = c .before .before .before .before .before .before .before .before .lay-string in
     let if3 = c .before .before .before .before .before .before .before .before .before .before .if3 in
     let if2 = c .before .before .before .before .before .before .before .before .before .before .before .if2 in
-    let bad-range = c .before .before .before .before .before .before .before .before .before .before .before .before .bad-range in
+    let bad-string = c .before .before .before .before .before .before .before .before .before .before .before .before .bad-string in
     let c₁ = c .before .before .before .before .before .before .before .before .before .before .before .before in
     let pop2 = c₁ .before .before .pop2 in
     let pop = c₁ .before .before .before .before .pop in
@@ -88,5 +88,5 @@ encode-string-spec =
     let pre = c₂ .pre in
     λ a. string-told (joined (onStack (now (args .cells)) a) (args .core)) (args .next) (pre .0) (if1 .left)
     (takenOn (onStack (now (args .cells)) a) (pop .result)) (takenOn (onStack (now (args .cells)) a) (pop2 .result)) (pop .ensures a)
-    (pop2 .ensures a) (now (args .rom)) (now (args .work)) (sym (bad-range .ensures) ∙ if2 .left) (if3 .left) _ _ _
+    (pop2 .ensures a) (now (args .rom)) (now (args .work)) (sym (bad-string .ensures) ∙ if2 .left) (if3 .left) _ _ _
     (lay-string .ensures) (put .ensures) (c .encoded .ensures a)))

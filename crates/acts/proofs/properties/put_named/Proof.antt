@@ -24,7 +24,7 @@ put-named-spec =
     (λ c κs. search needs)
     (λ c κs. search needs)
     (λ c.
-    let bad-range = c .before .before .bad-range in
+    let bad-string = c .before .before .bad-string in
     let pop4 = c .before .before .before .pop4 in
     let pop3 = c .before .before .before .before .pop3 in
     let pop2 = c .before .before .before .before .before .pop2 in
@@ -44,16 +44,16 @@ put-named-spec =
           (pop2 .ensures (onFiles (now (args .cells)) (now (args .owners)) (now (args .titles)) (now (args .sizes)) a))
           (pop3 .ensures (onFiles (now (args .cells)) (now (args .owners)) (now (args .titles)) (now (args .sizes)) a))
           (pop4 .ensures (onFiles (now (args .cells)) (now (args .owners)) (now (args .titles)) (now (args .sizes)) a)) _
-          (sym (bad-range .ensures) ∙ c .before .if2 .taken) refl,
+          (sym (bad-string .ensures) ∙ c .before .if2 .taken) refl,
       pre .2,
       refl,
     ))
     (λ c κs. search needs)
     (λ c κs. search needs)
     (λ c.
-    let bad-range2 = c .before .before .bad-range2 in
+    let bad-string2 = c .before .before .bad-string2 in
     let if2 = c .before .before .before .if2 in
-    let bad-range = c .before .before .before .before .bad-range in
+    let bad-string = c .before .before .before .before .bad-string in
     let pop4 = c .before .before .before .before .before .pop4 in
     let pop3 = c .before .before .before .before .before .before .pop3 in
     let pop2 = c .before .before .before .before .before .before .before .pop2 in
@@ -74,7 +74,7 @@ put-named-spec =
           (pop2 .ensures (onFiles (now (args .cells)) (now (args .owners)) (now (args .titles)) (now (args .sizes)) a))
           (pop3 .ensures (onFiles (now (args .cells)) (now (args .owners)) (now (args .titles)) (now (args .sizes)) a))
           (pop4 .ensures (onFiles (now (args .cells)) (now (args .owners)) (now (args .titles)) (now (args .sizes)) a))
-          (sym (bad-range .ensures) ∙ if2 .left) _ (sym (bad-range2 .ensures) ∙ c .before .if3 .taken) refl,
+          (sym (bad-string .ensures) ∙ if2 .left) _ (sym (bad-string2 .ensures) ∙ c .before .if3 .taken) refl,
       pre .2,
       refl,
     ))
@@ -93,10 +93,10 @@ put-named-spec =
     let resolve2 = c .before .before .before .before .before .before .before .before .resolve2 in
     let resolve = c .before .before .before .before .before .before .before .before .before .resolve in
     let if3 = c .before .before .before .before .before .before .before .before .before .before .if3 in
-    let bad-range2 = c .before .before .before .before .before .before .before .before .before .before .before .bad-range2 in
+    let bad-string2 = c .before .before .before .before .before .before .before .before .before .before .before .bad-string2 in
     let if2 = c .before .before .before .before .before .before .before .before .before .before .before .before .if2 in
     let c₁ = c .before .before .before .before .before .before .before .before .before .before .before .before in
-    let bad-range = c₁ .before .bad-range in
+    let bad-string = c₁ .before .bad-string in
     let if1 = c₁ .before .before .before .before .before .before .if1 in
     let start = c₁ .before .before .before .before .before .before .before .before .before .before .before in
     let x = start .args in
@@ -113,9 +113,9 @@ put-named-spec =
           let three = c₁ .before .before .before .pop3 in
           let four = c₁ .before .before .pop4 in
           let low = if1 .left in
-          let named = sym (bad-range .ensures) ∙ if2
+          let named = sym (bad-string .ensures) ∙ if2
           .left in
-          let valued = sym (bad-range2
+          let valued = sym (bad-string2
           .ensures) ∙ if3 .left in
           let name = resolve .ensures in
           let value = resolve2 .ensures in

@@ -22,7 +22,7 @@ put-titled-spec =
     (λ c κs. search needs)
     (λ c κs. search needs)
     (λ c.
-    let bad-range = c .before .before .bad-range in
+    let bad-string = c .before .before .bad-string in
     let pop2 = c .before .before .before .pop2 in
     let pop = c .before .before .before .before .pop in
     let if1 = c .before .before .before .before .before .if1 in
@@ -37,7 +37,7 @@ put-titled-spec =
           (takenOn (onFiles (now (args .cells)) (now (args .owners)) (now (args .titles)) (now (args .sizes)) a) (pop2 .result))
           (pop .ensures (onFiles (now (args .cells)) (now (args .owners)) (now (args .titles)) (now (args .sizes)) a))
           (pop2 .ensures (onFiles (now (args .cells)) (now (args .owners)) (now (args .titles)) (now (args .sizes)) a)) _
-          (sym (bad-range .ensures) ∙ c .before .if2 .taken) refl,
+          (sym (bad-string .ensures) ∙ c .before .if2 .taken) refl,
       pre .2,
       refl,
     ))
@@ -53,7 +53,7 @@ put-titled-spec =
     (λ c.
     let resolve = c .before .before .before .before .before .before .before .before .resolve in
     let if2 = c .before .before .before .before .before .before .before .before .before .if2 in
-    let bad-range = c .before .before .before .before .before .before .before .before .before .before .bad-range in
+    let bad-string = c .before .before .before .before .before .before .before .before .before .before .bad-string in
     let c₁ = c .before .before .before .before .before .before .before .before .before .before .before .before in
     let if1 = c₁ .before .if1 in
     let start = c₁ .before .before .before .before .before .before in
@@ -69,7 +69,7 @@ put-titled-spec =
           let one = c .before .before .before .before .before .before .before .before .before .before .before .before .pop in
           let two = c .before .before .before .before .before .before .before .before .before .before .before .pop2 in
           let low = if1 .left in
-          let valued = sym (bad-range .ensures)
+          let valued = sym (bad-string .ensures)
           ∙ if2 .left in
           let value = resolve .ensures in
           title-told (now (x .rom)) (now (x .work)) (now (x .store)) st (x .number) (x .next) (start .pre .0) low (takenOn b (one .result))
