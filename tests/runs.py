@@ -1,7 +1,7 @@
 #!/usr/bin/env python3
-"""What crates/runs is run on and must print: the worked cases, property names byte by byte (tests/names.py), long ROMs (tests/long.py), the
-bench ROMs of document 01 that only run, every condition of refusal 7, whole states that no run leaves, the order of the tests, and
-lookups. The worked cases were worked out apart from the Rattle code, the rest by hand here.
+"""What crates/runs is run on and must print: the worked cases, property names byte by byte (tests/names.py), long ROMs (tests/long.py),
+spread ROMs (tests/spread.py), the bench ROMs of document 01 that only run, every condition of refusal 7, whole states that no run leaves,
+the order of the tests, and lookups. The worked cases were worked out apart from the Rattle code, the rest by hand here.
 
     python3 tests/runs.py           writes crates/runs/stdin and crates/runs/stdout
     python3 tests/runs.py --check   compares them with what it would write, and exits 1 where they differ
@@ -33,6 +33,7 @@ import sys
 import long
 import names
 import roms
+import spread
 import written
 from roms import left, put, rows, text, with_header
 
@@ -57,6 +58,10 @@ def name_cases():
 
 def long_cases():
     return as_run(long.cases())
+
+
+def spread_cases():
+    return as_run(spread.cases())
 
 
 def with_rows(lines):
@@ -339,8 +344,23 @@ def lookups():
     yield " ".join([f"R {rom.hex().upper()} 1000", *asked]), told
 
 
+PARTS = (
+    worked_cases,
+    name_cases,
+    long_cases,
+    spread_cases,
+    bench_roms,
+    calls_open,
+    damages,
+    odd_states,
+    over_itself,
+    orders,
+    lookups,
+)
+
+
 def cases():
-    for part in (worked_cases, name_cases, long_cases, bench_roms, calls_open, damages, odd_states, over_itself, orders, lookups):
+    for part in PARTS:
         yield from part()
 
 
