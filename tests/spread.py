@@ -140,7 +140,7 @@ PROGRAMS = (
     # names, values and an empty one in work memory, which encode-int fills; its end is the window's
     (
         "106C616D70:0 0111:1 0201:2 106B2D3200:0 0111:1 0119:2 1073696D00:0 0111:1 011A:2 1020004000:0 A5:1 1020000000:2 A7:3 0110:4 00:0",
-        ("finished", 15, 49),
+        ("finished", 15, 50),
         {
             "props": (
                 "1 6E616D65 6C616D7000",
