@@ -93,7 +93,7 @@ fn answers(seed: u64, count: usize, to: &mut impl Write) -> io::Result<()> {
 fn timed(seed: u64, count: usize, to: &mut impl Write) -> io::Result<()> {
     put(to, kinds::KINDS.len() as u32)?;
     for kind in kinds::KINDS {
-        let many = if kind == "tiny" { 1 } else { count };
+        let many = if kind.starts_with("tiny") { 1 } else { count };
         put_bytes(to, kind.as_bytes())?;
         put(to, many as u32)?;
         for index in 0..many {
