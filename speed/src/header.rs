@@ -20,14 +20,18 @@ pub fn open<'a>(rom: &'a [u8], room: &'a mut Vec<u8>) -> Result<Program<'a>, u32
     if rom.len() < FIRST_PLACE || rom.len() > ROM_MOST {
         return Err(1);
     }
-    let (bytes, wide, spread) = match rom[0] {
-        0xFD => (tested::<1>(rom, room)?, false, false),
-        0xF1 => (tested::<1>(rom, room)?, true, false),
-        0xF2 => (tested::<2>(rom, room)?, true, true),
-        0xF3 => (tested::<4>(rom, room)?, true, true),
-        _ => return Err(2),
-    };
-    Ok(Program { bytes, wide, spread })
+    match rom[0] {
+        start @ (0xFD | 0xF1) => Ok(Program { bytes: tested::<1>(rom, room)?, wide: start == 0xF1, spread: false }),
+        0xF2 => open_spread::<2>(rom, room),
+        0xF3 => open_spread::<4>(rom, room),
+        _ => Err(2),
+    }
+}
+
+/// Out of the way of ROMs that are not spread.
+#[inline(never)]
+fn open_spread<'a, const SPREAD: usize>(rom: &'a [u8], room: &'a mut Vec<u8>) -> Result<Program<'a>, u32> {
+    Ok(Program { bytes: tested::<SPREAD>(rom, room)?, wide: true, spread: true })
 }
 
 /// The tests behind that of the start byte, for a ROM whose FCode bytes lie so far apart.
