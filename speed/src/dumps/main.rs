@@ -58,7 +58,7 @@ impl Tally {
 fn answers(seed: u64, count: usize, to: &mut impl Write) -> io::Result<()> {
     let mut draw = Draw::new(seed);
     let (mut screened, mut ran) = (Tally([0; 32]), Tally([0; 32]));
-    let mut all_steps = 0u64;
+    let (mut all_steps, mut spread) = (0u64, 0);
     put(to, count as u32)?;
     for _ in 0..count {
         let trial = trials::trial(&mut draw);
@@ -83,8 +83,9 @@ fn answers(seed: u64, count: usize, to: &mut impl Write) -> io::Result<()> {
         screened.count(screen);
         ran.count(run);
         all_steps += u64::from(steps);
+        spread += usize::from(matches!(trial.rom.first(), Some(0xF2 | 0xF3)));
     }
-    println!("{count} ROMs of seed {seed}, answer:count of the peer");
+    println!("{count} ROMs of seed {seed}, {spread} of them spread, answer:count of the peer");
     println!("screen {}", screened.shown());
     println!("run    {}, {all_steps} steps in all", ran.shown());
     Ok(())
