@@ -225,7 +225,8 @@ def burnt(program, start):
 
 
 def lent(k, opened, budget, other, answers, told):
-    """A state that a ROM's run leaves, and what is said of it where another ROM is lent."""
+    """A state that a ROM's run leaves, and what is said of it where another ROM is lent. crates/runs has room for 256 bytes of each."""
+    assert max(len(opened), len(other)) <= 256
     line = f"L {k:02} {roms.in_hex(opened)} {budget} {roms.in_hex(other)}"
     return line, [f"lent {k} {answers}", *without_rows(told)]
 

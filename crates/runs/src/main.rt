@@ -53,10 +53,11 @@ fn one_damage(line: &[u8]) {
     show_damaged(digits_at(line, 2), &space[..n], budget);
 }
 
-// L: a state that one ROM's run left, damaged or not, and another ROM.
+// L: a state that one ROM's run left, damaged or not, and another ROM. Both are short: of two large arrays the checker would hold more than
+// it needs to.
 fn one_lent(line: &[u8]) {
-    let mut space = [0u8; SPACE];
-    let mut other = [0u8; SPACE];
+    let mut space = [0u8; 256];
+    let mut other = [0u8; 256];
     let n = bytes_from(line, 5, &mut space);
     let behind = word_end(line, 5) + 1;
     let m = bytes_from(line, word_end(line, behind) + 1, &mut other);
