@@ -4,12 +4,14 @@
     python3 tests/bench.py           prints the lines
     python3 tests/bench.py --check   compares them with crates/bench/stdout, and exits 1 where they differ
     python3 tests/bench.py --roms    prints the ROMs behind T that crates/bench/stdin ends with
+
+The headers before those are of spread ROMs, from tests/spread.py.
 """
 import pathlib
 import random
 import sys
 
-from roms import of_hex, with_header
+from roms import fcode_of, of_hex, with_header
 
 BENCH = pathlib.Path(__file__).parent.parent / "crates" / "bench"
 
@@ -74,14 +76,18 @@ class Reader:
 def header(rom):
     if not 8 <= len(rom) <= 65536:
         return 1
-    if rom[0] not in (0xFD, 0xF1):
+    if rom[0] not in (0xFD, 0xF1, 0xF2, 0xF3):
         return 2
-    if rom[1] != 8:
+    # request (vii) of document 02: behind F2 and F3 every second and every fourth byte is FCode
+    fcode = fcode_of(rom)
+    if len(fcode) < 8:
+        return 1
+    if fcode[1] != 8:
         return 3
-    length = int.from_bytes(rom[4:8], "big")
-    if length < 9 or length > len(rom):
+    length = int.from_bytes(fcode[4:8], "big")
+    if length < 9 or length > len(fcode):
         return 4
-    if sum(rom[8:length]) % 65536 != int.from_bytes(rom[2:4], "big"):
+    if sum(fcode[8:length]) % 65536 != int.from_bytes(fcode[2:4], "big"):
         return 5
     return 0
 

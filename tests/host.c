@@ -1,14 +1,18 @@
 /* A C program over include/fcode.h: each of the four calls with good ROMs, bad ROMs, buffers of the wrong size and no ROM at all, the sum
- * of programs of many lengths, the longest ROM, the stack that a call takes, and the listing of every worked case and of every case of
- * tests/names.py and tests/long.py. Compared are every answer, every text with the one zero and the untouched bytes behind it, every buffer
- * that a refused call must leave as it was, and what stands before and behind a buffer, which no call may touch. */
+ * of programs of many lengths, the longest ROM, spread ROMs, the stack that a call takes, ROMs behind whose last byte nothing can be read,
+ * and the listing of every worked case and of every case of tests/names.py, tests/long.py and tests/spread.py. Compared are every answer,
+ * every text with the one zero and the untouched bytes behind it, every buffer that a refused call must leave as it was, and what stands
+ * before and behind a buffer, which no call may touch. */
+#define _DEFAULT_SOURCE
 #define _XOPEN_SOURCE 700
 #include "fcode.h"
 
 #include <stdio.h>
 #include <stdlib.h>
 #include <string.h>
+#include <sys/mman.h>
 #include <ucontext.h>
+#include <unistd.h>
 
 #define GUARD 64
 #define ROOM (FCODE_TEXT_SIZE + 1)
@@ -101,6 +105,23 @@ static void burn(const void *body, size_t n) {
 }
 #define BURN(body) burn((body), sizeof(body) - 1)
 
+/* the ROM of these FCode bytes as it is with another start: F1, or F2 and F3, whose bytes lie two and four apart, with gaps that no two
+ * calls have alike, and none behind the last */
+static size_t spread_by(uint8_t start) { return start == 0xF2 ? 2 : start == 0xF3 ? 4 : 1; }
+
+static void lay_apart(uint8_t start) {
+    static uint8_t fcode[sizeof rom];
+    static uint32_t draw = 1275;
+    size_t n = rom_len, spread = spread_by(start);
+    memcpy(fcode, rom, n);
+    fcode[0] = start;
+    rom_len = (n - 1) * spread + 1;
+    for (size_t i = 0; i < rom_len; i++) {
+        draw = draw * 1664525 + 1013904223;
+        rom[i] = i % spread == 0 ? fcode[i / spread] : (uint8_t)(draw >> 24);
+    }
+}
+
 static uint32_t check(void) { return fcode_check(rom, rom_len); }
 
 static uint32_t screen(void) { return fcode_screen(rom, rom_len, at(&marks), marks.size); }
@@ -148,27 +169,37 @@ static void checks(void) {
 }
 
 /* the sum takes in every byte of the program and no other: it is taken in stretches of several sizes, and the length says in which. A byte
- * with all its bits turned makes another sum; what lies behind the program, left from longer ones, adds nothing */
-static void sums(void) {
+ * with all its bits turned makes another sum; what lies behind the program, left from longer ones, adds nothing, and no gap does */
+static void sums_of(uint8_t start) {
     static uint8_t body[sizeof rom - 8 - 1];
     uint32_t draw = 1275;
-    for (size_t i = 0; i < sizeof body; i++) {
+    size_t spread = spread_by(start), most = FCODE_ROM_MOST / spread - 8;
+    for (size_t i = 0; i < most; i++) {
         draw = draw * 1664525 + 1013904223;
         body[i] = (uint8_t)(draw >> 24);
     }
-    for (size_t n = sizeof body; n > 0; n -= n < 1100 ? 1 : 251) {
+    for (size_t n = most; n > 0; n -= n < 1100 ? 1 : 251) {
         size_t step = n <= 300 ? 1 : n / 5;
         int sum_holds = 1;
         burn(body, n);
+        lay_apart(start);
         if (check() != 0 || fcode_check(rom, sizeof rom - 1) != 0) sum_holds = 0;
         for (size_t i = 0; i < n; i += step) {
-            rom[8 + i] = body[i] ^ 0xFF;
+            uint8_t *byte = rom + (8 + i) * spread;
+            *byte ^= 0xFF;
             if (check() != 5) sum_holds = 0;
-            rom[8 + i] = body[i];
+            *byte ^= 0xFF;
         }
-        if (!sum_holds) printf("a program of %lu bytes is summed wrongly\n", (unsigned long)n);
+        if (!sum_holds) printf("a program of %lu bytes behind %X is summed wrongly\n", (unsigned long)n, start);
         EXPECT(sum_holds);
     }
+}
+
+static void sums(void) {
+    static uint8_t body[sizeof rom - 8 - 1];
+    sums_of(0xFD);
+    sums_of(0xF2);
+    sums_of(0xF3);
     /* the largest sum there is */
     memset(body, 0xFF, sizeof body);
     burn(body, sizeof body);
@@ -264,14 +295,16 @@ static size_t stack_taken(int which) {
     return sizeof stack - left;
 }
 
-/* fcode.h says how much a call may take, and how much of that with a short program: no table for a long one lies in its way */
-static void stacks(void) {
-    static const size_t sizes[] = {10, 4096, 4097, 16384, FCODE_ROM_MOST};
+/* fcode.h says how much a call may take, and how much of that with a short program: no table for a long one lies in its way. A program's
+ * size is that of its FCode bytes, however far apart they lie */
+static void stacks_of(uint8_t start) {
+    static const size_t sizes[] = {10, 4096, 4097, 16384, 32768, FCODE_ROM_MOST};
     size_t most = 0, most_of_short = 0;
-    for (size_t k = 0; k < sizeof sizes / sizeof sizes[0]; k++) {
-        burn_noops(sizes[k]);
+    for (size_t k = 0; k < sizeof sizes / sizeof sizes[0] && sizes[k] * spread_by(start) <= FCODE_ROM_MOST; k++) {
         for (int which = CHECK; which <= LIST; which++) {
-            int is_short = which == CHECK || which == RUN || sizes[k] <= 4096;
+            int is_short = sizes[k] <= 4096 || (spread_by(start) == 1 && (which == CHECK || which == RUN));
+            burn_noops(sizes[k]);
+            lay_apart(start);
             size_t taken = stack_taken(which);
             EXPECT(0 < taken && taken <= FCODE_STACK_SIZE);
             EXPECT(!is_short || taken <= FCODE_STACK_SIZE / 8);
@@ -279,8 +312,14 @@ static void stacks(void) {
             most_of_short = is_short && most_of_short < taken ? taken : most_of_short;
         }
     }
-    printf("tests/host.c: a call took %lu bytes of stack at most, %lu with a short program\n", (unsigned long)most,
+    printf("tests/host.c: start %X: a call took %lu bytes of stack at most, %lu with a short program\n", start, (unsigned long)most,
            (unsigned long)most_of_short);
+}
+
+static void stacks(void) {
+    stacks_of(0xFD);
+    stacks_of(0xF2);
+    stacks_of(0xF3);
 }
 
 static void runs(void) {
@@ -412,6 +451,128 @@ static void lists(void) {
     EXPECT(fcode_list(NULL, 0, NULL, 0, NULL, 0, NULL, 0, 0, NULL, 0) == 0);
 }
 
+/* a board whose name and lanes are laid into work memory by c!, and number 3 by encode-int: no string lies in its ROM. Bytes from 100 of
+ * work memory on, so that encode-int does not write over them */
+#define STORED(byte, at) "\x10\0\0\0" byte "\x10\x20\0\0" at "\x75"
+#define KEEPS                                                                                                                        \
+    STORED("s", "\x64") STORED("c", "\x65") STORED("a", "\x66") STORED("l", "\x67") STORED("e", "\x68")                                 \
+    "\x10\x20\0\0\x64\x10\0\0\0\x05\x02\x01"                                                                                         \
+    STORED("l", "\x64") STORED("a", "\x65") STORED("n", "\x66") STORED("e", "\x67") STORED("s", "\x68")                                 \
+    "\xA8\x01\x11\x10\x20\0\0\x64\x10\0\0\0\x05\x01\x10\0"
+/* two times five bytes by three tokens each; a name by three; a number by two, its name by two, property, end0 */
+#define KEEPS_STEPS "steps 39\n"
+
+/* the header test of a ROM cut off behind so many bytes */
+static uint32_t check_of(size_t n) { return fcode_check(rom, n); }
+
+/* bytes two and four apart */
+static void spreads(void) {
+    static const uint8_t starts[] = {0xF1, 0xF2, 0xF3};
+    for (size_t k = 0; k < sizeof starts; k++) {
+        size_t spread = spread_by(starts[k]);
+        int plain = spread == 1;
+
+        /* every size: too short for the header, too short for the length, good, and with anything behind */
+        BURN(SCALE);
+        lay_apart(starts[k]);
+        EXPECT(rom_len == 29 * spread + 1);
+        for (size_t n = 0; n <= rom_len + 8; n++) {
+            uint32_t why = check_of(n);
+            EXPECT(why == (n < 7 * spread + 1 ? 1u : n < rom_len ? 4u : 0u));
+            lend_right();
+            EXPECT(fcode_screen(rom, n, at(&marks), marks.size) == why);
+            EXPECT(why == 0 ? holds(&marks, heights, sizeof heights) : untouched(&marks));
+        }
+        /* a gap's byte is none of the program's, and each of the program's is in the sum */
+        for (size_t i = 1; i < rom_len; i++) {
+            uint8_t old = rom[i];
+            rom[i] ^= 0xFF;
+            uint32_t why = i % spread != 0 ? 0 : i == spread ? 3 : i / spread < 4 ? 5 : i / spread < 8 ? 4 : 5;
+            EXPECT(check() == why);
+            rom[i] = old;
+        }
+        rom[0] = 0xF0;
+        EXPECT(check() == 2 && fcode_check(rom, 8) == 2 && fcode_check(rom, 7) == 1);
+
+        /* the scale board's strings lie in its ROM: a run ends with 22 at device-name, and a ROM that is not spread runs on */
+        BURN(SCALE);
+        lay_apart(starts[k]);
+        lend_right();
+        EXPECT(run(100000) == (plain ? 0u : 22u));
+        EXPECT(steps == (plain ? 7u : 1u));
+        EXPECT(plain ? holds(&store, properties, sizeof properties - 1) : holds(&work, "", 0) && holds(&store, "", 0));
+        lend_right();
+        EXPECT(prints(100000, plain ? NODES "name 7363616C6500\nlanes 00000003\nsteps 7\ndone\n" : NODES "steps 1\nrefused 22\n"));
+        EXPECT(holds(&marks, heights, sizeof heights));
+
+        /* a board that has them in work memory runs to its end */
+        BURN(KEEPS);
+        lay_apart(starts[k]);
+        lend_right();
+        EXPECT(screen() == 0);
+        lend_right();
+        EXPECT(run(100000) == 0);
+        EXPECT(steps == 39);
+        EXPECT(holds(&store, properties, sizeof properties - 1));
+        EXPECT(memcmp(at(&work), "\0\0\0\3", 5) == 0 && memcmp(at(&work) + 100, "lanes", 6) == 0);
+        lend_right();
+        EXPECT(prints(100000, NODES "name 7363616C6500\nlanes 00000003\n" KEEPS_STEPS "done\n"));
+
+        /* as many bytes as a ROM may have: the gap behind the last byte is not needed, and a byte before it is */
+        burn_noops(FCODE_ROM_MOST / spread);
+        lay_apart(starts[k]);
+        EXPECT(rom_len == FCODE_ROM_MOST - spread + 1);
+        EXPECT(check() == 0 && check_of(FCODE_ROM_MOST) == 0 && check_of(rom_len - 1) == 4 && check_of(FCODE_ROM_MOST + 1) == 1);
+        lend_right();
+        EXPECT(screen() == 0);
+        lend_right();
+        EXPECT(run(100000) == 0);
+        EXPECT(steps == FCODE_ROM_MOST / spread - 8);
+    }
+}
+
+/* ROMs that end where no byte can be read: a call that reads behind what is lent does not come back from it */
+static uint8_t *edge_of(size_t page) {
+    uint8_t *low = mmap(NULL, FCODE_ROM_MOST + 2 * page, PROT_READ | PROT_WRITE, MAP_PRIVATE | MAP_ANONYMOUS, -1, 0);
+    size_t most = (FCODE_ROM_MOST + page) / page * page;
+    if (low == MAP_FAILED || mprotect(low + most, page, PROT_NONE) != 0) return NULL;
+    return low + most;
+}
+
+static void edges(void) {
+    static const uint8_t starts[] = {0xFD, 0xF1, 0xF2, 0xF3};
+    uint8_t *edge = edge_of((size_t)sysconf(_SC_PAGESIZE));
+    EXPECT(edge != NULL);
+    if (edge == NULL) return;
+    for (size_t k = 0; k < 2 * sizeof starts; k++) {
+        if (k % 2 == 0) {
+            BURN(KEEPS);
+        } else {
+            burn_noops(FCODE_ROM_MOST / spread_by(starts[k / 2]));
+        }
+        lay_apart(starts[k / 2]);
+        uint32_t whole = k % 2 == 0 ? 39 : (uint32_t)(rom_len - 1) / spread_by(starts[k / 2]) + 1 - 8;
+        const uint8_t *lent_rom = memcpy(edge - rom_len, rom, rom_len);
+        EXPECT(fcode_check(lent_rom, rom_len) == 0);
+        lend_right();
+        EXPECT(fcode_screen(lent_rom, rom_len, at(&marks), marks.size) == 0);
+        EXPECT(fcode_run(lent_rom, rom_len, at(&work), work.size, at(&store), store.size, 100000, &steps) == 0);
+        EXPECT(steps == whole);
+        lend_right();
+        EXPECT(fcode_list(lent_rom, rom_len, at(&marks), marks.size, at(&work), work.size, at(&store), store.size, 100000, at(&text),
+                          text.size) > 0);
+        /* every short ROM, refused or not, ends there too */
+        for (size_t n = 1; n < 70; n++) {
+            const uint8_t *cut = memcpy(edge - n, rom, n);
+            uint32_t why = fcode_check(cut, n);
+            EXPECT(why == check_of(n));
+            lend_right();
+            EXPECT(fcode_screen(cut, n, at(&marks), marks.size) == why);
+            EXPECT(fcode_run(cut, n, at(&work), work.size, at(&store), store.size, 100000, &steps) == why);
+        }
+    }
+}
+
 /* a hexadecimal digit's value, and two digits as a byte; -1 where there are none */
 static int digit_at(const char *p) {
     static const char all[] = "0123456789ABCDEF";
@@ -456,6 +617,8 @@ int main(int words, char **word) {
     stacks();
     runs();
     lists();
+    spreads();
+    edges();
     cases(word[1]);
     printf("tests/host.c: %u as expected, %u not\n", good, bad);
     return bad != 0;

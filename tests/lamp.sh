@@ -1,7 +1,7 @@
 #!/bin/sh
-# Runs ./lamp as a person would, with the program that is proved and built: good ROMs, refused ones, budgets, token lists, explanations,
-# folders of dumps, and files that are no ROM at all. Each `expect` below says the exit status, what must be printed, what must be said on
-# standard error, and what is asked. What the door does before the program starts is tested by tests/door.sh.
+# Runs ./lamp as a person would, with the program that is proved and built: good ROMs, refused ones, spread ones, budgets, token lists,
+# explanations, folders of dumps, and files that are no ROM at all. Each `expect` below says the exit status, what must be printed, what
+# must be said on standard error, and what is asked. What the door does before the program starts is tested by tests/door.sh.
 set -u
 here=$(cd "$(dirname "$0")/.." && pwd -P)
 room=$(mktemp -d)
@@ -67,6 +67,26 @@ noops() { head -c "$1" /dev/zero | tr '\000' '{'; }
 { bytes FD08FC2800010000; noops 65528; } >"$room/falls.rom"
 { cat "$room/full.rom"; bytes 00; } >"$room/long.rom"
 mkdir "$room/folder.rom"
+# apart GAP HEX: the bytes that are written so, a gap between each two of them
+apart() { printf '%s' "$2" | sed "s/../&$1/g; s/$1\$//"; }
+# the scale board spread by two and by four; by two without its last byte, with a checksum of zero, and with its last gap and more behind it
+two=$(apart 5A "F20805170000001E$scale")
+bytes "$two" >"$room/two.rom"
+bytes "$(apart 0012C2 "F30805170000001E$scale")" >"$room/four.rom"
+bytes "${two%??}" >"$room/two-cut.rom"
+bytes "$(apart FF "F20800000000001E$scale")" >"$room/two-zeroed.rom"
+bytes "${two}5AFFFFFF" >"$room/two-longer.rom"
+# a board whose name is a number first, and so lies in work memory: "lamp"; and one that circles
+lamp=106C616D700111020100
+bytes "F10801CF00000012$lamp" >"$room/lamp-one.rom"
+bytes "$(apart FF "F20801CF00000012$lamp")" >"$room/lamp-two.rom"
+bytes "$(apart FFFE00 "F30801CF00000012$lamp")" >"$room/lamp-four.rom"
+bytes F108028B0000000D7B13FFFE00 >"$room/turns-one.rom"
+bytes "$(apart 13 F208028B0000000D7B13FFFE00)" >"$room/turns-two.rom"
+bytes "$(apart 131313 F308028B0000000D7B13FFFE00)" >"$room/turns-four.rom"
+# headers that are cut off: the last byte of one that bytes two apart need is byte 14, of four apart byte 28
+bytes F2080517000000000000000000FF >"$room/two-short.rom"
+bytes F30805170000000000000000000000000000000000000000000000FF >"$room/four-short.rom"
 
 nodes='screen pass
 node 0 parent 0
@@ -76,6 +96,8 @@ name 7363616C6500
 lanes 00000003
 steps 7
 done"
+one='the ROM has fewer than 8 or more than 65,536 bytes, or fewer than its spread header'
+window='an address range lies in no window, or a store outside work memory'
 no_budget=': no budget, which is a number from 0 to 4,294,967,295'
 tokens='0008 12 b(") 05 7363616C65 "scale"
 000F 0201 device-name
@@ -144,6 +166,32 @@ expect 2 '' "-1$no_budget" scale.rom -1
 expect 2 '' "1000x$no_budget" scale.rom 1000x
 expect 2 '' "4294967296$no_budget" scale.rom 4294967296
 
+# ---- a spread ROM: its strings are handed to no token, and all else is as it is behind F1
+for rom in two.rom two-longer.rom four.rom; do
+    expect 1 "$nodes
+steps 1
+refused 22" '' $rom
+done
+for rom in lamp-one.rom lamp-two.rom lamp-four.rom; do
+    expect 0 "$nodes
+name 6C616D7000
+steps 4
+done" '' $rom
+done
+for rom in turns-one.rom turns-two.rom turns-four.rom; do
+    expect 3 "$nodes
+steps 9
+refused 28" '' $rom 9
+done
+expect 1 'refused 4' '' two-cut.rom
+expect 1 'refused 5' '' two-zeroed.rom
+expect 1 'refused 1' '' two-short.rom
+expect 1 'refused 1' '' four-short.rom
+expect 0 "$nodes
+name 6C616D7000
+steps 4
+done" '' - <"$room/lamp-two.rom"
+
 # ---- tokens
 expect 0 "$tokens" '' --tokens
 expect 0 "$tokens" '' --tokens scale.rom
@@ -156,6 +204,16 @@ expect 0 '0008 raw 15 (no token of the list: the next lines may be its operand)
 000C 13 bbranch FFFB to 0008
 000F B5 new-token 0800 B7
 0013 raw 100000' '' tokens mixed.rom
+for rom in two.rom two-longer.rom four.rom; do
+    expect 0 "$tokens" '' tokens $rom
+done
+for rom in turns-one.rom turns-two.rom turns-four.rom; do
+    expect 0 '0008 7B noop
+0009 13 bbranch FFFE to 0008
+000C 00 end0' '' tokens $rom
+done
+expect 1 'refused 1' '' tokens two-short.rom
+expect 1 'refused 4' '' tokens two-cut.rom
 expect 1 'refused 1' '' tokens short.rom
 expect 1 'refused 2' '' tokens start.rom
 expect 1 'refused 3' '' tokens format.rom
@@ -255,9 +313,9 @@ tree:
 run: refused 11: a token is not in the list, or defines a number or a kind that it may not, steps 0
 at: 0008 raw 15 (no token of the list: the next lines may be its operand)' '' explain mixed.rom
 expect 1 'file: 3 bytes
-verdict: refused 1: the ROM has fewer than 8 or more than 65,536 bytes' '' explain short.rom
+verdict: refused 1: '"$one" '' explain short.rom
 expect 1 'file: more than 65,536 bytes
-verdict: refused 1: the ROM has fewer than 8 or more than 65,536 bytes' 'long.rom: over 65,536 bytes' explain long.rom
+verdict: refused 1: '"$one" 'long.rom: over 65,536 bytes' explain long.rom
 expect 0 'file: 65536 bytes
 start: FD, 8-bit branch offsets
 format: 08
@@ -283,6 +341,66 @@ tree:
 /(node 1)
 run: refused 10: a token'"'"'s bytes pass the program length, steps 65528
 at: 00010000 the program'"'"'s end' '' explain falls.rom
+# of a spread ROM the file has all its bytes, and the rest is told of FCode bytes
+spread_rest="format: 08
+length: 30
+checksum: 0517, as the program's bytes add up
+verdict: refused 22: $window
+program: 7 tokens, all of the list
+tree:
+/
+/(node 1)
+run: refused 22: $window, steps 1
+at: 000F 0201 device-name"
+expect 1 "file: 59 bytes
+start: F2, 16-bit branch offsets, bytes two apart
+$spread_rest" '' explain two.rom
+expect 1 "file: 63 bytes
+start: F2, 16-bit branch offsets, bytes two apart
+$spread_rest" '' explain two-longer.rom
+expect 1 "file: 117 bytes
+start: F3, 16-bit branch offsets, bytes four apart
+$spread_rest" '' explain four.rom
+expect 1 "file: 58 bytes
+start: F2, 16-bit branch offsets, bytes two apart
+format: 08
+length: 30
+checksum: 0517
+verdict: refused 4: the program length is below 9 or above what is there" '' explain two-cut.rom
+expect 1 "file: 59 bytes
+start: F2, 16-bit branch offsets, bytes two apart
+format: 08
+length: 30
+checksum: 0000, but the program's bytes add up to 0517
+verdict: refused 5: the program's bytes do not add up to the checksum" '' explain two-zeroed.rom
+expect 1 "file: 14 bytes
+verdict: refused 1: $one" '' explain two-short.rom
+expect 1 "file: 28 bytes
+verdict: refused 1: $one" '' explain four-short.rom
+expect 0 'file: 69 bytes
+start: F3, 16-bit branch offsets, bytes four apart
+format: 08
+length: 18
+checksum: 01CF, as the program'"'"'s bytes add up
+verdict: passes
+program: 4 tokens, all of the list
+tree:
+/
+/lamp
+  name "lamp" = 6C616D7000
+run: done, steps 4' '' explain lamp-four.rom
+expect 0 'file: 18 bytes
+start: F1, 16-bit branch offsets
+format: 08
+length: 18
+checksum: 01CF, as the program'"'"'s bytes add up
+verdict: passes
+program: 4 tokens, all of the list
+tree:
+/
+/lamp
+  name "lamp" = 6C616D7000
+run: done, steps 4' '' explain lamp-one.rom
 expect 2 '' 'missing.rom: No such file or directory' explain missing.rom
 expect 2 '' "many$no_budget" explain scale.rom many
 
@@ -322,11 +440,24 @@ zeroed.rom: refused 5: the program'"'"'s bytes do not add up to the checksum
 expect 2 'file,verdict,number,words,steps,name,model
 "missing.rom",unreadable,,"",,"",""' 'missing.rom: No such file or directory
 1 dumps: 0 passed, 0 refused, 0 out of budget, 1 unreadable' scan --csv missing.rom
-expect 1 'empty.rom: refused 1: the ROM has fewer than 8 or more than 65,536 bytes
+expect 1 'empty.rom: refused 1: '"$one"'
 1 dumps: 0 passed, 1 refused, 0 out of budget, 0 unreadable' 'empty.rom: empty' scan empty.rom
 expect 1 'full.rom: passes, steps 65528
-long.rom: refused 1: the ROM has fewer than 8 or more than 65,536 bytes
+long.rom: refused 1: '"$one"'
 2 dumps: 1 passed, 1 refused, 0 out of budget, 0 unreadable' 'long.rom: over 65,536 bytes' scan full.rom long.rom
+expect 1 "two.rom: refused 22: $window, steps 1
+lamp-two.rom: passes, steps 4, name \"lamp\"
+four.rom: refused 22: $window, steps 1
+lamp-four.rom: passes, steps 4, name \"lamp\"
+two-short.rom: refused 1: $one
+two-cut.rom: refused 4: the program length is below 9 or above what is there
+6 dumps: 2 passed, 4 refused, 0 out of budget, 0 unreadable" '' \
+    scan two.rom lamp-two.rom four.rom lamp-four.rom two-short.rom two-cut.rom
+expect 1 "file,verdict,number,words,steps,name,model
+\"four.rom\",refused,22,\"$window\",1,\"\",\"\"
+\"lamp-four.rom\",passes,0,\"\",4,\"lamp\",\"\"
+\"four-short.rom\",refused,1,\"$one\",,\"\",\"\"" '3 dumps: 1 passed, 2 refused, 0 out of budget, 0 unreadable' \
+    scan --csv four.rom lamp-four.rom four-short.rom
 expect 0 '-: passes, steps 7, name "scale"
 1 dumps: 1 passed, 0 refused, 0 out of budget, 0 unreadable' '' scan - <"$room/scale.rom"
 expect 2 '' "many$no_budget" scan --budget many scale.rom

@@ -1,13 +1,14 @@
 #!/usr/bin/env python3
-"""The listing that each worked case and each case of tests/names.py and tests/long.py must have, for tests/host.c to compare. First a
-line with the count of cases; then for each case a line with the ROM in hex ('-': no bytes) and the budget, the listing's lines, and a
-line with a dot. It is put together here from what the case says of screen, run, steps, nodes and properties.
+"""The listing that each worked case and each case of tests/names.py, tests/long.py and tests/spread.py must have, for tests/host.c to
+compare. First a line with the count of cases; then for each case a line with the ROM in hex ('-': no bytes) and the budget, the listing's
+lines, and a line with a dot. It is put together here from what the case says of screen, run, steps, nodes and properties.
 
     python3 tests/listings.py       prints them
 """
 import long
 import names
 import roms
+import spread
 
 
 def by_kind(lines):
@@ -41,7 +42,7 @@ def listing(told):
 
 
 def main():
-    cases = [*roms.worked_cases(), *names.cases(), *long.cases()]
+    cases = [*roms.worked_cases(), *names.cases(), *long.cases(), *spread.cases()]
     print(len(cases))
     for (rom, budget, *_), told in cases:
         lines = listing(by_kind(told))

@@ -5,7 +5,7 @@ Every name that is refused has a ROM of its own; those that are not are written 
 """
 import string
 
-from roms import left, put, with_header
+from roms import in_hex, left, put, with_header
 
 PRINTED = range(0x21, 0x7F)
 REFUSED = (string.ascii_uppercase + "/\\:[]@").encode("ascii")
@@ -54,4 +54,4 @@ def roms():
 def cases():
     """Each as the words behind 'case' and the lines that it must give. Screening asks for no name."""
     for rom, told in roms():
-        yield [rom.hex().upper(), str(BUDGET)], ["screen 0", *told]
+        yield [in_hex(rom), str(BUDGET)], ["screen 0", *told]

@@ -1,5 +1,5 @@
-"""ROMs for the tests: a program with a good header in front of it, the tokens that write a property, what a run leaves, line by line,
-and the worked cases, read once for all that run them.
+"""ROMs for the tests: a program with a good header in front of it, its bytes laid apart, the tokens that write a property, what a run
+leaves, line by line, and the worked cases, read once for all that run them.
 
 A worked case starts with 'case HEXROM BUDGET [PATH ...]' ('-': no bytes) and ends with '.'; the lines between are what it must
 give, the kind of each in its first word. They were worked out from documents 01 and 02 apart from the Rattle code. tests/cases.txt
@@ -14,7 +14,7 @@ import pathlib
 import re
 import zlib
 
-NARROW, WIDE = 0xFD, 0xF1
+NARROW, WIDE, TWO, FOUR = 0xFD, 0xF1, 0xF2, 0xF3
 HERE = pathlib.Path(__file__).parent
 CASES = (HERE / "cases.txt", HERE / "cases-long.txt", HERE / "cases-kept.txt")
 # so many equal bytes in a row are worth their stars
@@ -24,6 +24,28 @@ OFTEN = 8
 def with_header(program, start=NARROW):
     length = len(program) + 8
     return bytes([start, 8]) + (sum(program) % 65536).to_bytes(2, "big") + length.to_bytes(4, "big") + program
+
+
+def spread_of(rom):
+    """How far apart a ROM's FCode bytes lie: its first byte says so."""
+    return {TWO: 2, FOUR: 4}.get(rom[0], 1) if rom else 1
+
+
+def fcode_of(rom):
+    """A ROM's FCode bytes: all of it, or every second or fourth byte."""
+    return rom[:: spread_of(rom)]
+
+
+def apart(fcode, gaps=None):
+    """The ROM that has these FCode bytes, as far apart as the first of them says, and none behind the last. The gaps have some bytes over
+    and over, or each of them that of the FCode byte before it, which makes a long ROM a short line."""
+    spread = spread_of(fcode)
+    size = spread * (len(fcode) - 1) + 1
+    rom = bytearray(byte for byte in fcode for _ in range(spread))[:size]
+    if gaps:
+        rom[:] = (gaps * size)[:size]
+    rom[::spread] = fcode
+    return bytes(rom)
 
 
 def text(content):

@@ -1,7 +1,8 @@
 #!/usr/bin/env python3
-"""What crates/runs is run on and must print: the worked cases, property names byte by byte (tests/names.py), long ROMs (tests/long.py), the
-bench ROMs of document 01 that only run, every condition of refusal 7, whole states that no run leaves, the order of the tests, and
-lookups. The worked cases were worked out apart from the Rattle code, the rest by hand here.
+"""What crates/runs is run on and must print: the worked cases, property names byte by byte (tests/names.py), long ROMs (tests/long.py),
+spread ROMs (tests/spread.py), the bench ROMs of document 01 that only run, every condition of refusal 7, states with another ROM than the
+one that was opened, whole states that no run leaves, the order of the tests, and lookups. The worked cases were worked out apart from the
+Rattle code, the rest by hand here.
 
     python3 tests/runs.py           writes crates/runs/stdin and crates/runs/stdout
     python3 tests/runs.py --check   compares them with what it would write, and exits 1 where they differ
@@ -33,6 +34,7 @@ import sys
 import long
 import names
 import roms
+import spread
 import written
 from roms import left, put, rows, text, with_header
 
@@ -57,6 +59,10 @@ def name_cases():
 
 def long_cases():
     return as_run(long.cases())
+
+
+def spread_cases():
+    return as_run(spread.cases())
 
 
 def with_rows(lines):
@@ -208,6 +214,66 @@ def odd_states():
         yield f"W {k:02} {ODD.hex().upper()} 6", without_rows(lines)
 
 
+NARROW, WIDE, TWO, FOUR = roms.NARROW, roms.WIDE, roms.TWO, roms.FOUR
+# After one token, b(") "a", this is at device-name: place 11, and the string's address and length are there. Its length is 14.
+NAMED = bytes.fromhex("120161" "0201" "00")
+NAMED_DATA = (0x1000000A, 1)
+
+
+def burnt(program, start):
+    return roms.apart(with_header(program, start), b"\x13")
+
+
+def lent(k, opened, budget, other, answers, told):
+    """A state that a ROM's run leaves, and what is said of it where another ROM is lent. crates/runs has room for 256 bytes of each."""
+    assert max(len(opened), len(other)) <= 256
+    line = f"L {k:02} {roms.in_hex(opened)} {budget} {roms.in_hex(other)}"
+    return line, [f"lent {k} {answers}", *without_rows(told)]
+
+
+def other_roms():
+    """How far apart bytes lie is said by the first byte of the ROM that is lent, whichever was opened. A step tests no start byte."""
+    done = left("finished", 2, 14, 16, props=("1 6E616D65 6100",), store=b"name" + b"a\0")
+    for opened in (WIDE, TWO, FOUR):
+        for other in (WIDE, TWO, FOUR, 0xF0):
+            if other in (WIDE, 0xF0):
+                answers, told = "step going run finished steps 2 changed", done
+            else:
+                answers, told = NOT_DONE.format(22), left("refused 22", 0, 11, 16, data=NAMED_DATA)
+            yield lent(WHOLE, burnt(NAMED, opened), 1, burnt(NAMED, other), answers, told)
+    # the ROM is read where the first byte says: its own header, by @
+    for opened, other in ((WIDE, FOUR), (TWO, WIDE), (FOUR, TWO)):
+        program = bytes.fromhex("1010000000" "6D" "00")
+        cell = int.from_bytes(with_header(program, other)[:4], "big")
+        told = left("finished", 2, 15, 16, data=(cell,))
+        yield lent(WHOLE, burnt(program, opened), 1, burnt(program, other), "step going run finished steps 2 changed", told)
+    # the width is the state's: 8 bits of offset, though a spread ROM that is opened has 16
+    program = bytes.fromhex("7B" "1302" "FE" "00")
+    told = left("finished", 2, 13, 8)
+    yield lent(WHOLE, burnt(program, NARROW), 1, burnt(program, TWO), "step going run finished steps 2 changed", told)
+
+
+def other_sizes():
+    """Both parts of 1 come before 7, and 4 asks for the bytes that the state's length needs: 14, 27 and 53 of them."""
+    opened = burnt(NAMED, WIDE)
+    high = (*NAMED_DATA, *[0] * 63)
+    for start, least, needed in ((WIDE, 8, 14), (0xF0, 8, 14), (TWO, 15, 27), (FOUR, 29, 53)):
+        whole = burnt(NAMED, start)
+        assert len(whole) == needed
+        for size, number in ((least - 1, 1), (least, 4), (needed - 1, 4)):
+            told = left(f"refused {number}", 0, 11, 16, data=NAMED_DATA)
+            yield lent(WHOLE, opened, 1, whole[:size], NOT_DONE.format(number), told)
+        # the same with 65 cells on the data stack
+        for size, number in ((least - 1, 1), (least, 7), (needed, 7)):
+            yield lent(0, opened, 1, whole[:size], NOT_DONE.format(number), left(f"refused {number}", 0, 11, 16, data=high))
+    # a finished state is tested too
+    finished = burnt(b"\0", WIDE)
+    for size, number in ((14, 1), (16, 4)):
+        told = left(f"refused {number}", 0, 9, 16)
+        yield lent(WHOLE, finished, 9, burnt(b"\0", TWO)[:size], NOT_DONE.format(number), told)
+    yield lent(WHOLE, finished, 9, burnt(b"\0", TWO), FINISHED, left("finished", 0, 9, 16))
+
+
 def over_itself():
     """encode-string of bytes that it overwrites: abcd encoded as a number, then its four bytes and the two behind them as a string."""
     rom = with_header(bytes.fromhex("1061626364" "0111" "46" "1000000006" "0114" "00"))
@@ -339,8 +405,25 @@ def lookups():
     yield " ".join([f"R {rom.hex().upper()} 1000", *asked]), told
 
 
+PARTS = (
+    worked_cases,
+    name_cases,
+    long_cases,
+    spread_cases,
+    bench_roms,
+    calls_open,
+    damages,
+    other_roms,
+    other_sizes,
+    odd_states,
+    over_itself,
+    orders,
+    lookups,
+)
+
+
 def cases():
-    for part in (worked_cases, name_cases, long_cases, bench_roms, calls_open, damages, odd_states, over_itself, orders, lookups):
+    for part in PARTS:
         yield from part()
 
 

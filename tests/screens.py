@@ -1,7 +1,7 @@
 #!/usr/bin/env python3
-"""What crates/screens is run on and must print: the worked cases, long ROMs (tests/long.py), the bench ROMs of documents 01 and 02, the
-ROMs by which docs/DECISIONS.md says how document 01 is read, wrong buffers and headers, and ROMs for the rules that these do not touch.
-The worked cases were worked out apart from the Rattle code, the rest by hand here.
+"""What crates/screens is run on and must print: the worked cases, long ROMs (tests/long.py), spread ROMs (tests/spread.py), the bench ROMs
+of documents 01 and 02, the ROMs by which docs/DECISIONS.md says how document 01 is read, wrong buffers and headers, and ROMs for the rules
+that these do not touch. The worked cases were worked out apart from the Rattle code, the rest by hand here.
 
     python3 tests/screens.py           writes crates/screens/stdin and crates/screens/stdout
     python3 tests/screens.py --check   compares them with what it would write, and exits 1 where they differ
@@ -17,6 +17,7 @@ import sys
 
 import long
 import roms
+import spread
 import written
 from roms import NARROW, WIDE, with_header
 
@@ -66,6 +67,10 @@ def worked_cases():
 
 def long_cases():
     return as_screened(long.cases())
+
+
+def spread_cases():
+    return as_screened(spread.cases())
 
 
 def pushes(count):
@@ -301,6 +306,7 @@ PARTS = (
     sizes,
     headers,
     long_cases,
+    spread_cases,
     heights,
     bodies,
     cells_and_frames,

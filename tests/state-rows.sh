@@ -66,6 +66,13 @@ fn main() {
     let mut alone = fresh;
     alone.tree.nodes = 1;
     show(b"alone", alone, 32);
+
+    // the same program with its bytes two apart; and cut off behind its header, so that the state is all zero and has no node
+    let apart = b"\xF2\x12\x08\x12\x00\x12\x00\x12\x00\x12\x00\x12\x00\x12\x09\x12\x00";
+    let spread = open(apart, &mut work, &mut store);
+    show(b"spread", spread.state, 32);
+    let cut = open(&apart[..16], &mut work, &mut store);
+    show(b"cut", cut.state, 32);
 }
 END
 
@@ -86,5 +93,7 @@ fresh 33: 6$old
 high 31: 6$old
 high 32: 7$old
 alone 32: 7$old
+spread 32: 0$(rows_of 32 0:0) 9:9
+cut 32: 7$old
 END
 (cd "$room" && rt try rows)

@@ -11,7 +11,7 @@ import subprocess
 import sys
 import tempfile
 
-from roms import with_header
+from roms import FOUR, NARROW, TWO, WIDE, apart, fcode_of, spread_of, with_header
 
 HERE = pathlib.Path(__file__).resolve().parent.parent
 
@@ -47,9 +47,10 @@ def leads(at, offset, length):
 
 
 def lines(rom):
-    """The list of a ROM with a good header."""
-    length = int.from_bytes(rom[4:8], "big")
-    program, place, wide = rom[:length], 8, rom[0] == 0xF1
+    """The list of a ROM with a good header. Of a spread one it is that of its FCode bytes."""
+    fcode = fcode_of(rom)
+    length = int.from_bytes(fcode[4:8], "big")
+    program, place, wide = fcode[:length], 8, fcode[0] != NARROW
 
     def take(at, count):
         if at + count > length:
@@ -104,19 +105,20 @@ def lines(rom):
 
 def roms():
     """Every token of the list; every number of one byte, and many of two; tokens that are cut off; branches before and behind offset16;
-    ROMs of anything."""
+    the longest ROMs; ROMs of anything; spread ROMs, with gaps that are tokens, and with none or some behind the last byte."""
     operands = {0x10: "00C0FFEE", 0x12: "057363616C65", 0x13: "7F80", 0x14: "8001", 0xC3: "0801"}
     operands |= {0xB5: "0800B7", 0xB6: "04746172650FFFB8", 0xCA: "000800BA"}
     every = b"".join((bytes([n]) if n < 256 else n.to_bytes(2, "big")) + bytes.fromhex(operands.get(n, "")) for n in NAMES)
-    for start in (0xFD, 0xF1):
-        yield with_header(every + bytes.fromhex("08000FFF0801"), start)
-        yield with_header(bytes(range(16, 256)) * 3, start)
-        yield with_header(b"".join(n.to_bytes(2, "big") for n in range(0x100, 0x210)) + bytes.fromhex("07FF0FFF"), start)
-        yield with_header(bytes.fromhex("1305130513CC1305130513051305"), start)
+    gaps = bytes.fromhex("1200CC13FFB5")
+    for start in (NARROW, WIDE, TWO, FOUR):
+        yield apart(with_header(every + bytes.fromhex("08000FFF0801"), start), gaps)
+        yield apart(with_header(bytes(range(16, 256)) * 3, start), gaps)
+        yield apart(with_header(b"".join(n.to_bytes(2, "big") for n in range(0x100, 0x210)) + bytes.fromhex("07FF0FFF"), start), gaps)
+        yield apart(with_header(bytes.fromhex("1305130513CC1305130513051305"), start), gaps) + gaps
     # branches to every place from 128 bytes before the offset to 127 behind it, and to the ends of what 16 bits reach
     yield with_header(b"".join(bytes([0x13 + n % 2, n]) for n in range(256)))
     for target in (7, 8, 9, 31, 32, 33, 0x8008, 0x8009):
-        yield with_header(b"\x13" + (target - 9 & 0xFFFF).to_bytes(2, "big") + b"\x7B" * 21, 0xF1)
+        yield with_header(b"\x13" + (target - 9 & 0xFFFF).to_bytes(2, "big") + b"\x7B" * 21, WIDE)
     # strings of letters, of other bytes, and of both; a string that ends the program; an empty one
     for text in (b"scale", b" ~", b"\x1F", b"\x7F", b"a\x00", b'say "no"', b"\\", b"\xE9", b"", b"m" * 255):
         yield with_header(b"\x12" + bytes([len(text)]) + text)
@@ -127,18 +129,25 @@ def roms():
     # a token of each form, cut off at each of its bytes
     for token in ("1000C0FFEE", "1203616263", "0110", "130102", "C30800", "B50800B7", "B60274650800B7", "12FF00", "01", "0F"):
         for kept in range(1, len(token) // 2 + 1):
-            yield with_header(b"\x47" + bytes.fromhex(token)[:kept], 0xF1)
+            yield with_header(b"\x47" + bytes.fromhex(token)[:kept], WIDE)
+        yield apart(with_header(b"\x47" + bytes.fromhex(token)[:-1], FOUR) + bytes.fromhex(token)[-1:], gaps)
     yield with_header(b"\x12\xFF" + b"\x00" * 255) + b"\x47\x47"
     yield with_header(b"\xB6\xFF" + b"\xAB" * 255 + b"\x0F\xFF\xBA\x00")
     # the longest ROMs: full of one-byte tokens with the longest name, and of bytes that are none; strings, and branches as far as they lead
     yield with_header(b"\xB2" * 65528)
     yield with_header(b"\xFE" * 65528)
     yield with_header((b"\x12\xFF" + b"m" * 255) * 254 + b"\x7B" * 250)
-    yield with_header(b"\x13\x7F\xFF" * 10922 + b"\x13\x80\x00" * 10920 + b"\x7B\x00", 0xF1)
+    yield with_header(b"\x13\x7F\xFF" * 10922 + b"\x13\x80\x00" * 10920 + b"\x7B\x00", WIDE)
+    for start in (TWO, FOUR):
+        most = 65536 // spread_of([start])
+        yield apart(with_header(b"\xB2" * (most - 8), start), gaps)
+        yield apart(with_header(b"\x13\x7F\xFF" * ((most - 8) // 3), start), gaps) + b"\x7B"
+        yield apart(with_header(b"\x00", start), gaps).ljust(65536, b"\x7B")
     some = random.Random(1275)
-    for k in range(12):
+    for k in range(16):
         size = some.choice((1, 2, 40, 300, 4000))
-        yield with_header(bytes(some.randrange(256) if k % 2 else some.choice(every) for _ in range(size)), some.choice((0xFD, 0xF1)))
+        start = some.choice((NARROW, WIDE)) if k < 12 else some.choice((TWO, FOUR))
+        yield apart(with_header(bytes(some.randrange(256) if k % 2 else some.choice(every) for _ in range(size)), start), gaps)
 
 
 def loader():

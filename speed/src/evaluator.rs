@@ -37,6 +37,8 @@ struct Frame {
 
 struct Evaluator<'a> {
     program: &'a [u8],
+    /// Where strings may lie that a token names: the program, unless its bytes lie apart in the ROM.
+    strings: Option<&'a [u8]>,
     wide: bool,
     data: [u32; DATA_MOST],
     returns: [u32; RETURN_MOST],
@@ -57,7 +59,8 @@ pub fn run(rom: &[u8], work: &mut [u8], store: &mut [u8], budget: u32) -> (u32, 
         (Ok(work), Ok(store)) => (work, store),
         _ => return (6, 0),
     };
-    match header::open(rom) {
+    let mut room = Vec::new();
+    match header::open(rom, &mut room) {
         Ok(program) => Evaluator::new(program, work, store).run(budget),
         Err(why) => (why, 0),
     }
@@ -82,6 +85,7 @@ impl<'a> Evaluator<'a> {
         work.fill(0);
         Evaluator {
             program: program.bytes,
+            strings: if program.spread { None } else { Some(program.bytes) },
             wide: program.wide,
             data: [0; DATA_MOST],
             returns: [0; RETURN_MOST],
@@ -568,10 +572,10 @@ impl<'a> Evaluator<'a> {
         (answer, steps)
     }
 
-    /// The part of the ROM or of work memory that a range names.
+    /// The bytes of the ROM or of work memory that @ and c@ fetch: by FCode bytes, spread or not.
     #[inline(always)]
     fn part(&self, address: u32, count: u32) -> Option<&[u8]> {
-        part_of(self.program, self.work, address, count)
+        part_of(Some(self.program), self.work, address, count)
     }
 
     /// The tokens with a number of two bytes that is no program's. Gives the data height behind it.
@@ -606,8 +610,8 @@ impl<'a> Evaluator<'a> {
             return Err(14);
         }
         let cells = &self.data[height - 4..height];
-        let name = part_of(self.program, self.work, cells[2], cells[3]).ok_or(22u32)?;
-        let value = part_of(self.program, self.work, cells[0], cells[1]).ok_or(22u32)?;
+        let name = part_of(self.strings, self.work, cells[2], cells[3]).ok_or(22u32)?;
+        let value = part_of(self.strings, self.work, cells[0], cells[1]).ok_or(22u32)?;
         if !is_name(name) {
             return Err(26);
         }
@@ -620,7 +624,7 @@ impl<'a> Evaluator<'a> {
         if height < 2 {
             return Err(14);
         }
-        let value = part_of(self.program, self.work, self.data[height - 2], self.data[height - 1]).ok_or(22u32)?;
+        let value = part_of(self.strings, self.work, self.data[height - 2], self.data[height - 1]).ok_or(22u32)?;
         self.tree.put(name, value, true)?;
         Ok(height - 2)
     }
@@ -653,7 +657,7 @@ impl<'a> Evaluator<'a> {
         let in_rom = address.wrapping_sub(ROM_BASE) as usize;
         let in_work = address.wrapping_sub(WORK_BASE) as usize;
         let room = if at + size + 1 > WORK_SIZE { Err(24u32) } else { Ok(()) };
-        if let Some(bytes) = self.program.get(in_rom..in_rom + size) {
+        if let Some(bytes) = self.strings.and_then(|rom| rom.get(in_rom..in_rom + size)) {
             room?;
             self.work[at..at + size].copy_from_slice(bytes);
         } else if in_work + size <= WORK_SIZE {
@@ -748,15 +752,15 @@ impl<'a> Evaluator<'a> {
     }
 }
 
-/// A range is good where it lies wholly in one window, its end included. An address below a window is a large number here, and no sum of
-/// two 32-bit numbers wraps.
+/// A range is good where it lies wholly in one window, its end included; the ROM's may be shut. An address below a window is a large number
+/// here, and no sum of two 32-bit numbers wraps.
 #[inline(always)]
-fn part_of<'b>(program: &'b [u8], work: &'b [u8; WORK_SIZE], address: u32, count: u32) -> Option<&'b [u8]> {
+fn part_of<'b>(rom: Option<&'b [u8]>, work: &'b [u8; WORK_SIZE], address: u32, count: u32) -> Option<&'b [u8]> {
     let size = count as usize;
     let in_work = address.wrapping_sub(WORK_BASE) as usize;
     if let Some(part) = work.get(in_work..in_work + size) {
         return Some(part);
     }
     let in_rom = address.wrapping_sub(ROM_BASE) as usize;
-    program.get(in_rom..in_rom + size)
+    rom?.get(in_rom..in_rom + size)
 }

@@ -1,5 +1,6 @@
 //! An ordinary evaluator and screener for FCode ROMs, written to be fast and proved nowhere: the yardstick for the library, and a second
-//! reading of documents 01 and 02 that the library's answers are compared with. Requests (i), (iv) and (vi) of document 02 are in force.
+//! reading of documents 01 and 02 that the library's answers are compared with. Requests (i), (iv), (vi) and (vii) of document 02 are in
+//! force.
 #![deny(unsafe_code)]
 
 mod evaluator;

@@ -76,7 +76,8 @@ pub fn screen(rom: &[u8], marks: &mut [u8]) -> u32 {
     if marks.len() != MARKS_SIZE {
         return 6;
     }
-    let program = match header::open(rom) {
+    let mut room = Vec::new();
+    let program = match header::open(rom, &mut room) {
         Ok(program) => program,
         Err(why) => return why,
     };

@@ -145,3 +145,17 @@ pub fn show_damaged(k: u32, rom: &[u8], budget: u32) {
     say_number(k as u64);
     show_tried(rom, &mut work, &mut store, bad, 1000);
 }
+
+// A state that one ROM's run left, damaged in one way or not, offered with another ROM, and what that leaves. It is offered three times
+// with the same memories, so that what its tokens write must be the same each time.
+pub fn show_lent(k: u32, rom: &[u8], budget: u32, other: &[u8]) {
+    let mut work = [0u8; 16384];
+    let mut store = [0u8; 16384];
+    let state = state_after(rom, &mut work, &mut store, budget);
+    let offered = damaged(k, state);
+    say(b"lent");
+    say_number(k as u64);
+    show_tried(other, &mut work, &mut store, offered, 1000);
+    let ran = run(other, &mut work, &mut store, offered, 1000);
+    show_left(ran, &work, &store);
+}

@@ -1,4 +1,4 @@
-//! What happens to dumps: bytes changed, taken out, put in or cut off, and headers that are wrong.
+//! What happens to dumps: bytes changed, taken out, put in or cut off, headers that are wrong, bytes that lie apart.
 
 use crate::draw::Draw;
 
@@ -62,4 +62,60 @@ pub fn spoil_header(draw: &mut Draw, rom: &mut Vec<u8>) {
             }
         }
     }
+}
+
+/// A length that is wrong by a little, or that a product with the spread would make small in 32 bits.
+fn spoil_length(draw: &mut Draw, fcode: &mut [u8]) {
+    if let Some(field) = fcode.get_mut(4..8) {
+        let length = u32::from_be_bytes([field[0], field[1], field[2], field[3]]);
+        let high = *draw.one(&[0x4000_0000, 0x8000_0000, 0xC000_0000]);
+        let other = *draw.one(&[length + 1, length - 1, length | high, high, high + 1, u32::MAX, 8, 9]);
+        field.copy_from_slice(&other.to_be_bytes());
+    }
+}
+
+/// The ROM of these FCode bytes with two or four bytes for each: gaps of any bytes, the last one often missing, and now and then a ROM that
+/// is cut off, a byte that is another, or bytes behind.
+pub fn spread(draw: &mut Draw, mut fcode: Vec<u8>, by: usize) -> Vec<u8> {
+    if matches!(fcode.first(), Some(0xFD | 0xF1)) {
+        fcode[0] = if by == 2 { 0xF2 } else { 0xF3 };
+    }
+    if draw.chance(1, 20) {
+        spoil_length(draw, &mut fcode);
+    }
+    let sort = draw.below(4);
+    let mut rom = Vec::with_capacity(by * fcode.len());
+    for byte in fcode {
+        rom.push(byte);
+        for _ in 1..by {
+            let gap = match sort {
+                0 => 0x00,
+                1 => 0xFF,
+                2 => byte,
+                _ => draw.byte(),
+            };
+            rom.push(gap);
+        }
+    }
+    if draw.chance(1, 2) {
+        // nothing behind the last FCode byte, or a part of its gap
+        rom.truncate(rom.len().saturating_sub(draw.between(1, by - 1)));
+    }
+    match draw.below(60) {
+        0 | 1 => rom.truncate(rom.len().saturating_sub(draw.between(1, 2 * by))),
+        2 => rom.truncate(*draw.one(&[7, 8, 9, 14, 15, 16, 17, 28, 29, 30, 32, 33])),
+        3 => rom.truncate(draw.below(rom.len() + 1)),
+        4..=6 if !rom.is_empty() => {
+            let at = draw.below(rom.len());
+            rom[at] = draw.byte();
+        }
+        7 => {
+            let size = *draw.one(&[rom.len() + 1, rom.len() + 9, 65_535, 65_536, 65_537]);
+            if rom.len() < size {
+                rom.resize(size, 0x7B);
+            }
+        }
+        _ => {}
+    }
+    rom
 }

@@ -5,7 +5,10 @@ use crate::draw::Draw;
 use crate::writer::{with_header, Kind, Taste, Writer, MIXED};
 
 /// The kinds, in the order in which they are shown.
-pub const KINDS: [&str; 9] = ["driver", "large", "compute", "call", "memory", "property", "spoilt", "crafted", "tiny"];
+pub const KINDS: [&str; 14] = [
+    "driver", "large", "compute", "call", "memory", "property", "spoilt", "crafted", "tiny", "apart-1", "apart-2", "apart-4", "tiny-2",
+    "tiny-4",
+];
 
 /// A run's budget when it is timed.
 pub const BUDGET: u64 = 100_000;
@@ -25,8 +28,40 @@ pub fn dump(kind: &str, draw: &mut Draw, index: usize) -> Vec<u8> {
         "property" => properties(draw, size),
         "spoilt" => spoilt(draw, size),
         "crafted" => crafted(draw, index),
-        _ => with_header(&[0xA6, 0x00], false),
+        // the same programs, since kinds with names of one length are drawn alike
+        "apart-1" => apart(draw, size, 1),
+        "apart-2" => apart(draw, size, 2),
+        "apart-4" => apart(draw, size, 4),
+        "tiny-2" => laid_apart(draw, &tiny(), 2),
+        "tiny-4" => laid_apart(draw, &tiny(), 4),
+        _ => tiny(),
     }
+}
+
+fn tiny() -> Vec<u8> {
+    with_header(&[0xA6, 0x00], false)
+}
+
+/// Drivers whose strings are put into work memory, as those of a spread ROM must be, with 16 bits of offset: not spread, and spread.
+fn apart(draw: &mut Draw, size: usize, by: usize) -> Vec<u8> {
+    let mut writer = Writer::new(true, 20_000);
+    writer.in_work = true;
+    // the last statement may be long, and 16,384 bytes are as many as fit four apart
+    let rom = driven(draw, size * 7 / 8, writer);
+    laid_apart(draw, &rom, by)
+}
+
+/// A ROM spread by so many, with gaps of any bytes.
+fn laid_apart(draw: &mut Draw, fcode: &[u8], by: usize) -> Vec<u8> {
+    if by == 1 {
+        return fcode.to_vec();
+    }
+    let mut rom: Vec<u8> = (0..by * fcode.len()).map(|_| draw.byte()).collect();
+    for (place, byte) in rom.iter_mut().step_by(by).zip(fcode) {
+        *place = *byte;
+    }
+    rom[0] = if by == 2 { 0xF2 } else { 0xF3 };
+    rom
 }
 
 const QUIET: Taste = Taste {
@@ -50,8 +85,12 @@ const DRIVER: Taste = Taste { property: 0, define: 0, device: 0, risk: 0, turns:
 
 /// What drivers are: a name, constants and variables, bodies, properties, some children, a few calls.
 fn driver(draw: &mut Draw, size: usize) -> Vec<u8> {
-    let mut writer = Writer::new(draw.chance(1, 2), 20_000);
-    writer.text(b"sensor");
+    let writer = Writer::new(draw.chance(1, 2), 20_000);
+    driven(draw, size, writer)
+}
+
+fn driven(draw: &mut Draw, size: usize, mut writer: Writer) -> Vec<u8> {
+    writer.value_string(b"sensor");
     writer.double(0x201, 2, 0);
     let bodies = size / 70;
     while writer.bytes.len() < size {

@@ -58,7 +58,7 @@ impl Tally {
 fn answers(seed: u64, count: usize, to: &mut impl Write) -> io::Result<()> {
     let mut draw = Draw::new(seed);
     let (mut screened, mut ran) = (Tally([0; 32]), Tally([0; 32]));
-    let mut all_steps = 0u64;
+    let (mut all_steps, mut spread) = (0u64, 0);
     put(to, count as u32)?;
     for _ in 0..count {
         let trial = trials::trial(&mut draw);
@@ -83,8 +83,9 @@ fn answers(seed: u64, count: usize, to: &mut impl Write) -> io::Result<()> {
         screened.count(screen);
         ran.count(run);
         all_steps += u64::from(steps);
+        spread += usize::from(matches!(trial.rom.first(), Some(0xF2 | 0xF3)));
     }
-    println!("{count} ROMs of seed {seed}, answer:count of the peer");
+    println!("{count} ROMs of seed {seed}, {spread} of them spread, answer:count of the peer");
     println!("screen {}", screened.shown());
     println!("run    {}, {all_steps} steps in all", ran.shown());
     Ok(())
@@ -93,7 +94,7 @@ fn answers(seed: u64, count: usize, to: &mut impl Write) -> io::Result<()> {
 fn timed(seed: u64, count: usize, to: &mut impl Write) -> io::Result<()> {
     put(to, kinds::KINDS.len() as u32)?;
     for kind in kinds::KINDS {
-        let many = if kind == "tiny" { 1 } else { count };
+        let many = if kind.starts_with("tiny") { 1 } else { count };
         put_bytes(to, kind.as_bytes())?;
         put(to, many as u32)?;
         for index in 0..many {

@@ -1,5 +1,5 @@
 //! ROMs for the comparison: random programs, the same damaged, knots of branches, tokens in any order, any bytes, odd headers, long ROMs,
-//! and programs at the limits.
+//! and programs at the limits. One in five is spread.
 
 use crate::damage;
 use crate::draw::Draw;
@@ -20,7 +20,7 @@ pub struct Trial {
 const TRIED: u32 = 3_000;
 
 pub fn trial(draw: &mut Draw) -> Trial {
-    let rom = rom(draw);
+    let rom = if draw.chance(1, 5) { spread_rom(draw) } else { rom(draw, ROM_MOST) };
     let mut sizes = [MARKS_SIZE, WORK_SIZE, STORE_SIZE];
     if draw.chance(1, 100) {
         let size = &mut sizes[draw.below(3)];
@@ -40,7 +40,23 @@ fn ends(rom: &[u8]) -> bool {
     peer::run(rom, &mut work, &mut store, TRIED).0 != peer::SPENT
 }
 
-fn rom(draw: &mut Draw) -> Vec<u8> {
+/// So often another program is taken, until there is one whose offsets are wide from the first, as those of a spread ROM are.
+const TRIED_FOR_WIDE: usize = 6;
+
+fn spread_rom(draw: &mut Draw) -> Vec<u8> {
+    let by = *draw.one(&[2, 4]);
+    let mut fcode = rom(draw, ROM_MOST / by);
+    for _ in 0..TRIED_FOR_WIDE {
+        if fcode.first() == Some(&0xF1) {
+            break;
+        }
+        fcode = rom(draw, ROM_MOST / by);
+    }
+    damage::spread(draw, fcode, by)
+}
+
+/// A ROM that is not spread; most of them have no more than so many bytes.
+fn rom(draw: &mut Draw, most: usize) -> Vec<u8> {
     match draw.below(100) {
         0..=27 => program(draw),
         28..=54 => {
@@ -66,7 +82,7 @@ fn rom(draw: &mut Draw) -> Vec<u8> {
             damage::spoil_header(draw, &mut rom);
             rom
         }
-        88 => long(draw),
+        88 => long(draw, most),
         _ => limits(draw),
     }
 }
@@ -74,6 +90,7 @@ fn rom(draw: &mut Draw) -> Vec<u8> {
 /// A program that makes sense, with a taste of its own.
 fn program(draw: &mut Draw) -> Vec<u8> {
     let mut writer = Writer::new(draw.chance(1, 3), 1_500);
+    writer.in_work = draw.chance(1, 3);
     let taste = Taste {
         branch: draw.below(20),
         turns: draw.below(6),
@@ -128,8 +145,8 @@ fn tokens(draw: &mut Draw) -> Vec<u8> {
 
 /// A program of some size up to the largest ROM's and past it: mostly noops, with branches that lead as far as an offset reaches, and now
 /// and then other tokens, at places that branches like to lead to.
-fn long(draw: &mut Draw) -> Vec<u8> {
-    let size = *draw.one(&[16_384, 16_385, 32_768, 32_776, 40_000, 60_000, ROM_MOST, ROM_MOST, ROM_MOST]);
+fn long(draw: &mut Draw, most: usize) -> Vec<u8> {
+    let size = most.min(*draw.one(&[16_384, 16_385, 32_768, 32_776, 40_000, 60_000, ROM_MOST, ROM_MOST, ROM_MOST]));
     let size = if draw.chance(1, 12) { size + 1 } else { size - draw.below(3) };
     let mut bytes = vec![0x7B; size - 8];
     if draw.chance(7, 8) {

@@ -94,7 +94,13 @@ pub struct Writer {
     pub properties: usize,
     work: usize,
     store: usize,
+    /// Whether strings for properties are put into work memory, where those of a spread ROM must lie.
+    pub in_work: bool,
 }
+
+/// Where such strings are put: behind what properties and variables use up. Each is taken before the next one for its place is put there.
+const VALUE_PLACE: u32 = 0x2000_3000;
+const NAME_PLACE: u32 = 0x2000_3100;
 
 const NAMES: [&str; 12] =
     ["reg", "ranges", "compatible", "status", "lanes", "clock-frequency", "interrupts", "width", "height", "depth", "address", "version"];
@@ -121,6 +127,7 @@ impl Writer {
             properties: 0,
             work: 0,
             store: 0,
+            in_work: false,
         }
     }
 
@@ -171,6 +178,25 @@ impl Writer {
         self.emit(&[0x12, text.len() as u8]);
         self.bytes.extend(text);
         self.moved(0, 2);
+    }
+
+    /// A property's value that is a string.
+    pub fn value_string(&mut self, text: &[u8]) {
+        self.string(text, VALUE_PLACE);
+    }
+
+    /// A string that a token is going to take.
+    fn string(&mut self, text: &[u8], place: u32) {
+        if !self.in_work {
+            return self.text(text);
+        }
+        for (at, byte) in (place..).zip(text) {
+            self.literal(u32::from(*byte));
+            self.literal(at);
+            self.token(0x75, 2, 0);
+        }
+        self.literal(place);
+        self.literal(text.len() as u32);
     }
 
     /// Drops or pushes until the height is this.
@@ -459,7 +485,7 @@ impl Writer {
         if title {
             let text = self.printed(draw, 20);
             self.store += 32 * once;
-            self.text(&text);
+            self.value_string(&text);
             self.double(*draw.one(&[0x201, 0x119, 0x11A]), 2, 0);
             return;
         }
@@ -486,14 +512,14 @@ impl Writer {
                 let text = self.printed(draw, 30);
                 size = text.len() + 1;
                 self.work += size;
-                self.text(&text);
+                self.value_string(&text);
                 self.double(0x114, 2, 2);
             }
             2 => {
                 let text = self.printed(draw, 12);
                 size = text.len() + 5;
                 self.work += size;
-                self.text(&text);
+                self.value_string(&text);
                 self.double(0x114, 2, 2);
                 self.token(0xA7, 0, 1);
                 self.double(0x111, 1, 2);
@@ -510,14 +536,14 @@ impl Writer {
                 _ => {
                     let text = self.printed(draw, 60);
                     size = text.len();
-                    self.text(&text);
+                    self.value_string(&text);
                 }
             },
         }
         // what may run often writes the same few names again
         let name = if once == 1 { self.name(draw) } else { draw.one(&NAMES).as_bytes().to_vec() };
         self.store += (size + name.len()) * once;
-        self.text(&name);
+        self.string(&name, NAME_PLACE);
         self.double(0x110, 4, 0);
     }
 
