@@ -1,11 +1,17 @@
 // Runs the header test and the decoder over ROMs in hex on standard input, a line each. Behind H a ROM's header is tested; behind T the
-// token at each place of its program is shown too, in both offset widths, and the body that would be read from there.
+// token at each place of its program is shown too, in both offset widths, and the body that would be read from there. Places count FCode
+// bytes: a token is decoded of the ROM as it is given, spread or not, and a body is read of its FCode bytes, laid one behind the other.
+ghost use Rattle.io.specs.Counts.{Counts};
 use given::SPACE;
 use given::bytes_from;
 use given::mark_from;
 use libc::STDIN_FILENO;
 use libc::STDOUT_FILENO;
 use rom::Aim;
+use rom::fcode_count;
+use rom::lay_fcode;
+use rom::program_length;
+use rom::spread_of;
 use tokens::Body;
 use tokens::Decoded;
 use tokens::Operand;
@@ -111,23 +117,39 @@ fn some_kinds() -> [u8; 2048] {
     kinds
 }
 
-fn show_place(rom: &[u8], length: u32, wide: bool, kinds: &[u8; 2048], at: u32) {
+fn show_place(rom: &[u8], fcode: &[u8], length: u32, wide: bool, kinds: &[u8; 2048], at: u32) {
     hex(at);
     yes_or_no(wide);
-    show_decoded(tokens::decode(rom, length, wide, at));
-    show_body(tokens::read_body(rom, length, wide, kinds, at));
+    show_decoded(tokens::decode(rom, spread_of(rom), length, wide, at));
+    show_body(tokens::read_body(fcode, length, wide, kinds, at));
     say(b"\n");
 }
 
-fn show_places(rom: &[u8]) {
-    let length = rom::program_length(rom);
+fn show_places(rom: &[u8], fcode: &[u8]) {
+    let length = program_length(rom, spread_of(rom));
     let kinds = some_kinds();
     let mut at: u32 = 8;
     while at < length {
-        show_place(rom, length, false, &kinds, at);
-        show_place(rom, length, true, &kinds, at);
+        show_place(rom, fcode, length, false, &kinds, at);
+        show_place(rom, fcode, length, true, &kinds, at);
         at += 1;
     }
+}
+
+// The FCode bytes of a ROM laid into a room, and how many of them have room.
+fn laid(rom: &[u8], room: &mut [u8]) -> usize
+    ensures { λ r. ⌜ Counts r (now (room .exit)) ⌝ }
+{
+    let spread = spread_of(rom);
+    lay_fcode(rom, spread, room);
+    let n = fcode_count(rom, spread);
+    if n < room.len() { n } else { room.len() }
+}
+
+fn show_program(rom: &[u8]) {
+    let mut room = [0u8; SPACE];
+    let n = laid(rom, &mut room);
+    show_places(rom, &room[..n]);
 }
 
 fn show_rom(rom: &[u8], whole: bool) {
@@ -137,7 +159,7 @@ fn show_rom(rom: &[u8], whole: bool) {
     say(b"\n");
     if whole {
         if verdict == 0 {
-            show_places(rom);
+            show_program(rom);
         }
     }
 }

@@ -1,6 +1,10 @@
 // One ROM, shown: its listing, its tokens, or all that a person may want to know of it. Each gives the exit status. Lines go into a text
-// that is printed whenever the next line may have no room behind them.
+// that is printed whenever the next line may have no room behind them. A ROM is tested, screened and run as it was read; what is shown of
+// its bytes is shown of its FCode bytes, so that a spread is dealt with once, here.
+use crate::dump::FCODE_SPACE;
 use crate::dump::SPACE;
+use crate::dump::fcode_of;
+use crate::dump::lay_spread;
 use crate::dump::read_dump;
 use crate::judge::Ended;
 use crate::judge::ended_run;
@@ -84,13 +88,13 @@ fn show_listing(rom: &[u8], budget: u32) -> u8 {
 }
 
 // The lines of a program's tokens, as many at most as there are bytes.
-fn print_pieces(rom: &[u8], text: &mut [u8]) -> bool {
+fn print_pieces(fcode: &[u8], text: &mut [u8]) -> bool {
     let mut at = 0;
-    let mut wide = wide_start(rom);
+    let mut wide = wide_start(fcode);
     let mut place = FIRST_PLACE as u32;
     let mut k = 0;
-    while k < rom.len() {
-        let told = piece_line(&mut *text, at, rom, wide, place);
+    while k < fcode.len() {
+        let told = piece_line(&mut *text, at, fcode, wide, place);
         if told.next == place {
             return print(&*text, at);
         }
@@ -108,14 +112,20 @@ fn print_pieces(rom: &[u8], text: &mut [u8]) -> bool {
     print(&*text, at)
 }
 
-fn show_tokens(rom: &[u8]) -> u8 {
+fn print_tokens(rom: &[u8], fcode: &[u8]) -> u8 {
     let mut text = [0u8; TEXT_SIZE];
     let why = check_header(rom);
     if why != 0 {
         let end = refused_text(&mut text, why);
         return status_if(print(&text, end), REFUSED);
     }
-    status_if(print_pieces(rom, &mut text), WELL)
+    status_if(print_pieces(fcode, &mut text), WELL)
+}
+
+fn show_tokens(rom: &[u8]) -> u8 {
+    let mut room = [0u8; FCODE_SPACE];
+    let n = lay_spread(rom, &mut room);
+    print_tokens(rom, fcode_of(rom, &room[..n]))
 }
 
 // A node with its properties, each printed by itself: together they might have no room.
@@ -147,69 +157,75 @@ fn print_tree(text: &mut [u8], store: &[u8], tree: Tree) -> bool {
 }
 
 // How a run ended, and at which token, unless it finished.
-fn print_end(text: &mut [u8], rom: &[u8], ended: Ended) -> bool {
+fn print_end(text: &mut [u8], fcode: &[u8], ended: Ended) -> bool {
     let end = run_line(&mut *text, 0, ended.number, ended.steps);
     if ended.number == 0 {
         return print(&*text, end);
     }
     let state = ended.state;
-    let end = at_line(&mut *text, end, rom, state.wide, state.place);
+    let end = at_line(&mut *text, end, fcode, state.wide, state.place);
     print(&*text, end)
 }
 
 // The header, the verdict, and what the program is made of.
-fn print_head(text: &mut [u8], rom: &[u8], number: u32) -> bool {
-    let at = header_lines(&mut *text, 0, rom);
+fn print_head(text: &mut [u8], rom: &[u8], fcode: &[u8], number: u32) -> bool {
+    let at = header_lines(&mut *text, 0, rom.len(), fcode);
     let at = verdict_line(&mut *text, at, number);
     if check_header(rom) != 0 {
         return print(&*text, at);
     }
-    let at = program_lines(&mut *text, at, rom);
+    let at = program_lines(&mut *text, at, fcode);
     print(&*text, at)
 }
 
 // A ROM with a good header: what its run left, and how it ended.
-fn print_run(text: &mut [u8], rom: &[u8], store: &mut [u8], ended: Ended) -> bool {
+fn print_run(text: &mut [u8], fcode: &[u8], store: &mut [u8], ended: Ended) -> bool {
     let state = ended.state;
     let tree = state.tree;
     if !print_tree(&mut *text, &*store, tree) {
         return false;
     }
-    print_end(&mut *text, rom, ended)
+    print_end(&mut *text, fcode, ended)
 }
 
-fn show_run(rom: &[u8], budget: u32) -> u8 {
+fn show_run(rom: &[u8], fcode: &[u8], budget: u32) -> u8 {
     let mut text = [0u8; TEXT_SIZE];
     let mut store = [0u8; STORE_SIZE];
     let why = screened(rom);
     let ended = ended_run(rom, &mut store, budget);
     if why == 0 {
         let number = ended.number;
-        if !print_head(&mut text, rom, number) {
+        if !print_head(&mut text, rom, fcode, number) {
             return LOST;
         }
         return status_if(
-            print_run(&mut text, rom, &mut store, ended),
+            print_run(&mut text, fcode, &mut store, ended),
             status_of(number),
         );
     }
-    if !print_head(&mut text, rom, why) {
+    if !print_head(&mut text, rom, fcode, why) {
         return LOST;
     }
     let end = anyway_line(&mut text, 0);
     if !print(&text, end) {
         return LOST;
     }
-    status_if(print_run(&mut text, rom, &mut store, ended), REFUSED)
+    status_if(print_run(&mut text, fcode, &mut store, ended), REFUSED)
+}
+
+fn explain(rom: &[u8], fcode: &[u8], budget: u32) -> u8 {
+    let why = check_header(rom);
+    if why == 0 {
+        return show_run(rom, fcode, budget);
+    }
+    let mut text = [0u8; TEXT_SIZE];
+    status_if(print_head(&mut text, rom, fcode, why), REFUSED)
 }
 
 fn show_all(rom: &[u8], budget: u32) -> u8 {
-    let why = check_header(rom);
-    if why == 0 {
-        return show_run(rom, budget);
-    }
-    let mut text = [0u8; TEXT_SIZE];
-    status_if(print_head(&mut text, rom, why), REFUSED)
+    let mut room = [0u8; FCODE_SPACE];
+    let n = lay_spread(rom, &mut room);
+    explain(rom, fcode_of(rom, &room[..n]), budget)
 }
 
 pub fn list_file(name: &[u8], budget: u32) -> u8 {

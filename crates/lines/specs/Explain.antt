@@ -1,5 +1,5 @@
--- What explain says of a ROM, line by line, for people: the header's fields, the tree with paths and with values as they are read. Document
--- 01 leaves the lines open. Assumes nothing.
+-- What explain says of a ROM, line by line, for people: the header's fields, the tree with paths and with values as they are read. Header
+-- and program are FCode bytes; a file's size counts the gaps of a spread too. Document 01 leaves the lines open. Assumes nothing.
 use Prim.Native.Nat.{ℕ, zero, suc}
 use mathlib.Core.Bool.{Bool, true, false, not, _&&_, _||_}
 use mathlib.Core.List.{List, [], _∷_, _++_}
@@ -9,7 +9,7 @@ use Rattle.cells.specs.Choice.{pick}
 use Rattle.rom.specs.Words.{lettersOf}
 use Rattle.rom.specs.Sizes.{romLeast, romMost, nodesMost, storeSize}
 use Rattle.rom.specs.Bytes.{byteOf}
-use Rattle.rom.specs.Header.{checksumOf, lengthOf}
+use Rattle.rom.specs.Header.{checksumOf, lengthOf, wrongLength}
 use Rattle.rom.specs.Sum.{sumOf}
 use Rattle.tree.specs.Held.{heldOf}
 use Rattle.tree.specs.Whole.{parentOf, wholeTree}
@@ -28,33 +28,32 @@ use Rattle.lines.specs.declared.tally.Tally.{Tally}
 abbrev pub startWords : ℕ → List ℕ
 startWords b =
     pick (eqb b 0xFD) (lettersOf ", 8-bit branch offsets")
-    (pick (eqb b 0xF1) (lettersOf ", 16-bit branch offsets") (lettersOf ", which starts no FCode program"))
+    (pick (eqb b 0xF1) (lettersOf ", 16-bit branch offsets")
+    (pick (eqb b 0xF2) (lettersOf ", 16-bit branch offsets, bytes two apart")
+    (pick (eqb b 0xF3) (lettersOf ", 16-bit branch offsets, bytes four apart") (lettersOf ", which starts no FCode program"))))
 
 unfoldable pub startLine : List ℕ → List ℕ
-startLine rom = lettersOf "start: " ++ (hexPair (byteOf rom 0) ++ (startWords (byteOf rom 0) ++ lineEnd))
+startLine fcode = lettersOf "start: " ++ (hexPair (byteOf fcode 0) ++ (startWords (byteOf fcode 0) ++ lineEnd))
 
 -- "format: 08"
 unfoldable pub formatLine : List ℕ → List ℕ
-formatLine rom = lettersOf "format: " ++ (hexPair (byteOf rom 1) ++ lineEnd)
+formatLine fcode = lettersOf "format: " ++ (hexPair (byteOf fcode 1) ++ lineEnd)
 
 -- "length: 30"
 unfoldable pub lengthLine : List ℕ → List ℕ
-lengthLine rom = lettersOf "length: " ++ (decimalOf (lengthOf rom) ++ lineEnd)
+lengthLine fcode = lettersOf "length: " ++ (decimalOf (lengthOf fcode) ++ lineEnd)
 
--- "checksum: 0517, as the program's bytes add up"; both sums where they differ. Where the length is bad nothing says which bytes are the
+-- "checksum: 0517, as the program's bytes add up"; both sums where they differ. Where the length is wrong nothing says which bytes are the
 -- program's
-abbrev pub badLength : List ℕ → Bool
-badLength rom = ltb (lengthOf rom) 9 || ltb (length rom) (lengthOf rom)
-
 abbrev pub sumWords : ℕ → ℕ → List ℕ
 sumWords field sum =
     pick (eqb field sum) (lettersOf ", as the program's bytes add up") (lettersOf ", but the program's bytes add up to " ++ hexWord sum)
 
 abbrev pub sumsShown : List ℕ → List ℕ
-sumsShown rom = pick (badLength rom) [] (sumWords (checksumOf rom) (sumOf rom (lengthOf rom)))
+sumsShown fcode = pick (wrongLength fcode (lengthOf fcode)) [] (sumWords (checksumOf fcode) (sumOf fcode (lengthOf fcode)))
 
 unfoldable pub sumLine : List ℕ → List ℕ
-sumLine rom = lettersOf "checksum: " ++ (hexWord (checksumOf rom) ++ (sumsShown rom ++ lineEnd))
+sumLine fcode = lettersOf "checksum: " ++ (hexWord (checksumOf fcode) ++ (sumsShown fcode ++ lineEnd))
 
 -- "file: 30 bytes"
 unfoldable pub sizeLine : ℕ → List ℕ
@@ -64,11 +63,11 @@ abbrev pub overLine : List ℕ
 overLine = lettersOf "file: more than 65,536 bytes" ++ lineEnd
 
 unfoldable pub fieldLines : List ℕ → List ℕ
-fieldLines rom = startLine rom ++ (formatLine rom ++ (lengthLine rom ++ sumLine rom))
+fieldLines fcode = startLine fcode ++ (formatLine fcode ++ (lengthLine fcode ++ sumLine fcode))
 
--- a file that is no ROM for its size has no header to show
-unfoldable pub headerLines : List ℕ → List ℕ
-headerLines rom = pick (ltb romMost (length rom)) overLine (sizeLine (length rom) ++ pick (ltb (length rom) romLeast) [] (fieldLines rom))
+-- a file of so many bytes, with its FCode bytes: one that is no ROM for its size, or too short for its spread header, has none to show
+unfoldable pub headerLines : ℕ → List ℕ → List ℕ
+headerLines size fcode = pick (ltb romMost size) overLine (sizeLine size ++ pick (ltb (length fcode) romLeast) [] (fieldLines fcode))
 
 -- ---- the tree: a node's path, and under it its properties
 -- a node is called by its "name" where that is text of 1 to 31 letters, as the standard has a node's name; another by its number,
@@ -100,25 +99,25 @@ abbrev pub scopeWords : List ℕ
 scopeWords = lettersOf ". A board that uses such a token is outside the scope of this tool, not broken. The first:"
 
 unfoldable pub outsideLines : List ℕ → Tally → List ℕ
-outsideLines rom y =
+outsideLines fcode y =
     lettersOf " pieces, " ++ (decimalOf (y .raws) ++ (lettersOf " of them no token of the list" ++ (scopeWords ++ (lineEnd
-    ++ lineText (rawLine rom (y .place) (y .next))))))
+    ++ lineText (rawLine fcode (y .place) (y .next))))))
 
 unfoldable pub tallyLines : List ℕ → Tally → List ℕ
-tallyLines rom y =
+tallyLines fcode y =
     lettersOf "program: " ++ (decimalOf (y .pieces)
-    ++ pick (eqb (y .raws) 0) (lettersOf " tokens, all of the list" ++ lineEnd) (outsideLines rom y))
+    ++ pick (eqb (y .raws) 0) (lettersOf " tokens, all of the list" ++ lineEnd) (outsideLines fcode y))
 
 -- more bytes than a ROM has are no program
 unfoldable pub programLines : List ℕ → List ℕ
-programLines rom = pick (ltb romMost (length rom)) [] (tallyLines rom (tallyOf rom))
+programLines fcode = pick (ltb romMost (length fcode)) [] (tallyLines fcode (tallyOf fcode))
 
 -- ---- where a run ended: the token that was refused, or the one that is next where the budget is spent
 unfoldable pub endLine : List ℕ → ℕ → List ℕ
-endLine rom p = pick (leb (endOf rom) p) (placeText p ++ (lettersOf " the program's end" ++ lineEnd)) []
+endLine fcode p = pick (leb (endOf fcode) p) (placeText p ++ (lettersOf " the program's end" ++ lineEnd)) []
 
 unfoldable pub atLine : List ℕ → Bool → ℕ → List ℕ
-atLine rom wide p = lettersOf "at: " ++ (endLine rom p ++ pieceText rom wide p)
+atLine fcode wide p = lettersOf "at: " ++ (endLine fcode p ++ pieceText fcode wide p)
 
 -- "run: done, steps 7", "run: refused 21: a divisor is zero, steps 2"
 unfoldable pub endWords : ℕ → List ℕ

@@ -17,8 +17,8 @@ Numbers = List (ℕ × String)
 -- of opening: the ROM, its header, and what is lent; there is no 8 or 9
 unfoldable pub opening : Numbers
 opening =
-    (1, "the ROM has fewer than 8 or more than 65,536 bytes") ∷
-    (2, "byte 0 is neither FD nor F1") ∷
+    (1, "the ROM has fewer than 8 or more than 65,536 bytes, or fewer than its spread header") ∷
+    (2, "byte 0 is none of FD, F1, F2 and F3") ∷
     (3, "byte 1 is not 08") ∷
     (4, "the program length is below 9 or above what is there") ∷
     (5, "the program's bytes do not add up to the checksum") ∷

@@ -32,4 +32,4 @@ tallyFrom so (s ∷ ss) = tallyFrom (pieceMore so (s .place) (s .piece)) ss
 
 -- of a whole program
 abbrev pub tallyOf : List ℕ → Tally
-tallyOf rom = tallyFrom (tally 0 0 0 0) (walkOf rom)
+tallyOf fcode = tallyFrom (tally 0 0 0 0) (walkOf fcode)

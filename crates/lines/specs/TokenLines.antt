@@ -1,7 +1,7 @@
--- The token list of a ROM, a line for each piece of its program in the order of places. A token of the list: its place, its number, its
--- name, its operand in parts, and a remark for a person to read, `0008 12 b(") 05 7363616C65 "scale"`. Bytes that no token of the list
--- covers: their place and they themselves, "001C raw 01FE". All but the names and the remarks are upper-case hexadecimal digits. Document
--- 01 leaves the lines open. Assumes nothing.
+-- The token list of a ROM, a line for each piece of its program in the order of places, which count FCode bytes. A token of the list: its
+-- place, its number, its name, its operand in parts, and a remark for a person to read, `0008 12 b(") 05 7363616C65 "scale"`. Bytes that no
+-- token of the list covers: their place and they themselves, "001C raw 01FE". All but the names and the remarks are upper-case hexadecimal
+-- digits. Document 01 leaves the lines open. Assumes nothing.
 use Prim.Native.Nat.{ℕ, zero, suc, _+_, _-_, _/_, _%_}
 use mathlib.Core.Bool.{Bool, _||_}
 use mathlib.Core.List.{List, [], _∷_, _++_}
@@ -32,7 +32,7 @@ use Rattle.lines.specs.declared.pieces.Cuts.{Cuts}
 
 -- the bytes from a place up to another
 abbrev pub between : List ℕ → ℕ → ℕ → List ℕ
-between rom from to = partOf rom from (to - from)
+between fcode from to = partOf fcode from (to - from)
 
 -- a place in four digits, and in eight where these do not reach: the end of a program of 65,536 bytes is such a place, and no token is
 abbrev pub highDigits : ℕ → List ℕ
@@ -47,23 +47,23 @@ abbrev pub cuts : ℕ → ℕ → ℕ → Cuts
 cuts a b c = record { first = a; second = b; third = c }
 
 abbrev pub cutsOf : List ℕ → ℕ → ℕ → ℕ → Cuts
-cutsOf rom start next form =
+cutsOf fcode start next form =
     pick (eqb form string) (cuts (start + 1) next next)
     (pick (eqb form head) (cuts (next - 1) next next)
-    (pick (eqb form namedHead) (cuts (start + 1) (behindString rom start) (next - 1)) (cuts next next next)))
+    (pick (eqb form namedHead) (cuts (start + 1) (behindString fcode start) (next - 1)) (cuts next next next)))
 
 abbrev pub partsAt : List ℕ → ℕ → Cuts → ℕ → List (List ℕ)
-partsAt rom start c next =
-    between rom start (c .first) ∷ between rom (c .first) (c .second) ∷ between rom (c .second) (c .third) ∷ between rom
+partsAt fcode start c next =
+    between fcode start (c .first) ∷ between fcode (c .first) (c .second) ∷ between fcode (c .second) (c .third) ∷ between fcode
     (c .third) next ∷ []
 
 -- those of a token whose operand starts at a place
 abbrev pub tokenCuts : List ℕ → ℕ → Token → Cuts
-tokenCuts rom start t = cutsOf rom start (t .next) (formIn (t .code))
+tokenCuts fcode start t = cutsOf fcode start (t .next) (formIn (t .code))
 
 -- an operand, part by part
 abbrev pub operandParts : List ℕ → ℕ → Token → List (List ℕ)
-operandParts rom start t = partsAt rom start (tokenCuts rom start t) (t .next)
+operandParts fcode start t = partsAt fcode start (tokenCuts fcode start t) (t .next)
 
 -- parts, each behind a space; an empty one shows nothing
 unfoldable pub allShown : List (List ℕ) → List ℕ
@@ -86,16 +86,16 @@ branchRemark (Definition n k) = []
 
 -- the letters of a string, which stands between the first two cuts
 abbrev pub stringRemark : List ℕ → Cuts → ℕ → List ℕ
-stringRemark rom c form = pick (eqb form string || eqb form namedHead) (quoted (between rom (c .first) (c .second))) []
+stringRemark fcode c form = pick (eqb form string || eqb form namedHead) (quoted (between fcode (c .first) (c .second))) []
 
 -- a branch has no string
 abbrev pub tokenRemark : List ℕ → ℕ → Token → List ℕ
-tokenRemark rom start t = branchRemark (t .operand) ++ stringRemark rom (tokenCuts rom start t) (formIn (t .code))
+tokenRemark fcode start t = branchRemark (t .operand) ++ stringRemark fcode (tokenCuts fcode start t) (formIn (t .code))
 
 -- of what is not in the list it is not known how far an operand reaches, so that the lines behind it may show bytes of one as tokens; at
 -- the end there are none
 abbrev pub rawRemark : List ℕ → ℕ → List ℕ
-rawRemark rom next = pick (ltb next (endOf rom)) (lettersOf " (no token of the list: the next lines may be its operand)") []
+rawRemark fcode next = pick (ltb next (endOf fcode)) (lettersOf " (no token of the list: the next lines may be its operand)") []
 
 -- ---- the lines
 -- a line: its place, the parts in front of its word, the word, the parts behind it, and the remark
@@ -120,44 +120,44 @@ lineBytes l = partsJoined (l .number) ++ partsJoined (l .rest)
 
 -- bytes that no token of the list covers
 abbrev pub rawLine : List ℕ → ℕ → ℕ → Line
-rawLine rom p next =
-    record { place = p; number = []; word = lettersOf "raw"; rest = between rom p next ∷ []; remark = rawRemark rom next }
+rawLine fcode p next =
+    record { place = p; number = []; word = lettersOf "raw"; rest = between fcode p next ∷ []; remark = rawRemark fcode next }
 
 -- a token of the list: its number, its name and its operand
 abbrev pub tokenLine : List ℕ → ℕ → ℕ → Token → Line
-tokenLine rom p start t =
+tokenLine fcode p start t =
     record {
       place = p;
-      number = between rom p start ∷ [];
+      number = between fcode p start ∷ [];
       word = nameOf (t .number);
-      rest = operandParts rom start t;
-      remark = tokenRemark rom start t;
+      rest = operandParts fcode start t;
+      remark = tokenRemark fcode start t;
     }
 
 -- the line of a piece; the end is none, and stands in no walk
 abbrev pub lineOf : List ℕ → ℕ → Piece → Line
-lineOf rom p End = record { place = p; number = []; word = []; rest = []; remark = [] }
-lineOf rom p (Raw next) = rawLine rom p next
-lineOf rom p (Listed t start w) = tokenLine rom p start t
+lineOf fcode p End = record { place = p; number = []; word = []; rest = []; remark = [] }
+lineOf fcode p (Raw next) = rawLine fcode p next
+lineOf fcode p (Listed t start w) = tokenLine fcode p start t
 
 unfoldable pub pieceLines : List ℕ → List Stretch → List ℕ
-pieceLines rom [] = []
-pieceLines rom (s ∷ ss) = lineText (lineOf rom (s .place) (s .piece)) ++ pieceLines rom ss
+pieceLines fcode [] = []
+pieceLines fcode (s ∷ ss) = lineText (lineOf fcode (s .place) (s .piece)) ++ pieceLines fcode ss
 
 -- all of it; a refused header is its one line
 unfoldable pub tokenText : List ℕ → List ℕ
-tokenText rom = pick (eqb (headerOf rom) 0) (pieceLines rom (walkOf rom)) (refusedLine (headerOf rom))
+tokenText fcode = pick (eqb (headerOf fcode) 0) (pieceLines fcode (walkOf fcode)) (refusedLine (headerOf fcode))
 
 -- ---- the list a line at a time, for whoever has no room for all of it
 -- what is listed at a place, with the offset width in force there. What is longer than a ROM can be has no lines
 abbrev pub listedAt : List ℕ → Bool → ℕ → Piece
-listedAt rom wide p = pick (ltb romMost (length rom)) End (pieceOf rom wide p)
+listedAt fcode wide p = pick (ltb romMost (length fcode)) End (pieceOf fcode wide p)
 
 -- its line, the place of the next one, and the width in force there. At the end there is no line, and both stay
 abbrev pub textIn : List ℕ → ℕ → Piece → List ℕ
-textIn rom p End = []
-textIn rom p (Raw next) = lineText (rawLine rom p next)
-textIn rom p (Listed t start w) = lineText (tokenLine rom p start t)
+textIn fcode p End = []
+textIn fcode p (Raw next) = lineText (rawLine fcode p next)
+textIn fcode p (Listed t start w) = lineText (tokenLine fcode p start t)
 
 abbrev pub nextIn : ℕ → Piece → ℕ
 nextIn p End = p
@@ -170,18 +170,18 @@ wideIn wide (Raw next) = wide
 wideIn wide (Listed t start w) = w
 
 unfoldable pub pieceText : List ℕ → Bool → ℕ → List ℕ
-pieceText rom wide p = textIn rom p (listedAt rom wide p)
+pieceText fcode wide p = textIn fcode p (listedAt fcode wide p)
 
 unfoldable pub nextOf : List ℕ → Bool → ℕ → ℕ
-nextOf rom wide p = nextIn p (listedAt rom wide p)
+nextOf fcode wide p = nextIn p (listedAt fcode wide p)
 
 unfoldable pub wideBehind : List ℕ → Bool → ℕ → Bool
-wideBehind rom wide p = wideIn wide (listedAt rom wide p)
+wideBehind fcode wide p = wideIn wide (listedAt fcode wide p)
 
 -- so many lines, one behind the other: each from where the one before it led
 unfoldable pub linesFrom : ℕ → List ℕ → Bool → ℕ → List ℕ
-linesFrom zero rom wide p = []
-linesFrom (suc k) rom wide p = pieceText rom wide p ++ linesFrom k rom (wideBehind rom wide p) (nextOf rom wide p)
+linesFrom zero fcode wide p = []
+linesFrom (suc k) fcode wide p = pieceText fcode wide p ++ linesFrom k fcode (wideBehind fcode wide p) (nextOf fcode wide p)
 
 -- room for any line: none is longer (`line-short`, Laws/Tokens.antt)
 abbrev pub lineMost : ℕ
@@ -189,10 +189,10 @@ lineMost = 1024
 
 -- ---- what is promised of the lines of a walk: each shows its own bytes, those from its place to the next
 abbrev pub OwnBytes : List ℕ → List Stretch → Type 0
-OwnBytes rom [] = Unit {0}
-OwnBytes rom (s ∷ ss) = (lineBytes (lineOf rom (s .place) (s .piece)) ≡ between rom (s .place) (s .next)) × OwnBytes rom ss
+OwnBytes fcode [] = Unit {0}
+OwnBytes fcode (s ∷ ss) = (lineBytes (lineOf fcode (s .place) (s .piece)) ≡ between fcode (s .place) (s .next)) × OwnBytes fcode ss
 
 -- the bytes that they show, one behind the other
 unfoldable pub bytesShown : List ℕ → List Stretch → List ℕ
-bytesShown rom [] = []
-bytesShown rom (s ∷ ss) = lineBytes (lineOf rom (s .place) (s .piece)) ++ bytesShown rom ss
+bytesShown fcode [] = []
+bytesShown fcode (s ∷ ss) = lineBytes (lineOf fcode (s .place) (s .piece)) ++ bytesShown fcode ss

@@ -1,12 +1,13 @@
 // What explain says of a ROM: its header's fields, and the tree that a run left, with paths and with values as people read them. Each call
-// writes its lines into a text from a place on and gives the place behind; what passes the text's end is left out. Every call is total.
+// writes its lines into a text from a place on and gives the place behind; what passes the text's end is left out. A ROM's bytes are handed
+// over as FCode bytes, one behind the other, so that no line but the start's knows of a spread. Every call is total.
 ghost use Prim.Native.Nat.{_≤_};
 ghost use mathlib.Core.Path.{_≡_};
 ghost use lib.ListN.{length};
 ghost use mathlib.Core.Bool.{_&&_, _||_};
-ghost use Rattle.rom.specs.Header.{lengthOf};
+ghost use Rattle.rom.specs.Header.{lengthOf, wrongLength};
 ghost use Rattle.tree.specs.Whole.{parentOf};
-ghost use Rattle.lines.specs.Explain.{startWords, startLine, formatLine, lengthLine, badLength, sumWords, sumsShown, sumLine};
+ghost use Rattle.lines.specs.Explain.{startWords, startLine, formatLine, lengthLine, sumWords, sumsShown, sumLine};
 ghost use Rattle.lines.specs.Explain.{sizeLine};
 ghost use Rattle.lines.specs.Explain.{fieldLines, headerLines, isTitle, titleShown, pathTo, pathLine, readLines};
 ghost use Rattle.lines.specs.Explain.{outsideLines, tallyLines, programLines, endLine, atLine};
@@ -26,6 +27,7 @@ use crate::tally::tally_of;
 use crate::verdicts::verdict;
 use crate::words::letter;
 use crate::words::say;
+use rom::Spread;
 use rom::body_sum;
 use rom::byte;
 use rom::program_length;
@@ -49,32 +51,38 @@ fn start_words(text: &mut [u8], at: usize, byte: u8) -> usize
     if byte == 0xF1 {
         return say(text, at, b", 16-bit branch offsets");
     }
+    if byte == 0xF2 {
+        return say(text, at, b", 16-bit branch offsets, bytes two apart");
+    }
+    if byte == 0xF3 {
+        return say(text, at, b", 16-bit branch offsets, bytes four apart");
+    }
     say(text, at, b", which starts no FCode program")
 }
 
-fn start_line(text: &mut [u8], at: usize, rom: &[u8]) -> usize
-    ensures { λ r. ⌜ Wrote (now (text .entry)) (now (text .exit)) at r (startLine (now (rom .entry))) ⌝ }
+fn start_line(text: &mut [u8], at: usize, fcode: &[u8]) -> usize
+    ensures { λ r. ⌜ Wrote (now (text .entry)) (now (text .exit)) at r (startLine (now (fcode .entry))) ⌝ }
 {
-    let start = byte(rom, 0);
+    let start = byte(fcode, 0);
     let at = say(text, at, b"start: ");
     let at = hex_byte(text, at, start);
     let at = start_words(text, at, start);
     letter(text, at, b'\n')
 }
 
-fn format_line(text: &mut [u8], at: usize, rom: &[u8]) -> usize
-    ensures { λ r. ⌜ Wrote (now (text .entry)) (now (text .exit)) at r (formatLine (now (rom .entry))) ⌝ }
+fn format_line(text: &mut [u8], at: usize, fcode: &[u8]) -> usize
+    ensures { λ r. ⌜ Wrote (now (text .entry)) (now (text .exit)) at r (formatLine (now (fcode .entry))) ⌝ }
 {
     let at = say(text, at, b"format: ");
-    let at = hex_byte(text, at, byte(rom, 1));
+    let at = hex_byte(text, at, byte(fcode, 1));
     letter(text, at, b'\n')
 }
 
-fn length_line(text: &mut [u8], at: usize, rom: &[u8]) -> usize
-    ensures { λ r. ⌜ Wrote (now (text .entry)) (now (text .exit)) at r (lengthLine (now (rom .entry))) ⌝ }
+fn length_line(text: &mut [u8], at: usize, fcode: &[u8]) -> usize
+    ensures { λ r. ⌜ Wrote (now (text .entry)) (now (text .exit)) at r (lengthLine (now (fcode .entry))) ⌝ }
 {
     let at = say(text, at, b"length: ");
-    let at = decimal(text, at, program_length(rom));
+    let at = decimal(text, at, program_length(fcode, Spread::One));
     letter(text, at, b'\n')
 }
 
@@ -90,32 +98,34 @@ fn sum_words(text: &mut [u8], at: usize, field: u16, sum: u16) -> usize
 }
 
 // Whether the length says which bytes are the program's.
-fn bad_length(rom: &[u8]) -> bool
-    ensures { λ r. ⌜ r ≡ badLength (now (rom .entry)) ⌝ }
+fn bad_length(fcode: &[u8]) -> bool
+    ensures { λ r. ⌜ r ≡ wrongLength (now (fcode .entry)) (lengthOf (now (fcode .entry))) ⌝ }
 {
-    let length = program_length(rom);
+    let length = program_length(fcode, Spread::One);
     if length < 9 {
         return true;
     }
-    rom.len() < (length as usize)
+    fcode.len() < (length as usize)
 }
 
 // What a program's bytes add up to, beside the header's sum, where its length is good.
-fn sums(text: &mut [u8], at: usize, rom: &[u8]) -> usize
-    ensures { λ r. ⌜ Wrote (now (text .entry)) (now (text .exit)) at r (sumsShown (now (rom .entry))) ⌝ }
+fn sums(text: &mut [u8], at: usize, fcode: &[u8]) -> usize
+    ensures { λ r. ⌜ Wrote (now (text .entry)) (now (text .exit)) at r (sumsShown (now (fcode .entry))) ⌝ }
 {
-    if bad_length(rom) {
+    if bad_length(fcode) {
         return at;
     }
-    sum_words(text, at, word16(rom, 2), body_sum(rom, program_length(rom)))
+    let field = word16(fcode, Spread::One, 2);
+    let length = program_length(fcode, Spread::One);
+    sum_words(text, at, field, body_sum(fcode, Spread::One, length))
 }
 
-fn sum_line(text: &mut [u8], at: usize, rom: &[u8]) -> usize
-    ensures { λ r. ⌜ Wrote (now (text .entry)) (now (text .exit)) at r (sumLine (now (rom .entry))) ⌝ }
+fn sum_line(text: &mut [u8], at: usize, fcode: &[u8]) -> usize
+    ensures { λ r. ⌜ Wrote (now (text .entry)) (now (text .exit)) at r (sumLine (now (fcode .entry))) ⌝ }
 {
     let at = say(text, at, b"checksum: ");
-    let at = hex_word(text, at, word16(rom, 2));
-    let at = sums(text, at, rom);
+    let at = hex_word(text, at, word16(fcode, Spread::One, 2));
+    let at = sums(text, at, fcode);
     letter(text, at, b'\n')
 }
 
@@ -129,28 +139,28 @@ fn size_line(text: &mut [u8], at: usize, size: u32) -> usize
 }
 
 // The fields of a header that is there.
-fn field_lines(text: &mut [u8], at: usize, rom: &[u8]) -> usize
-    ensures { λ r. ⌜ Wrote (now (text .entry)) (now (text .exit)) at r (fieldLines (now (rom .entry))) ⌝ }
+fn field_lines(text: &mut [u8], at: usize, fcode: &[u8]) -> usize
+    ensures { λ r. ⌜ Wrote (now (text .entry)) (now (text .exit)) at r (fieldLines (now (fcode .entry))) ⌝ }
 {
-    let at = start_line(text, at, rom);
-    let at = format_line(text, at, rom);
-    let at = length_line(text, at, rom);
-    sum_line(text, at, rom)
+    let at = start_line(text, at, fcode);
+    let at = format_line(text, at, fcode);
+    let at = length_line(text, at, fcode);
+    sum_line(text, at, fcode)
 }
 
-// A file's size, and the fields of its header where it can have one.
-pub fn header_lines(text: &mut [u8], at: usize, rom: &[u8]) -> usize
-    ensures { λ r. ⌜ Wrote (now (text .entry)) (now (text .exit)) at r (headerLines (now (rom .entry))) ⌝ }
+// A file's size, and the fields of its header where its FCode bytes have one. The size is that of the file, a spread's gaps too.
+pub fn header_lines(text: &mut [u8], at: usize, size: usize, fcode: &[u8]) -> usize
+    ensures { λ r. ⌜ Wrote (now (text .entry)) (now (text .exit)) at r (headerLines size (now (fcode .entry))) ⌝ }
 {
-    if ROM_MOST < rom.len() {
+    if ROM_MOST < size {
         let at = say(text, at, b"file: more than 65,536 bytes");
         return letter(text, at, b'\n');
     }
-    let at = size_line(text, at, rom.len() as u32);
-    if rom.len() < ROM_LEAST {
+    let at = size_line(text, at, size as u32);
+    if fcode.len() < ROM_LEAST {
         return at;
     }
-    field_lines(text, at, rom)
+    field_lines(text, at, fcode)
 }
 
 // Whether a value is text of 1 to 31 letters.
@@ -226,9 +236,9 @@ pub fn read_lines(text: &mut [u8], at: usize, store: &[u8], tree: Tree, node: u3
 }
 
 // How many pieces are no token of the list, what that means, and the line of the first of them.
-fn outside_lines(text: &mut [u8], at: usize, rom: &[u8], tally: Tally) -> usize
-    requires { ⌜ (tally .place ≤ tally .next) × (tally .next ≤ length (now rom)) ⌝ }
-    ensures { λ r. ⌜ Wrote (now (text .entry)) (now (text .exit)) at r (outsideLines (now (rom .entry)) tally) ⌝ }
+fn outside_lines(text: &mut [u8], at: usize, fcode: &[u8], tally: Tally) -> usize
+    requires { ⌜ (tally .place ≤ tally .next) × (tally .next ≤ length (now fcode)) ⌝ }
+    ensures { λ r. ⌜ Wrote (now (text .entry)) (now (text .exit)) at r (outsideLines (now (fcode .entry)) tally) ⌝ }
 {
     let at = say(text, at, b" pieces, ");
     let at = decimal(text, at, tally.raws);
@@ -239,13 +249,13 @@ fn outside_lines(text: &mut [u8], at: usize, rom: &[u8], tally: Tally) -> usize
         b". A board that uses such a token is outside the scope of this tool, not broken. The first:",
     );
     let at = letter(text, at, b'\n');
-    raw_line(text, at, rom, tally.place, tally.next)
+    raw_line(text, at, fcode, tally.place, tally.next)
 }
 
 // How many pieces there are, and how many of them are no token of the list.
-fn tally_lines(text: &mut [u8], at: usize, rom: &[u8], tally: Tally) -> usize
-    requires { ⌜ (tally .place ≤ tally .next) × (tally .next ≤ length (now rom)) ⌝ }
-    ensures { λ r. ⌜ Wrote (now (text .entry)) (now (text .exit)) at r (tallyLines (now (rom .entry)) tally) ⌝ }
+fn tally_lines(text: &mut [u8], at: usize, fcode: &[u8], tally: Tally) -> usize
+    requires { ⌜ (tally .place ≤ tally .next) × (tally .next ≤ length (now fcode)) ⌝ }
+    ensures { λ r. ⌜ Wrote (now (text .entry)) (now (text .exit)) at r (tallyLines (now (fcode .entry)) tally) ⌝ }
 {
     let at = say(text, at, b"program: ");
     let at = decimal(text, at, tally.pieces);
@@ -253,24 +263,24 @@ fn tally_lines(text: &mut [u8], at: usize, rom: &[u8], tally: Tally) -> usize
         let at = say(text, at, b" tokens, all of the list");
         return letter(text, at, b'\n');
     }
-    outside_lines(text, at, rom, tally)
+    outside_lines(text, at, fcode, tally)
 }
 
 // What a program is made of; more bytes than a ROM has are none.
-pub fn program_lines(text: &mut [u8], at: usize, rom: &[u8]) -> usize
-    ensures { λ r. ⌜ Wrote (now (text .entry)) (now (text .exit)) at r (programLines (now (rom .entry))) ⌝ }
+pub fn program_lines(text: &mut [u8], at: usize, fcode: &[u8]) -> usize
+    ensures { λ r. ⌜ Wrote (now (text .entry)) (now (text .exit)) at r (programLines (now (fcode .entry))) ⌝ }
 {
-    if ROM_MOST < rom.len() {
+    if ROM_MOST < fcode.len() {
         return at;
     }
-    tally_lines(text, at, rom, tally_of(rom))
+    tally_lines(text, at, fcode, tally_of(fcode))
 }
 
 // A place that is behind the program's last.
-fn end_line(text: &mut [u8], at: usize, rom: &[u8], place: u32) -> usize
-    ensures { λ r. ⌜ Wrote (now (text .entry)) (now (text .exit)) at r (endLine (now (rom .entry)) place) ⌝ }
+fn end_line(text: &mut [u8], at: usize, fcode: &[u8], place: u32) -> usize
+    ensures { λ r. ⌜ Wrote (now (text .entry)) (now (text .exit)) at r (endLine (now (fcode .entry)) place) ⌝ }
 {
-    if place < program_end(rom) {
+    if place < program_end(fcode, Spread::One) {
         return at;
     }
     let at = place_digits(text, at, place as usize);
@@ -279,12 +289,12 @@ fn end_line(text: &mut [u8], at: usize, rom: &[u8], place: u32) -> usize
 }
 
 // Where a run ended: the line of the token at its place.
-pub fn at_line(text: &mut [u8], at: usize, rom: &[u8], wide: bool, place: u32) -> usize
-    ensures { λ r. ⌜ Wrote (now (text .entry)) (now (text .exit)) at r (atLine (now (rom .entry)) wide place) ⌝ }
+pub fn at_line(text: &mut [u8], at: usize, fcode: &[u8], wide: bool, place: u32) -> usize
+    ensures { λ r. ⌜ Wrote (now (text .entry)) (now (text .exit)) at r (atLine (now (fcode .entry)) wide place) ⌝ }
 {
     let at = say(text, at, b"at: ");
-    let at = end_line(text, at, rom, place);
-    let told = piece_line(text, at, rom, wide, place);
+    let at = end_line(text, at, fcode, place);
+    let told = piece_line(text, at, fcode, wide, place);
     told.end
 }
 

@@ -15,9 +15,9 @@ fn opening_words(text: &mut [u8], at: usize, number: u32) -> usize
         1 => say(
             text,
             at,
-            b"the ROM has fewer than 8 or more than 65,536 bytes",
+            b"the ROM has fewer than 8 or more than 65,536 bytes, or fewer than its spread header",
         ),
-        2 => say(text, at, b"byte 0 is neither FD nor F1"),
+        2 => say(text, at, b"byte 0 is none of FD, F1, F2 and F3"),
         3 => say(text, at, b"byte 1 is not 08"),
         4 => say(
             text,

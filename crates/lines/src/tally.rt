@@ -2,11 +2,12 @@
 ghost use mathlib.Core.Path.{_≡_};
 ghost use Prim.Native.Nat.{_+_, _<_};
 ghost use Rattle.lines.specs.Tally.{rawMore, tokenMore, tallyOf};
+use rom::Spread;
 use rom::sizes::FIRST_PLACE;
 use rom::wide_start;
 use tokens::reader::Piece;
+use tokens::reader::piece_in;
 use tokens::reader::program_end;
-use tokens::reader::read_piece;
 
 // So many pieces, so many of them raw, and the first of those from a place up to another.
 pub struct Tally {
@@ -49,12 +50,12 @@ fn token_more(so: Tally) -> Tally
     }
 }
 
-// From piece to piece.
-pub fn tally_of(rom: &[u8]) -> Tally
-    ensures { λ r. ⌜ r ≡ tallyOf (now (rom .entry)) ⌝ }
+// From piece to piece of FCode bytes.
+pub fn tally_of(fcode: &[u8]) -> Tally
+    ensures { λ r. ⌜ r ≡ tallyOf (now (fcode .entry)) ⌝ }
 {
-    let length = program_end(rom);
-    let mut wide = wide_start(rom);
+    let length = program_end(fcode, Spread::One);
+    let mut wide = wide_start(fcode);
     let mut place = FIRST_PLACE as u32;
     let mut so = Tally {
         pieces: 0,
@@ -63,7 +64,7 @@ pub fn tally_of(rom: &[u8]) -> Tally
         next: 0,
     };
     while place < length {
-        match read_piece(rom, wide, place) {
+        match piece_in(fcode, Spread::One, wide, place) {
             Piece::End => {
                 return so;
             }

@@ -3,9 +3,10 @@ use Prim.Native.Nat.{ℕ}
 use mathlib.Core.Bool.{false}
 use mathlib.Core.List.{List, [], _∷_, _++_}
 use mathlib.Core.Path.{_≡_, refl}
-use lib.ListN.{replicate}
+use lib.ListN.{length, replicate}
 use Rattle.rom.specs.Words.{lettersOf}
 use Rattle.rom.specs.Branch.{aimOf}
+use Rattle.rom.specs.Spread.{secondsOf, fcodeOf}
 use Rattle.rom.specs.Sum.{sumOf}
 use Rattle.tokens.specs.Table.{ends, lows, highs, doubles, table, rowOf}
 use Rattle.tokens.specs.Code.{codeOf}
@@ -29,25 +30,48 @@ use Rattle.lines.specs.Explain.{tallyLines, programLines}
 use Rattle.lines.specs.Explain.{endLine, atLine, endWords, runLine, verdictLine}
 
 -- ---- headers: a good one, one whose sum differs, one whose length is past its bytes, and too few bytes for any
-good : headerLines (0xFD ∷ 0x08 ∷ 0x00 ∷ 0x46 ∷ 0x00 ∷ 0x00 ∷ 0x00 ∷ 0x0A ∷ 0x46 ∷ 0x00 ∷ [])
+good : headerLines 10 (0xFD ∷ 0x08 ∷ 0x00 ∷ 0x46 ∷ 0x00 ∷ 0x00 ∷ 0x00 ∷ 0x0A ∷ 0x46 ∷ 0x00 ∷ [])
     ≡ lettersOf "file: 10 bytes\nstart: FD, 8-bit branch offsets\nformat: 08\nlength: 10\nchecksum: 0046, as the program's bytes add up\n"
 unfolding headerLines sizeLine fieldLines startLine formatLine lengthLine sumLine sumOf decimalFrom hexWord lettersOf
 good = refl
 
-both-sums : headerLines (0xF1 ∷ 0x08 ∷ 0x00 ∷ 0x00 ∷ 0x00 ∷ 0x00 ∷ 0x00 ∷ 0x0A ∷ 0x46 ∷ 0x00 ∷ [])
+both-sums : headerLines 10 (0xF1 ∷ 0x08 ∷ 0x00 ∷ 0x00 ∷ 0x00 ∷ 0x00 ∷ 0x00 ∷ 0x0A ∷ 0x46 ∷ 0x00 ∷ [])
     ≡ lettersOf
     "file: 10 bytes\nstart: F1, 16-bit branch offsets\nformat: 08\nlength: 10\nchecksum: 0000, but the program's bytes add up to 0046\n"
 unfolding headerLines sizeLine fieldLines startLine formatLine lengthLine sumLine sumOf decimalFrom hexWord lettersOf
 both-sums = refl
 
-no-program : headerLines (0x12 ∷ 0x09 ∷ 0x00 ∷ 0x46 ∷ 0x00 ∷ 0x00 ∷ 0x00 ∷ 0x0B ∷ 0x46 ∷ 0x00 ∷ [])
+no-program : headerLines 10 (0x12 ∷ 0x09 ∷ 0x00 ∷ 0x46 ∷ 0x00 ∷ 0x00 ∷ 0x00 ∷ 0x0B ∷ 0x46 ∷ 0x00 ∷ [])
     ≡ lettersOf "file: 10 bytes\nstart: 12, which starts no FCode program\nformat: 09\nlength: 11\nchecksum: 0046\n"
 unfolding headerLines sizeLine fieldLines startLine formatLine lengthLine sumLine sumOf decimalFrom hexWord lettersOf
 no-program = refl
 
-too-few : headerLines (0xFD ∷ 0x08 ∷ 0x05 ∷ []) ≡ lettersOf "file: 3 bytes\n"
+too-few : headerLines 3 (0xFD ∷ 0x08 ∷ 0x05 ∷ []) ≡ lettersOf "file: 3 bytes\n"
 unfolding headerLines sizeLine decimalFrom lettersOf
 too-few = refl
+
+-- spread ones: 10 FCode bytes two apart take 19 bytes of a file, and four apart 37. A file of 15 bytes has 8 FCode bytes two apart, and 4
+-- four apart, which are no header
+two-apart : List ℕ
+two-apart =
+    0xF2 ∷ 0xFF ∷ 0x08 ∷ 0xFF ∷ 0x00 ∷ 0xFF ∷ 0x46 ∷ 0xFF ∷ 0x00 ∷ 0xFF ∷ 0x00 ∷ 0xFF ∷ 0x00 ∷ 0xFF ∷ 0x0A ∷ 0xFF ∷ 0x46 ∷ 0xFF ∷ 0x00 ∷
+    []
+
+spread-by-two : headerLines (length two-apart) (fcodeOf two-apart)
+    ≡ lettersOf "file: 19 bytes\nstart: F2, 16-bit branch offsets, bytes two apart\nformat: 08\nlength: 10\n"
+    ++ lettersOf "checksum: 0046, as the program's bytes add up\n"
+unfolding two-apart secondsOf headerLines sizeLine fieldLines startLine formatLine lengthLine sumLine sumOf decimalFrom hexWord lettersOf
+spread-by-two = refl
+
+spread-by-four : headerLines 37 (0xF3 ∷ 0x08 ∷ 0x00 ∷ 0x46 ∷ 0x00 ∷ 0x00 ∷ 0x00 ∷ 0x0A ∷ 0x46 ∷ 0x00 ∷ [])
+    ≡ lettersOf "file: 37 bytes\nstart: F3, 16-bit branch offsets, bytes four apart\nformat: 08\nlength: 10\n"
+    ++ lettersOf "checksum: 0046, as the program's bytes add up\n"
+unfolding headerLines sizeLine fieldLines startLine formatLine lengthLine sumLine sumOf decimalFrom hexWord lettersOf
+spread-by-four = refl
+
+no-spread-header : headerLines 15 (fcodeOf (0xF3 ∷ replicate 14 0xFF)) ≡ lettersOf "file: 15 bytes\n"
+unfolding secondsOf headerLines sizeLine decimalFrom lettersOf
+no-spread-header = refl
 
 -- ---- values: text, a number, text that is four bytes as well, other bytes, a null alone, none, and a null that is not the last byte
 a-text : readLine (lettersOf "name") (lettersOf "scale" ++ (0 ∷ [])) ≡ lettersOf "  name \"scale\" = 7363616C6500\n"

@@ -16,56 +16,56 @@ use Rattle.lines.specs.Tally.{tally, rawMore, tokenMore, tallyFrom, tall
 use Rattle.lines.specs.declared.tally.Tally.{Tally}
 
 -- where a piece ends
-module _ (rom : List ℕ) (wide : Bool) (p : ℕ) where
-  pub raw-ahead : (next : ℕ) → pieceOf rom wide p ≡ Raw next → (p < next) × (next ≤ endOf rom)
-  raw-ahead next e = let l = lies-as rom wide p (Raw next) e in (l .0, l .1)
+module _ (fcode : List ℕ) (wide : Bool) (p : ℕ) where
+  pub raw-ahead : (next : ℕ) → pieceOf fcode wide p ≡ Raw next → (p < next) × (next ≤ endOf fcode)
+  raw-ahead next e = let l = lies-as fcode wide p (Raw next) e in (l .0, l .1)
 
-  pub token-ahead : (t : Token) (s : ℕ) (w : Bool) → pieceOf rom wide p ≡ Listed t s w → (p < t .next) × (t .next ≤ endOf rom)
-  token-ahead t s w e = let l = lies-as rom wide p (Listed t s w) e in (past rom wide p t (l .1), l .1 .before)
+  pub token-ahead : (t : Token) (s : ℕ) (w : Bool) → pieceOf fcode wide p ≡ Listed t s w → (p < t .next) × (t .next ≤ endOf fcode)
+  token-ahead t s w e = let l = lies-as fcode wide p (Listed t s w) e in (past fcode wide p t (l .1), l .1 .before)
 
 -- by the piece that a walk has come to
-module _ (rom : List ℕ) (wide : Bool) (p : ℕ) (so : Tally) where
-  pub tally-end : pieceOf rom wide p ≡ End → tallyFrom so (walkAt rom wide p) ≡ so
+module _ (fcode : List ℕ) (wide : Bool) (p : ℕ) (so : Tally) where
+  pub tally-end : pieceOf fcode wide p ≡ End → tallyFrom so (walkAt fcode wide p) ≡ so
   unfolding tallyFrom
-  tally-end e = rw (walk-is rom wide p, e)
+  tally-end e = rw (walk-is fcode wide p, e)
 
-  pub tally-raw : (next : ℕ) → pieceOf rom wide p ≡ Raw next
-      → tallyFrom so (walkAt rom wide p) ≡ tallyFrom (rawMore so p next) (walkAt rom wide next)
+  pub tally-raw : (next : ℕ) → pieceOf fcode wide p ≡ Raw next
+      → tallyFrom so (walkAt fcode wide p) ≡ tallyFrom (rawMore so p next) (walkAt fcode wide next)
   unfolding tallyFrom
-  tally-raw next e = rw (walk-is rom wide p, e)
+  tally-raw next e = rw (walk-is fcode wide p, e)
 
-  pub tally-token : (t : Token) (s : ℕ) (w : Bool) → pieceOf rom wide p ≡ Listed t s w
-      → tallyFrom so (walkAt rom wide p) ≡ tallyFrom (tokenMore so) (walkAt rom w (t .next))
+  pub tally-token : (t : Token) (s : ℕ) (w : Bool) → pieceOf fcode wide p ≡ Listed t s w
+      → tallyFrom so (walkAt fcode wide p) ≡ tallyFrom (tokenMore so) (walkAt fcode w (t .next))
   unfolding tallyFrom
-  tally-token t s w e = rw (walk-is rom wide p, e)
+  tally-token t s w e = rw (walk-is fcode wide p, e)
 
 -- what a tally points at lies before the program's end
 abbrev pub LiesIn : ℕ → Tally → Type 0
 LiesIn end so = (so .place ≤ so .next) × (so .next ≤ end)
 
-module _ (rom : List ℕ) where
-  walk-lies : (k : ℕ) (wide : Bool) (p : ℕ) → p ≤ endOf rom → endOf rom - p ≤ k → (so : Tally) → LiesIn (endOf rom) so
-      → LiesIn (endOf rom) (tallyFrom so (walkFrom k rom wide p))
+module _ (fcode : List ℕ) where
+  walk-lies : (k : ℕ) (wide : Bool) (p : ℕ) → p ≤ endOf fcode → endOf fcode - p ≤ k → (so : Tally) → LiesIn (endOf fcode) so
+      → LiesIn (endOf fcode) (tallyFrom so (walkFrom k fcode wide p))
   unfolding tallyFrom
   walk-lies k wide p =
-      walk-holds rom (λ w q ss. (so : Tally) → LiesIn (endOf rom) so → LiesIn (endOf rom) (tallyFrom so ss))
+      walk-holds fcode (λ w q ss. (so : Tally) → LiesIn (endOf fcode) so → LiesIn (endOf fcode) (tallyFrom so ss))
       (λ w q e so l. l)
       (λ w q next ss e a b on so l. on (rawMore so q next) (first so q next l (omega arith) b))
       (λ w v q s t ss e b f on so l. on (tokenMore so) l)
       k wide p
     where
-      first : (so : Tally) (q next : ℕ) → LiesIn (endOf rom) so → q ≤ next → next ≤ endOf rom → LiesIn (endOf rom) (rawMore so q next)
+      first : (so : Tally) (q next : ℕ) → LiesIn (endOf fcode) so → q ≤ next → next ≤ endOf fcode → LiesIn (endOf fcode) (rawMore so q next)
       first so q next l a b =
           pick-both (eqb (so .raws) 0)
         where
-          pick-both : (z : Bool) → (pick z q (so .place) ≤ pick z next (so .next)) × (pick z next (so .next) ≤ endOf rom)
+          pick-both : (z : Bool) → (pick z q (so .place) ≤ pick z next (so .next)) × (pick z next (so .next) ≤ endOf fcode)
           pick-both true = (a, b)
           pick-both false = l
 
-  pub tally-lies : LiesIn (endOf rom) (tallyOf rom)
+  pub tally-lies : LiesIn (endOf fcode) (tallyOf fcode)
   unfolding walkFrom tallyFrom
   tally-lies =
-      elim (decLe 8 (endOf rom)) [
-        | yes h ↦ walk-lies (endOf rom - 8) (wideOf rom) 8 h (omega arith) (tally 0 0 0 0) (omega arith, omega arith)
-        | no h ↦ let e : endOf rom - 8 ≡ 0 = omega arith in rw e (omega arith, omega arith)
+      elim (decLe 8 (endOf fcode)) [
+        | yes h ↦ walk-lies (endOf fcode - 8) (wideOf fcode) 8 h (omega arith) (tally 0 0 0 0) (omega arith, omega arith)
+        | no h ↦ let e : endOf fcode - 8 ≡ 0 = omega arith in rw e (omega arith, omega arith)
       ]

@@ -48,11 +48,11 @@ use Rattle.lines.specs.declared.pieces.Cuts.{Cuts}
 abbrev pub Ordered : ℕ → Cuts → ℕ → Type 0
 Ordered start c next = (start ≤ c .first) × (c .first ≤ c .second) × (c .second ≤ c .third) × (c .third ≤ next)
 
-cuts-ordered : (rom : List ℕ) (wide : Bool) (start next form : ℕ) → next ≡ behindOf rom wide start form
-    → Ordered start (cutsOf rom start next form) next
+cuts-ordered : (fcode : List ℕ) (wide : Bool) (start next form : ℕ) → next ≡ behindOf fcode wide start form
+    → Ordered start (cutsOf fcode start next form) next
 unfolding behindOf
-cuts-ordered rom wide start next form e =
-    let b = behind-ahead rom wide start form in
+cuts-ordered fcode wide start next form e =
+    let b = behind-ahead fcode wide start form in
     pick-is (λ c. Ordered start c next) (eqb form string) _ _ (λ t. text (eqb→eq form string t))
     (λ t. pick-is (λ c. Ordered start c next) (eqb form head) _ _ (λ u. heads (eqb→eq form head u))
     (λ u. pick-is (λ c. Ordered start c next) (eqb form namedHead) _ _ (λ v. named (eqb→eq form namedHead v))
@@ -64,13 +64,13 @@ cuts-ordered rom wide start next form e =
     heads : form ≡ head → Ordered start (cuts (next - 1) next next) next
     heads f =
         let g = rw f at e in
-        let n = number-ahead rom start in
+        let n = number-ahead fcode start in
         (omega arith, omega arith, omega arith, omega arith)
 
-    named : form ≡ namedHead → Ordered start (cuts (start + 1) (behindString rom start) (next - 1)) next
+    named : form ≡ namedHead → Ordered start (cuts (start + 1) (behindString fcode start) (next - 1)) next
     named f =
         let g = rw f at e in
-        let n = number-ahead rom (behindString rom start) in
+        let n = number-ahead fcode (behindString fcode start) in
         (omega arith, omega arith, omega arith, omega arith)
 
 -- so the second of them, which a string's bytes are, lies in the ROM where the whole operand does
@@ -83,182 +83,182 @@ second-inside start c next size o h =
     (a, omega arith)
 
 -- a program's end is no further than the bytes that are lent
-pub end-inside : (rom : List ℕ) → endOf rom ≤ length rom
-end-inside rom =
-    pick-is (λ n. n ≤ length rom) (ltb (length rom) (lengthOf rom)) (length rom) (lengthOf rom) (λ t. omega arith)
+pub end-inside : (fcode : List ℕ) → endOf fcode ≤ length fcode
+end-inside fcode =
+    pick-is (λ n. n ≤ length fcode) (ltb (length fcode) (lengthOf fcode)) (length fcode) (lengthOf fcode) (λ t. omega arith)
     (λ t. omega (arith, tests))
 
 -- an operand as it lies in a ROM, and a token of the list with it
 abbrev pub OperandLies : List ℕ → ℕ → Token → Type 0
-OperandLies rom start t = (start ≤ romMost) × (0 < t .next) × (t .next ≤ length rom) × Ordered start (tokenCuts rom start t) (t .next)
+OperandLies fcode start t = (start ≤ romMost) × (0 < t .next) × (t .next ≤ length fcode) × Ordered start (tokenCuts fcode start t) (t .next)
 
 abbrev pub TokenLies : List ℕ → ℕ → ℕ → Token → Type 0
-TokenLies rom p start t = (p ≤ start) × (start ≤ length rom) × OperandLies rom start t
+TokenLies fcode p start t = (p ≤ start) × (start ≤ length fcode) × OperandLies fcode start t
 
-module _ (rom : List ℕ) (wide : Bool) (p : ℕ) where
-  pub raw-lies : (next : ℕ) → pieceOf rom wide p ≡ Raw next → (p ≤ next) × (next ≤ length rom)
+module _ (fcode : List ℕ) (wide : Bool) (p : ℕ) where
+  pub raw-lies : (next : ℕ) → pieceOf fcode wide p ≡ Raw next → (p ≤ next) × (next ≤ length fcode)
   raw-lies next e =
-      let l = lies-as rom wide p (Raw next) e in
+      let l = lies-as fcode wide p (Raw next) e in
       let a = l .0 in
       let b = l .1 in
-      let i = end-inside rom in
+      let i = end-inside fcode in
       (omega arith, omega arith)
 
-  pub listed-lies : length rom ≤ romMost → (t : Token) (s : ℕ) (w : Bool) → pieceOf rom wide p ≡ Listed t s w → TokenLies rom p s t
+  pub listed-lies : length fcode ≤ romMost → (t : Token) (s : ℕ) (w : Bool) → pieceOf fcode wide p ≡ Listed t s w → TokenLies fcode p s t
   listed-lies few t s w e =
-      let l = lies-as rom wide p (Listed t s w) e in
+      let l = lies-as fcode wide p (Listed t s w) e in
       let f = l .1 in
-      let n = number-ahead rom p in
+      let n = number-ahead fcode p in
       let b = f .before in
-      let i = end-inside rom in
+      let i = end-inside fcode in
       let st = f .starts in
       let at = l .0 in (
         omega arith,
         omega arith,
-        (omega arith, omega arith, omega arith, cuts-ordered rom wide s (t .next) (formIn (t .code)) (rw at (f .ends))),
+        (omega arith, omega arith, omega arith, cuts-ordered fcode wide s (t .next) (formIn (t .code)) (rw at (f .ends))),
       )
 
 -- ---- the bytes that are shown
-between-join : (rom : List ℕ) (a b c : ℕ) → a ≤ b → b ≤ c → between rom a b ++ between rom b c ≡ between rom a c
-between-join rom a b c h g =
+between-join : (fcode : List ℕ) (a b c : ℕ) → a ≤ b → b ≤ c → between fcode a b ++ between fcode b c ≡ between fcode a c
+between-join fcode a b c h g =
     let e : a + (b - a) ≡ b = omega arith in
     let f : b - a + (c - b) ≡ c - a = omega arith in
-    rw f at (rw e at (part-join rom a (b - a) (c - b)))
+    rw f at (rw e at (part-join fcode a (b - a) (c - b)))
 
-joined-parts : (rom : List ℕ) (start : ℕ) (c : Cuts) (next : ℕ) → Ordered start c next
-    → partsJoined (partsAt rom start c next) ≡ between rom start next
+joined-parts : (fcode : List ℕ) (start : ℕ) (c : Cuts) (next : ℕ) → Ordered start c next
+    → partsJoined (partsAt fcode start c next) ≡ between fcode start next
 unfolding partsJoined
-joined-parts rom start c next o =
+joined-parts fcode start c next o =
     let h = o .0 in
     let i = o .1 in
     let j = o .2 in
     let k = o .3 in
     rw (
-      append-nil (between rom (c .third) next),
-      between-join rom (c .second) (c .third) next j k,
-      between-join rom (c .first) (c .second) next i (omega arith),
+      append-nil (between fcode (c .third) next),
+      between-join fcode (c .second) (c .third) next j k,
+      between-join fcode (c .first) (c .second) next i (omega arith),
     )
-    (between-join rom start (c .first) next h (omega arith))
+    (between-join fcode start (c .first) next h (omega arith))
 
 -- the bytes of a line are those of its stretch
-raw-bytes : (rom : List ℕ) (p next : ℕ) → lineBytes (rawLine rom p next) ≡ between rom p next
+raw-bytes : (fcode : List ℕ) (p next : ℕ) → lineBytes (rawLine fcode p next) ≡ between fcode p next
 unfolding partsJoined
-raw-bytes rom p next = append-nil (between rom p next)
+raw-bytes fcode p next = append-nil (between fcode p next)
 
-token-bytes : (rom : List ℕ) (wide : Bool) (p start : ℕ) (t : Token) → start ≡ behindNumber rom p → Formed rom (endOf rom) wide p t
-    → lineBytes (tokenLine rom p start t) ≡ between rom p (t .next)
+token-bytes : (fcode : List ℕ) (wide : Bool) (p start : ℕ) (t : Token) → start ≡ behindNumber fcode p → Formed fcode (endOf fcode) wide p t
+    → lineBytes (tokenLine fcode p start t) ≡ between fcode p (t .next)
 unfolding partsJoined
-token-bytes rom wide p start t e f =
-    let n = number-ahead rom p in
+token-bytes fcode wide p start t e f =
+    let n = number-ahead fcode p in
     let x = f .starts in
-    let o = cuts-ordered rom wide start (t .next) (formIn (t .code)) (rw e (f .ends)) in
-    rw (append-nil (between rom p start), joined-parts rom start (tokenCuts rom start t) (t .next) o)
-    (between-join rom p start (t .next) (omega arith) (omega arith))
+    let o = cuts-ordered fcode wide start (t .next) (formIn (t .code)) (rw e (f .ends)) in
+    rw (append-nil (between fcode p start), joined-parts fcode start (tokenCuts fcode start t) (t .next) o)
+    (between-join fcode p start (t .next) (omega arith) (omega arith))
 
-module _ (rom : List ℕ) where
+module _ (fcode : List ℕ) where
   -- each line shows the bytes from its place to the next
-  own-bytes : (k : ℕ) (wide : Bool) (p : ℕ) → p ≤ endOf rom → endOf rom - p ≤ k → OwnBytes rom (walkFrom k rom wide p)
+  own-bytes : (k : ℕ) (wide : Bool) (p : ℕ) → p ≤ endOf fcode → endOf fcode - p ≤ k → OwnBytes fcode (walkFrom k fcode wide p)
   own-bytes k wide p =
-      walk-holds rom (λ w q ss. OwnBytes rom ss) (λ w q e. tt) (λ w q next ss e a b on. (raw-bytes rom q next, on))
-      (λ w v q s t ss e b f on. (token-bytes rom w q s t b f, on)) k wide p
+      walk-holds fcode (λ w q ss. OwnBytes fcode ss) (λ w q e. tt) (λ w q next ss e a b on. (raw-bytes fcode q next, on))
+      (λ w v q s t ss e b f on. (token-bytes fcode w q s t b f, on)) k wide p
 
   -- so they show every byte once and in order, from the first place to the end
-  bytes-shown : (k : ℕ) (wide : Bool) (p : ℕ) → p ≤ endOf rom → endOf rom - p ≤ k
-      → bytesShown rom (walkFrom k rom wide p) ≡ between rom p (endOf rom)
+  bytes-shown : (k : ℕ) (wide : Bool) (p : ℕ) → p ≤ endOf fcode → endOf fcode - p ≤ k
+      → bytesShown fcode (walkFrom k fcode wide p) ≡ between fcode p (endOf fcode)
   unfolding bytesShown
   bytes-shown k wide p =
-      walk-holds rom (λ w q ss. bytesShown rom ss ≡ between rom q (endOf rom)) (λ w q e. nothing q e)
-      (λ w q next ss e a b on. rw (raw-bytes rom q next, on) (between-join rom q next (endOf rom) (omega arith) b))
+      walk-holds fcode (λ w q ss. bytesShown fcode ss ≡ between fcode q (endOf fcode)) (λ w q e. nothing q e)
+      (λ w q next ss e a b on. rw (raw-bytes fcode q next, on) (between-join fcode q next (endOf fcode) (omega arith) b))
       (λ w v q s t ss e b f on.
-      let n = number-ahead rom q in
+      let n = number-ahead fcode q in
       let x = f .starts in
       let y = f .before in
-      rw (token-bytes rom w q s t b f, on) (between-join rom q (t .next) (endOf rom) (omega arith) y))
+      rw (token-bytes fcode w q s t b f, on) (between-join fcode q (t .next) (endOf fcode) (omega arith) y))
       k wide p
     where
-      nothing : (q : ℕ) → q ≡ endOf rom → [] ≡ between rom q (endOf rom)
-      nothing q e = let f : endOf rom - q ≡ 0 = omega arith in rw f
+      nothing : (q : ℕ) → q ≡ endOf fcode → [] ≡ between fcode q (endOf fcode)
+      nothing q e = let f : endOf fcode - q ≡ 0 = omega arith in rw f
 
 -- ---- a line at a time
-module _ (rom : List ℕ) (few : length rom ≤ romMost) (wide : Bool) (p : ℕ) where
-  pub listed-is : listedAt rom wide p ≡ pieceOf rom wide p
-  listed-is = rw (le-ltb romMost (length rom) few)
+module _ (fcode : List ℕ) (few : length fcode ≤ romMost) (wide : Bool) (p : ℕ) where
+  pub listed-is : listedAt fcode wide p ≡ pieceOf fcode wide p
+  listed-is = rw (le-ltb romMost (length fcode) few)
 
   -- the lines of a walk are the line at its place, and those of the walk from the next place on
-  pub lines-on : pieceLines rom (walkAt rom wide p)
-      ≡ pieceText rom wide p ++ pieceLines rom (walkAt rom (wideBehind rom wide p) (nextOf rom wide p))
+  pub lines-on : pieceLines fcode (walkAt fcode wide p)
+      ≡ pieceText fcode wide p ++ pieceLines fcode (walkAt fcode (wideBehind fcode wide p) (nextOf fcode wide p))
   unfolding pieceLines pieceText nextOf wideBehind
-  lines-on = rw (listed-is) (by (pieceOf rom wide p) refl)
+  lines-on = rw (listed-is) (by (pieceOf fcode wide p) refl)
     where
-      by : (x : Piece) → pieceOf rom wide p ≡ x
-          → pieceLines rom (walkAt rom wide p) ≡ textIn rom p x ++ pieceLines rom (walkAt rom (wideIn wide x) (nextIn p x))
+      by : (x : Piece) → pieceOf fcode wide p ≡ x
+          → pieceLines fcode (walkAt fcode wide p) ≡ textIn fcode p x ++ pieceLines fcode (walkAt fcode (wideIn wide x) (nextIn p x))
       by End e = refl
-      by (Raw next) e = rw (walk-is rom wide p, e)
-      by (Listed t s w) e = rw (walk-is rom wide p, e)
+      by (Raw next) e = rw (walk-is fcode wide p, e)
+      by (Listed t s w) e = rw (walk-is fcode wide p, e)
 
   -- the place stays at the program's end, and before it goes on
-  pub next-stays : endOf rom ≤ p → nextOf rom wide p ≡ p
+  pub next-stays : endOf fcode ≤ p → nextOf fcode wide p ≡ p
   unfolding nextOf
-  next-stays h = rw (listed-is, piece-end rom wide p h)
+  next-stays h = rw (listed-is, piece-end fcode wide p h)
 
-  pub next-ahead : p < endOf rom → (p < nextOf rom wide p) × (nextOf rom wide p ≤ endOf rom)
+  pub next-ahead : p < endOf fcode → (p < nextOf fcode wide p) × (nextOf fcode wide p ≤ endOf fcode)
   unfolding nextOf
-  next-ahead h = rw (listed-is) (by (pieceOf rom wide p) (lies-as rom wide p (pieceOf rom wide p) refl))
+  next-ahead h = rw (listed-is) (by (pieceOf fcode wide p) (lies-as fcode wide p (pieceOf fcode wide p) refl))
     where
-      by : (x : Piece) → Lies rom wide p x → (p < nextIn p x) × (nextIn p x ≤ endOf rom)
+      by : (x : Piece) → Lies fcode wide p x → (p < nextIn p x) × (nextIn p x ≤ endOf fcode)
       by End l = absurd (omega arith)
       by (Raw next) l = l
-      by (Listed t s w) l = (past rom wide p t (l .1), l .1 .before)
+      by (Listed t s w) l = (past fcode wide p t (l .1), l .1 .before)
 
 -- so many lines from a place on as there are bytes left, or more, are all lines from there on
-lines-all : (rom : List ℕ) → length rom ≤ romMost → (k : ℕ) (wide : Bool) (p : ℕ) → endOf rom - p ≤ k
-    → linesFrom k rom wide p ≡ pieceLines rom (walkAt rom wide p)
+lines-all : (fcode : List ℕ) → length fcode ≤ romMost → (k : ℕ) (wide : Bool) (p : ℕ) → endOf fcode - p ≤ k
+    → linesFrom k fcode wide p ≡ pieceLines fcode (walkAt fcode wide p)
 unfolding linesFrom walkFrom pieceLines
-lines-all rom few zero wide p m = let e : endOf rom - p ≡ 0 = omega arith in rw e
-lines-all rom few (suc k) wide p m =
-    let nearer : endOf rom - nextOf rom wide p ≤ k =
-    elim (decLt p (endOf rom)) [
-      | yes l ↦ let n = next-ahead rom few wide p l .0 in omega arith
-      | no l ↦ let n = next-stays rom few wide p (omega arith) in omega arith
+lines-all fcode few zero wide p m = let e : endOf fcode - p ≡ 0 = omega arith in rw e
+lines-all fcode few (suc k) wide p m =
+    let nearer : endOf fcode - nextOf fcode wide p ≤ k =
+    elim (decLt p (endOf fcode)) [
+      | yes l ↦ let n = next-ahead fcode few wide p l .0 in omega arith
+      | no l ↦ let n = next-stays fcode few wide p (omega arith) in omega arith
     ]
     in
-    rw (lines-all rom few k (wideBehind rom wide p) (nextOf rom wide p) nearer) (sym (lines-on rom few wide p))
+    rw (lines-all fcode few k (wideBehind fcode wide p) (nextOf fcode wide p) nearer) (sym (lines-on fcode few wide p))
 
 -- ---- a ROM with a good header
-module _ (rom : List ℕ) (good : headerOf rom ≡ 0) where
-  starts-inside : 8 ≤ endOf rom
+module _ (fcode : List ℕ) (good : headerOf fcode ≡ 0) where
+  starts-inside : 8 ≤ endOf fcode
   starts-inside =
-      let l = header-facts rom good .least in
-      let e = good-end rom good in
+      let l = header-facts fcode good .least in
+      let e = good-end fcode good in
       omega arith
 
   -- every line of the program shows its own bytes, and all of them together the program's, from place 8 to the length
-  pub program-lines : OwnBytes rom (walkOf rom)
-  program-lines = own-bytes rom (endOf rom - 8) (wideOf rom) 8 starts-inside (omega arith)
+  pub program-lines : OwnBytes fcode (walkOf fcode)
+  program-lines = own-bytes fcode (endOf fcode - 8) (wideOf fcode) 8 starts-inside (omega arith)
 
-  pub program-bytes : bytesShown rom (walkOf rom) ≡ between rom 8 (lengthOf rom)
-  program-bytes = bytes-shown rom (endOf rom - 8) (wideOf rom) 8 starts-inside (omega arith) ∙ rw (good-end rom good)
+  pub program-bytes : bytesShown fcode (walkOf fcode) ≡ between fcode 8 (lengthOf fcode)
+  program-bytes = bytes-shown fcode (endOf fcode - 8) (wideOf fcode) 8 starts-inside (omega arith) ∙ rw (good-end fcode good)
 
   -- the list is its lines, written one by one from place 8 on, as many as the program has bytes or more: from its end on there are none
-  pub line-by-line : (k : ℕ) → lengthOf rom - 8 ≤ k → linesFrom k rom (wideOf rom) 8 ≡ tokenText rom
+  pub line-by-line : (k : ℕ) → lengthOf fcode - 8 ≤ k → linesFrom k fcode (wideOf fcode) 8 ≡ tokenText fcode
   unfolding tokenText
   line-by-line k h =
-      let e = good-end rom good in
-      rw (eq-eqb (headerOf rom) 0 good) (lines-all rom (header-facts rom good .romTo) k (wideOf rom) 8 (omega arith))
+      let e = good-end fcode good in
+      rw (eq-eqb (headerOf fcode) 0 good) (lines-all fcode (header-facts fcode good .romTo) k (wideOf fcode) 8 (omega arith))
 
 -- ---- how long a line can be
 -- a token has a number of at most two bytes and an operand of at most 260
-module _ (rom : List ℕ) (bytes : (i : ℕ) → byteOf rom i < 256) where
-  number-near : (p : ℕ) → behindNumber rom p ≤ p + 2
-  number-near p = pick-is (λ n. p + n ≤ p + 2) (isDouble (byteOf rom p)) 2 1 (λ t. omega arith) (λ t. omega arith)
+module _ (fcode : List ℕ) (bytes : (i : ℕ) → byteOf fcode i < 256) where
+  number-near : (p : ℕ) → behindNumber fcode p ≤ p + 2
+  number-near p = pick-is (λ n. p + n ≤ p + 2) (isDouble (byteOf fcode p)) 2 1 (λ t. omega arith) (λ t. omega arith)
 
-  behind-near : (wide : Bool) (p form : ℕ) → behindOf rom wide p form ≤ p + 260
+  behind-near : (wide : Bool) (p form : ℕ) → behindOf fcode wide p form ≤ p + 260
   unfolding behindOf
   behind-near wide p form =
       let b = bytes p in
       let n = number-near p in
-      let m = number-near (behindString rom p) in
-      find-is (λ q. q ≤ p + 260) (behinds rom wide p) p form (
+      let m = number-near (behindString fcode p) in
+      find-is (λ q. q ≤ p + 260) (behinds fcode wide p) p form (
         omega arith,
         (
           omega arith,
@@ -276,50 +276,50 @@ module _ (rom : List ℕ) (bytes : (i : ℕ) → byteOf rom i < 256) where
   Near p (Raw next) = next ≤ p + 262
   Near p (Listed t s w) = (s ≤ p + 2) × (t .next ≤ s + 260)
 
-  piece-near : (wide : Bool) (p : ℕ) → Near p (pieceOf rom wide p)
+  piece-near : (wide : Bool) (p : ℕ) → Near p (pieceOf fcode wide p)
   unfolding pieceOf decodeOf tokenIfWhole
   piece-near wide p =
-      let end = endOf rom in
-      let start = behindNumber rom p in
-      let code = codeOf (numberOf rom p) in
-      let next = behindOf rom wide start (formIn code) in
-      let o = operandOf rom end wide start (formIn code) in
+      let end = endOf fcode in
+      let start = behindNumber fcode p in
+      let code = codeOf (numberOf fcode p) in
+      let next = behindOf fcode wide start (formIn code) in
+      let o = operandOf fcode end wide start (formIn code) in
       let n = number-near p in
       let b = behind-near wide start (formIn code) in
-      let In : Decoded → Type 0 = λ d. Near p (pieceIn rom end wide p d) in
+      let In : Decoded → Type 0 = λ d. Near p (pieceIn fcode end wide p d) in
       pick-is (Near p) (leb end p) End _ (λ t. tt)
       (λ t. pick-is In (ltb end next) Cut _ (λ u. omega (arith, tests))
-      (λ u. pick-is In (listed code o) (Whole (tokenOf (numberOf rom p) code o next)) (Unlisted code) (λ v. (n, b)) (λ v. omega arith)))
+      (λ u. pick-is In (listed code o) (Whole (tokenOf (numberOf fcode p) code o next)) (Unlisted code) (λ v. (n, b)) (λ v. omega arith)))
 
-length-between : (rom : List ℕ) (from to : ℕ) → length (between rom from to) ≤ to - from
-length-between rom from to = let a = length-take (to - from) (drop from rom) in omega arith
+length-between : (fcode : List ℕ) (from to : ℕ) → length (between fcode from to) ≤ to - from
+length-between fcode from to = let a = length-take (to - from) (drop from fcode) in omega arith
 
-shown-between : (rom : List ℕ) (from to : ℕ) → length (shown (between rom from to)) ≤ 2 * (to - from) + 1
-shown-between rom from to =
-    let a = length-shown (between rom from to) .0 in
-    let b = length-between rom from to in
+shown-between : (fcode : List ℕ) (from to : ℕ) → length (shown (between fcode from to)) ≤ 2 * (to - from) + 1
+shown-between fcode from to =
+    let a = length-shown (between fcode from to) .0 in
+    let b = length-between fcode from to in
     omega arith
 
 length-one : (x : List ℕ) → length (allShown (x ∷ [])) ≡ length (shown x)
 unfolding allShown
 length-one x = ap length (append-nil (shown x))
 
-length-parts : (rom : List ℕ) (start : ℕ) (c : Cuts) (next : ℕ) → Ordered start c next
-    → length (allShown (partsAt rom start c next)) ≤ 2 * (next - start) + 4
+length-parts : (fcode : List ℕ) (start : ℕ) (c : Cuts) (next : ℕ) → Ordered start c next
+    → length (allShown (partsAt fcode start c next)) ≤ 2 * (next - start) + 4
 unfolding allShown
-length-parts rom start c next o =
-    let x = shown (between rom start (c .first)) in
-    let y = shown (between rom (c .first) (c .second)) in
-    let z = shown (between rom (c .second) (c .third)) in
-    let v = shown (between rom (c .third) next) in
+length-parts fcode start c next o =
+    let x = shown (between fcode start (c .first)) in
+    let y = shown (between fcode (c .first) (c .second)) in
+    let z = shown (between fcode (c .second) (c .third)) in
+    let v = shown (between fcode (c .third) next) in
     let d = length-append v [] in
     let e = length-append z (v ++ []) in
     let f = length-append y (z ++ (v ++ [])) in
     let g = length-append x (y ++ (z ++ (v ++ []))) in
-    let h = shown-between rom start (c .first) in
-    let i = shown-between rom (c .first) (c .second) in
-    let j = shown-between rom (c .second) (c .third) in
-    let k = shown-between rom (c .third) next in
+    let h = shown-between fcode start (c .first) in
+    let i = shown-between fcode (c .first) (c .second) in
+    let j = shown-between fcode (c .second) (c .third) in
+    let k = shown-between fcode (c .third) next in
     let l = o .0 in
     let m = o .1 in
     let n = o .2 in
@@ -355,21 +355,21 @@ length-quoted bs =
     pick-is (λ z. length z ≤ length bs + 3) (allPrinted bs) (lettersOf " \"" ++ (bs ++ lettersOf "\"")) [] (λ t. omega arith)
     (λ t. omega arith)
 
-length-string : (rom : List ℕ) (start : ℕ) (c : Cuts) (next form : ℕ) → Ordered start c next
-    → length (stringRemark rom c form) ≤ next - start + 3
-length-string rom start c next form o =
-    let bs = between rom (c .first) (c .second) in
+length-string : (fcode : List ℕ) (start : ℕ) (c : Cuts) (next form : ℕ) → Ordered start c next
+    → length (stringRemark fcode c form) ≤ next - start + 3
+length-string fcode start c next form o =
+    let bs = between fcode (c .first) (c .second) in
     let a = length-quoted bs in
-    let b = length-between rom (c .first) (c .second) in
+    let b = length-between fcode (c .first) (c .second) in
     let l = o .0 in
     let m = o .1 in
     let n = o .2 in
     let q = o .3 in
     pick-is (λ z. length z ≤ next - start + 3) (eqb form string || eqb form namedHead) (quoted bs) [] (λ t. omega arith) (λ t. omega arith)
 
-length-raw : (rom : List ℕ) (next : ℕ) → length (rawRemark rom next) ≤ 58
+length-raw : (fcode : List ℕ) (next : ℕ) → length (rawRemark fcode next) ≤ 58
 unfolding lettersOf
-length-raw rom next = pick-is (λ z. length z ≤ 58) (ltb next (endOf rom)) _ [] (λ t. omega arith) (λ t. omega arith)
+length-raw fcode next = pick-is (λ z. length z ≤ 58) (ltb next (endOf fcode)) _ [] (λ t. omega arith) (λ t. omega arith)
 
 -- what a line has beside its parts
 length-line : (l : Line)
@@ -386,41 +386,41 @@ length-line l =
     let f = length-append (placeText (l .place)) (number ++ (lettersOf " " ++ (l .word ++ ((rest ++ l .remark) ++ lineEnd)))) in
     omega arith
 
-raw-short : (rom : List ℕ) (p next : ℕ) → next ≤ p + 262 → length (lineText (rawLine rom p next)) ≤ lineMost
+raw-short : (fcode : List ℕ) (p next : ℕ) → next ≤ p + 262 → length (lineText (rawLine fcode p next)) ≤ lineMost
 unfolding allShown lettersOf
-raw-short rom p next h =
-    let a = length-line (rawLine rom p next) in
-    let b = length-one (between rom p next) in
-    let c = shown-between rom p next in
-    let d = length-raw rom next in
+raw-short fcode p next h =
+    let a = length-line (rawLine fcode p next) in
+    let b = length-one (between fcode p next) in
+    let c = shown-between fcode p next in
+    let d = length-raw fcode next in
     omega arith
 
-token-short : (rom : List ℕ) (p start : ℕ) (t : Token) → start ≤ p + 2 → t .next ≤ start + 260
-    → Ordered start (tokenCuts rom start t) (t .next) → length (lineText (tokenLine rom p start t)) ≤ lineMost
-token-short rom p start t near ends o =
+token-short : (fcode : List ℕ) (p start : ℕ) (t : Token) → start ≤ p + 2 → t .next ≤ start + 260
+    → Ordered start (tokenCuts fcode start t) (t .next) → length (lineText (tokenLine fcode p start t)) ≤ lineMost
+token-short fcode p start t near ends o =
     let branch = branchRemark (t .operand) in
-    let string = stringRemark rom (tokenCuts rom start t) (formIn (t .code)) in
-    let a = length-line (tokenLine rom p start t) in
-    let b = length-one (between rom p start) in
-    let c = shown-between rom p start in
+    let string = stringRemark fcode (tokenCuts fcode start t) (formIn (t .code)) in
+    let a = length-line (tokenLine fcode p start t) in
+    let b = length-one (between fcode p start) in
+    let c = shown-between fcode p start in
     let d = name-size (t .number) in
-    let e = length-parts rom start (tokenCuts rom start t) (t .next) o in
+    let e = length-parts fcode start (tokenCuts fcode start t) (t .next) o in
     let f = length-append branch string in
     let g = length-branch (t .operand) in
-    let h = length-string rom start (tokenCuts rom start t) (t .next) (formIn (t .code)) o in
+    let h = length-string fcode start (tokenCuts fcode start t) (t .next) (formIn (t .code)) o in
     omega arith
 
 -- no line is longer than that, whatever the bytes are
-pub line-short : (rom : List ℕ) (wide : Bool) (p : ℕ) → ((i : ℕ) → byteOf rom i < 256) → length (pieceText rom wide p) ≤ lineMost
+pub line-short : (fcode : List ℕ) (wide : Bool) (p : ℕ) → ((i : ℕ) → byteOf fcode i < 256) → length (pieceText fcode wide p) ≤ lineMost
 unfolding pieceText
-line-short rom wide p bytes =
-    pick-is (λ x. length (textIn rom p x) ≤ lineMost) (ltb romMost (length rom)) End (pieceOf rom wide p) (λ t. omega arith)
-    (λ t. by (pieceOf rom wide p) refl (piece-near rom bytes wide p))
+line-short fcode wide p bytes =
+    pick-is (λ x. length (textIn fcode p x) ≤ lineMost) (ltb romMost (length fcode)) End (pieceOf fcode wide p) (λ t. omega arith)
+    (λ t. by (pieceOf fcode wide p) refl (piece-near fcode bytes wide p))
   where
-    by : (x : Piece) → pieceOf rom wide p ≡ x → Near rom bytes p x → length (textIn rom p x) ≤ lineMost
+    by : (x : Piece) → pieceOf fcode wide p ≡ x → Near fcode bytes p x → length (textIn fcode p x) ≤ lineMost
     by End e n = omega arith
-    by (Raw next) e n = raw-short rom p next n
+    by (Raw next) e n = raw-short fcode p next n
     by (Listed t s w) e n =
-        let l = lies-as rom wide p (Listed t s w) e in
+        let l = lies-as fcode wide p (Listed t s w) e in
         let at = l .0 in
-        token-short rom p s t (n .0) (n .1) (cuts-ordered rom wide s (t .next) (formIn (t .code)) (rw at (l .1 .ends)))
+        token-short fcode p s t (n .0) (n .1) (cuts-ordered fcode wide s (t .next) (formIn (t .code)) (rw at (l .1 .ends)))

@@ -7,10 +7,10 @@ use Rattle.lamp.proofs.show.print_pieces.Statement.{statement}
 use Rattle.lamp.proofs.show.print_pieces.Tie as tie
 
 abbrev Inv-loop : tie.InvT-loop
-Inv-loop rom text₀ at₀ wide₀ place₀ k₀ text at wide place k = length text ≡ length text₀
+Inv-loop fcode text₀ at₀ wide₀ place₀ k₀ text at wide place k = length text ≡ length text₀
 
 abbrev μ-loop : tie.MeasureT-loop
-μ-loop rom text₀ at₀ wide₀ place₀ k₀ text at wide place k = length rom - k
+μ-loop fcode text₀ at₀ wide₀ place₀ k₀ text at wide place k = length fcode - k
 
 pub print-pieces-spec : {M : Type 1} → statement M
 print-pieces-spec =

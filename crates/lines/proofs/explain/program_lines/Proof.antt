@@ -18,7 +18,9 @@ program-lines-spec =
     (λ c κs. search needs)
     (λ c κs.
     let args = c .before .before .before .before .before .args in
-    let l = tally-lies (now (args .rom)) in let e = end-inside (now (args .rom)) in rw (c .tally-of .ensures) (l .0, omega (arith, l .1)))
+    let l = tally-lies (now (args .fcode)) in
+    let e = end-inside (now (args .fcode)) in
+    rw (c .tally-of .ensures) (l .0, omega (arith, l .1)))
     (λ c. search needs)
     (λ c.
     let tally-lines = c .before .before .tally-lines in

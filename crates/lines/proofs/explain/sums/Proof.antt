@@ -18,8 +18,8 @@ sums-spec =
     (λ c.
     let sum-words = c .before .before .sum-words in
     let body-sum = c .before .before .before .body-sum in
-    let program-length = c .before .before .before .before .program-length in
-    let word16 = c .before .before .before .before .before .word16 in
+    let program-length = c .before .before .before .before .before .program-length in
+    let word16 = c .before .before .before .before .before .before .word16 in
     let if1 = c .before .before .before .before .before .before .before .if1 in
     let bad-length = c .before .before .before .before .before .before .before .before .bad-length in
     rw (sym (bad-length .ensures) ∙ if1 .left, ← word16 .ensures, ← program-length .ensures, ← body-sum .ensures) (sum-words .ensures)))

@@ -18,39 +18,39 @@ piece-line-spec =
     (tie.spec
     (λ c.
     let args = c .before .before .before .args in
-    rw (lt-ltb romMost (length (now (args .rom))) (omega arith)) (wrote-none, refl, refl))
+    rw (lt-ltb romMost (length (now (args .fcode))) (omega arith)) (wrote-none, refl, refl))
     (λ c κs. search needs)
     (λ c. search needs)
     (λ c. search needs)
     (λ c κs.
     let next = c .before .before .next in
-    let read-piece = c .before .before .before .before .read-piece in
+    let piece-in = c .before .before .before .before .piece-in in
     let a = c .before .before .before .before .before .before .before .before .args in
-    raw-lies (now (a .rom)) (a .wide) (a .place) _ (sym (read-piece .ensures) ∙ next .given .1))
+    raw-lies (now (a .fcode)) (a .wide) (a .place) _ (sym (piece-in .ensures) ∙ next .given .1))
     (λ c. search needs)
     (λ c κs.
     let token = c .before .before .token in
-    let read-piece = c .before .before .before .before .read-piece in
+    let piece-in = c .before .before .before .before .piece-in in
     let a = c .before .before .before .before .before .before .before .before .args in
-    listed-lies (now (a .rom)) (a .wide) (a .place) (omega arith) _ _ _ (sym (read-piece .ensures) ∙ token .given .1))
+    listed-lies (now (a .fcode)) (a .wide) (a .place) (omega arith) _ _ _ (sym (piece-in .ensures) ∙ token .given .1))
     (λ c.
-    let read-piece = c .before .before .read-piece in
+    let piece-in = c .before .before .piece-in in
     let args = c .before .before .before .before .before .before .args in
-    rw (le-ltb romMost (length (now (args .rom))) (omega arith), sym (read-piece .ensures) ∙ c .enum-told .given .1)
+    rw (le-ltb romMost (length (now (args .fcode))) (omega arith), sym (piece-in .ensures) ∙ c .enum-told .given .1)
     (wrote-none, refl, refl))
     (λ c. search needs)
     (λ c.
     let raw-line = c .before .before .raw-line in
     let next = c .before .before .before .before .before .next in
-    let read-piece = c .before .before .before .before .before .before .before .read-piece in
+    let piece-in = c .before .before .before .before .before .before .before .piece-in in
     let args = c .before .before .before .before .before .before .before .before .before .before .before .args in
-    rw (le-ltb romMost (length (now (args .rom))) (omega arith), sym (read-piece .ensures) ∙ next .given .1)
+    rw (le-ltb romMost (length (now (args .fcode))) (omega arith), sym (piece-in .ensures) ∙ next .given .1)
     (raw-line .ensures, refl, refl))
     (λ c. search needs)
     (λ c.
     let token-line = c .before .before .token-line in
     let token = c .before .before .before .before .before .token in
-    let read-piece = c .before .before .before .before .before .before .before .read-piece in
+    let piece-in = c .before .before .before .before .before .before .before .piece-in in
     let args = c .before .before .before .before .before .before .before .before .before .before .before .args in
-    rw (le-ltb romMost (length (now (args .rom))) (omega arith), sym (read-piece .ensures) ∙ token .given .1)
+    rw (le-ltb romMost (length (now (args .fcode))) (omega arith), sym (piece-in .ensures) ∙ token .given .1)
     (token-line .ensures, refl, refl)))

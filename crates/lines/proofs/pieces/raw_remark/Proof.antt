@@ -22,9 +22,9 @@ raw-remark-spec =
     let if1 = c .before .before .before .before .before .if1 in
     let program-end = c .before .before .before .before .before .before .program-end in
     let args = c .before .before .before .before .before .before .before .before .before .args in
-    let before : args .next < endOf (now (args .rom)) = rw (← program-end .ensures) (if1 .taken) in
+    let before : args .next < endOf (now (args .fcode)) = rw (← program-end .ensures) (if1 .taken) in
     rw (lt-ltb _ _ before) (say .ensures))
     (λ c.
     let args = c .before .before .before .before .args in
-    let past : endOf (now (args .rom)) ≤ args .next = rw (← c .before .program-end .ensures) (c .if1 .left) in
+    let past : endOf (now (args .fcode)) ≤ args .next = rw (← c .before .program-end .ensures) (c .if1 .left) in
     rw (le-ltb _ _ past) wrote-none))

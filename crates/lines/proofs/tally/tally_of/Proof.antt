@@ -12,11 +12,11 @@ use Rattle.lines.proofs.tally.tally_of.Tie as tie
 
 -- no more pieces than bytes, and the rest of the walk comes to what the whole comes to
 abbrev Inv-loop : tie.InvT-loop
-Inv-loop rom length wide₀ place₀ so₀ wide place so =
-    (so .pieces ≤ place) × (so .raws ≤ place) × (tallyFrom so (walkAt rom wide place) ≡ tallyOf rom)
+Inv-loop fcode length wide₀ place₀ so₀ wide place so =
+    (so .pieces ≤ place) × (so .raws ≤ place) × (tallyFrom so (walkAt fcode wide place) ≡ tallyOf fcode)
 
 abbrev μ-loop : tie.MeasureT-loop
-μ-loop rom length wide₀ place₀ so₀ wide place so = endOf rom - place
+μ-loop fcode length wide₀ place₀ so₀ wide place so = endOf fcode - place
 
 pub tally-of-spec : {M : Type 1} → statement M
 tally-of-spec =
@@ -31,21 +31,21 @@ tally-of-spec =
     (λ c κs. search needs)
     (λ c. search needs)
     (λ c.
-    let read-piece = c .before .before .read-piece in
+    let piece-in = c .before .before .piece-in in
     let args = c .before .before .before .before .before .before .before .before .args in
     let l = c .before .before .before .before .loop in
-    sym (tally-end (now (args .rom)) (l .wide) (l .place) (l .so) (sym (read-piece .ensures) ∙ c .enum-told .given .1)) ∙ l .inv .2)
+    sym (tally-end (now (args .fcode)) (l .wide) (l .place) (l .so) (sym (piece-in .ensures) ∙ c .enum-told .given .1)) ∙ l .inv .2)
     (λ c. search needs)
     (λ c κs. (omega arith, omega arith))
     (λ c.
     let next′ = c .before .before .next in
-    let read-piece = c .before .before .before .before .read-piece in
+    let piece-in = c .before .before .before .before .piece-in in
     let program-end = c .before .before .before .before .before .before .before .before .program-end in
     let args = c .before .before .before .before .before .before .before .before .before .before .args in
-    let r = now (args .rom) in
+    let r = now (args .fcode) in
     let l = c .before .before .before .before .before .before .loop in
     let e = program-end .ensures in
-    let x = sym (read-piece .ensures) ∙ next′ .given .1 in
+    let x = sym (piece-in .ensures) ∙ next′ .given .1 in
     let next = next′ .given .0 .0 in
     let y = raw-ahead r (l .wide) (l .place) next x in
     let u = y .0 in
@@ -53,13 +53,13 @@ tally-of-spec =
     omega arith)
     (λ c.
     let next′ = c .before .before .next in
-    let read-piece = c .before .before .before .before .read-piece in
+    let piece-in = c .before .before .before .before .piece-in in
     let program-end = c .before .before .before .before .before .before .before .before .program-end in
     let args = c .before .before .before .before .before .before .before .before .before .before .args in
-    let r = now (args .rom) in
+    let r = now (args .fcode) in
     let l = c .before .before .before .before .before .before .loop in
     let e = program-end .ensures in
-    let x = sym (read-piece .ensures) ∙ next′ .given .1 in
+    let x = sym (piece-in .ensures) ∙ next′ .given .1 in
     let next = next′ .given .0 .0 in
     let y = raw-ahead r (l .wide) (l .place) next x in
     let u = y .0 in
@@ -70,28 +70,28 @@ tally-of-spec =
     (λ c κs. omega arith)
     (λ c.
     let token = c .before .before .token in
-    let read-piece = c .before .before .before .before .read-piece in
+    let piece-in = c .before .before .before .before .piece-in in
     let program-end = c .before .before .before .before .before .before .before .before .program-end in
     let args = c .before .before .before .before .before .before .before .before .before .before .args in
-    let r = now (args .rom) in
+    let r = now (args .fcode) in
     let l = c .before .before .before .before .before .before .loop in
     let e = program-end .ensures in
     let g = token .given .0 in
-    let x = sym (read-piece .ensures) ∙ token .given .1 in
+    let x = sym (piece-in .ensures) ∙ token .given .1 in
     let y = token-ahead r (l .wide) (l .place) (g .0) (g .1 .0) (g .1 .1 .0) x in
     let u = y .0 in
     let v = y .1 in
     omega arith)
     (λ c.
     let token = c .before .before .token in
-    let read-piece = c .before .before .before .before .read-piece in
+    let piece-in = c .before .before .before .before .piece-in in
     let program-end = c .before .before .before .before .before .before .before .before .program-end in
     let args = c .before .before .before .before .before .before .before .before .before .before .args in
-    let r = now (args .rom) in
+    let r = now (args .fcode) in
     let l = c .before .before .before .before .before .before .loop in
     let e = program-end .ensures in
     let g = token .given .0 in
-    let x = sym (read-piece .ensures) ∙ token .given .1 in
+    let x = sym (piece-in .ensures) ∙ token .given .1 in
     let y = token-ahead r (l .wide) (l .place) (g .0) (g .1 .0) (g .1 .1 .0) x in
     let u = y .0 in
     let v = y .1 in
@@ -100,7 +100,7 @@ tally-of-spec =
     (λ c.
     let program-end = c .before .before .before .program-end in
     let args = c .before .before .before .before .before .args in
-    let r = now (args .rom) in
+    let r = now (args .fcode) in
     let l = c .before .loop in
     let e = program-end .ensures in
     let h : endOf r ≤ l .place = omega arith in
