@@ -2,6 +2,7 @@
 // bytes in C. Every call is total; a null pointer is fine where the count is 0.
 ghost use mathlib.Core.Path.{_≡_};
 ghost use Rattle.rom.specs.Header.{headerOf};
+ghost use Rattle.rom.specs.Spread.{fcodeOf};
 ghost use Rattle.listing.specs.Listing.{listedWith, Lists};
 ghost use Rattle.host.specs.Host.{HostScreened, hostRun, hostRunOf};
 use listing::list;
@@ -15,7 +16,7 @@ use state::open;
 // The header test: 0, or 1 to 5.
 #[no_mangle]
 pub extern "C" fn fcode_check(rom: &[u8]) -> u32
-    ensures { λ r. ⌜ r ≡ headerOf (now (rom .entry)) ⌝ }
+    ensures { λ r. ⌜ r ≡ headerOf (fcodeOf (now (rom .entry))) ⌝ }
 {
     check_header(rom)
 }
@@ -23,7 +24,7 @@ pub extern "C" fn fcode_check(rom: &[u8]) -> u32
 // The screen: 0 for a ROM that passes, with its marks; else 6, 1 to 5, or 31.
 #[no_mangle]
 pub extern "C" fn fcode_screen(rom: &[u8], marks: &mut [u8]) -> u32
-    ensures { λ r. ⌜ HostScreened (now (rom .entry)) (now (marks .entry)) r (now (marks .exit)) ⌝ }
+    ensures { λ r. ⌜ HostScreened (fcodeOf (now (rom .entry))) (now (marks .entry)) r (now (marks .exit)) ⌝ }
 {
     match screen(rom, marks) {
         Verdict::Passes => 0,
@@ -42,7 +43,7 @@ pub extern "C" fn fcode_run(
     steps: &mut u32,
 ) -> u32
     ensures { λ r. ⌜ hostRun r (now (steps .exit)) (now (work .exit)) (now (store .exit))
-        ≡ hostRunOf (now (rom .entry)) (now (work .entry)) (now (store .entry)) budget ⌝ }
+        ≡ hostRunOf (fcodeOf (now (rom .entry))) (now (work .entry)) (now (store .entry)) budget ⌝ }
 {
     let opened = open(rom, &mut *work, &mut *store);
     let answer = opened.answer;
@@ -68,7 +69,7 @@ pub extern "C" fn fcode_list(
     budget: u32,
     text: &mut [u8],
 ) -> usize
-    ensures { λ r. ⌜ Lists (now (rom .entry)) (now (marks .entry)) (now (work .entry)) (now (store .entry)) budget (now (text .entry))
+    ensures { λ r. ⌜ Lists (fcodeOf (now (rom .entry))) (now (marks .entry)) (now (work .entry)) (now (store .entry)) budget (now (text .entry))
         (listedWith r (now (marks .exit)) (now (work .exit)) (now (store .exit)) (now (text .exit))) ⌝ }
 {
     list(rom, marks, work, store, budget, text)

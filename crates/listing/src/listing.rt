@@ -3,6 +3,7 @@ ghost use mathlib.Core.Path.{_≡_};
 ghost use Prim.Native.Nat.{_≤_};
 ghost use lib.ListN.{length};
 ghost use Rattle.rom.specs.Header.{headerOf};
+ghost use Rattle.rom.specs.Spread.{fcodeOf};
 ghost use Rattle.listing.specs.Listing.{listedWith, startedOf, Lists};
 ghost use Rattle.state.specs.Open.{openOf};
 ghost use Rattle.listing.specs.Laws.Listing.{ListedRun};
@@ -21,9 +22,9 @@ use state::open;
 
 // Opens a ROM that passed, runs it, and writes what it left.
 fn list_run(rom: &[u8], work: &mut [u8], store: &mut [u8], budget: u32, text: &mut [u8]) -> usize
-    requires { ⌜ (headerOf (now rom) ≡ 0) × (length (now work) ≡ workSize) × (length (now store) ≡ storeSize)
+    requires { ⌜ (headerOf (fcodeOf (now rom)) ≡ 0) × (length (now work) ≡ workSize) × (length (now store) ≡ storeSize)
         × (length (now text) ≡ textSize) ⌝ }
-    ensures { λ r. ⌜ ListedRun (startedOf (now (rom .entry)) (openOf (now (rom .entry)) (now (work .entry)) (now (store .entry))) budget)
+    ensures { λ r. ⌜ ListedRun (startedOf (fcodeOf (now (rom .entry))) (openOf (fcodeOf (now (rom .entry))) (now (work .entry)) (now (store .entry))) budget)
         (now (text .entry)) r (now (work .exit)) (now (store .exit)) (now (text .exit)) ⌝ }
 {
     let opened = open(rom, &mut *work, &mut *store);
@@ -46,7 +47,7 @@ pub fn list(
     budget: u32,
     text: &mut [u8],
 ) -> usize
-    ensures { λ r. ⌜ Lists (now (rom .entry)) (now (marks .entry)) (now (work .entry)) (now (store .entry)) budget (now (text .entry))
+    ensures { λ r. ⌜ Lists (fcodeOf (now (rom .entry))) (now (marks .entry)) (now (work .entry)) (now (store .entry)) budget (now (text .entry))
         (listedWith r (now (marks .exit)) (now (work .exit)) (now (store .exit)) (now (text .exit))) ⌝ }
     ensures { λ r. ⌜ r ≤ length (now (text .exit)) ⌝ }
 {

@@ -2,7 +2,6 @@
 ghost use mathlib.Core.Path.{_≡_};
 ghost use Prim.Native.Nat.{_≤_, _<_};
 ghost use lib.ListN.{length};
-ghost use Rattle.rom.specs.Header.{wrongRom, wrongLength};
 ghost use Rattle.rom.specs.Spread.{viewOf, fcodeOf};
 ghost use Rattle.state.specs.Scene.{scene, handedBack};
 ghost use Rattle.state.specs.Step.{readyOf, tokenTurn, stepOf};
@@ -17,7 +16,6 @@ use acts::fill_tables;
 use reckon::Fared;
 use reckon::fast;
 use rom::Spread;
-use rom::fcode_count;
 use rom::lay_fcode;
 use rom::sizes::DATA_MOST;
 use rom::sizes::FRAMES_MOST;
@@ -25,11 +23,12 @@ use rom::sizes::NODES_MOST;
 use rom::sizes::NUMBERS_MOST;
 use rom::sizes::PROPERTIES_MOST;
 use rom::sizes::RETURN_MOST;
-use rom::sizes::ROM_LEAST;
 use rom::sizes::ROM_MOST;
 use rom::sizes::STORE_SIZE;
 use rom::sizes::WORK_SIZE;
 use rom::spread_of;
+use rom::wrong_length;
+use rom::wrong_rom;
 use state::Answer;
 use state::Back;
 use state::Calls;
@@ -58,26 +57,6 @@ pub struct Cruised {
     pub answer: Answer,
     pub count: u32,
     pub core: Core,
-}
-
-// Refusal 1 of a ROM as it is lent: it has fewer FCode bytes than a header, or more bytes than a ROM, gaps counted.
-fn wrong_rom(rom: &[u8]) -> bool
-    ensures { λ r. ⌜ r ≡ wrongRom (fcodeOf (now (rom .entry))) ⌝ }
-{
-    if fcode_count(rom, spread_of(rom)) < ROM_LEAST {
-        return true;
-    }
-    ROM_MOST < rom.len()
-}
-
-// Refusal 4 of a length: it is below 9, or its last FCode byte is not in the ROM.
-fn wrong_length(rom: &[u8], length: u32) -> bool
-    ensures { λ r. ⌜ r ≡ wrongLength (fcodeOf (now (rom .entry))) length ⌝ }
-{
-    if length < 9 {
-        return true;
-    }
-    fcode_count(rom, spread_of(rom)) < (length as usize)
 }
 
 // What is known before a token is looked at: 6, 1, 7, 4, or that the state is finished.
@@ -305,8 +284,8 @@ fn tokens(rom: &[u8], work: &mut [u8], store: &mut [u8], st: State, budget: u32)
     ended(answer, r.count, state)
 }
 
-// The same of a spread ROM: its FCode bytes are laid into a room first, as many as the state's length says, so that the loop over tokens
-// reads every ROM alike.
+// The same of a spread ROM: its FCode bytes are laid into a room first, which has as many as the state's length says, so that the loop over
+// tokens reads every ROM alike.
 fn tokens_laid(
     rom: &[u8],
     spread: Spread,
@@ -316,13 +295,12 @@ fn tokens_laid(
     st: State,
     budget: u32,
 ) -> Ran
-    requires { ⌜ Ready (viewOf spread (now rom)) (now work) (now store) st × Sized st × (st .length ≤ length (now room)) ⌝ }
+    requires { ⌜ Ready (viewOf spread (now rom)) (now work) (now store) st × Sized st × (length (now room) ≡ st .length) ⌝ }
     ensures { λ r. ⌜ toldRan r (now (work .exit)) (now (store .exit)) ≡ runOf budget
         (scene (viewOf spread (now (rom .entry))) (now (work .entry)) (now (store .entry)) st) ⌝ }
 {
-    let n = st.length as usize;
-    lay_fcode(rom, spread, &mut room[..n]);
-    tokens(&room[..n], work, store, st, budget)
+    lay_fcode(rom, spread, &mut *room);
+    tokens(&*room, work, store, st, budget)
 }
 
 // A room is cleared at each call, so that a small program has a small one.
@@ -339,7 +317,8 @@ fn tokens_small(
         (scene (viewOf spread (now (rom .entry))) (now (work .entry)) (now (store .entry)) st) ⌝ }
 {
     let mut room = [0u8; SMALL_ROOM];
-    tokens_laid(rom, spread, &mut room, work, store, st, budget)
+    let n = st.length as usize;
+    tokens_laid(rom, spread, &mut room[..n], work, store, st, budget)
 }
 
 fn tokens_large(
@@ -355,7 +334,8 @@ fn tokens_large(
         (scene (viewOf spread (now (rom .entry))) (now (work .entry)) (now (store .entry)) st) ⌝ }
 {
     let mut room = [0u8; LARGE_ROOM];
-    tokens_laid(rom, spread, &mut room, work, store, st, budget)
+    let n = st.length as usize;
+    tokens_laid(rom, spread, &mut room[..n], work, store, st, budget)
 }
 
 fn tokens_spread(

@@ -33,6 +33,8 @@ pub mod Running
 pub mod Demand3
 -- Bytes past the length are ignored, proved.
 pub mod PastLength
+-- A spread ROM is judged and run as the same FCode bytes behind start1 are, proved.
+pub mod Unspread
 -- What C receives and with what a listing starts, proved.
 pub mod Received
 -- What the lamp shows, proved.

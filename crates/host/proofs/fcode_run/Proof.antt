@@ -1,4 +1,5 @@
 use denote.Ref.{now}
+use Rattle.rom.specs.Spread.{fcodeOf}
 use mathlib.Core.Path.{sym, _∙_}
 use borrow.Author.Needs.{needs}
 use Rattle.host.proofs.Runs.{host-refused, host-ran}
@@ -31,7 +32,7 @@ returns : tie.Need-returns
 returns c =
     let a = c .before .before .before .before .before .before .before .before .before .before .before .before .args in
     let o = c .before .before .before .before .before .before .«open» in
-    host-refused (now (a .rom)) (now (a .work)) (now (a .store)) (a .budget) (o .result) _ _ (o .ensures) _ (c .before .number-of .ensures)
+    host-refused (fcodeOf (now (a .rom))) (now (a .work)) (now (a .store)) (a .budget) (o .result) _ _ (o .ensures) _ (c .before .number-of .ensures)
     (search needs)
 
 -- src/lib.rt:48:9
@@ -59,7 +60,7 @@ returns-2 c =
     let a = c₁ .before .before .before .before .before .before .before .before .before .args in
     let o = c₁ .before .before .before .«open» in
     let r = c .before .before .before .before .before .run in
-    host-ran (now (a .rom)) (now (a .work)) (now (a .store)) (a .budget) (o .result) _ _ (o .ensures) (sym (number-of .ensures) ∙ if1 .left)
+    host-ran (fcodeOf (now (a .rom))) (now (a .work)) (now (a .store)) (a .budget) (o .result) _ _ (o .ensures) (sym (number-of .ensures) ∙ if1 .left)
     (r .result) _ _ (r .ensures) _ (c .number-of2 .ensures)
 
 pub fcode-run-spec : {M : Type 1} → statement M

@@ -9,10 +9,11 @@ use Rattle.cells.specs.Laws.Tests.{when-is}
 use Rattle.rom.specs.Header.{lengthOf}
 use Rattle.rom.specs.Alike.{Alike}
 use Rattle.rom.specs.Laws.Past.{alike-below, same-header}
+use Rattle.tokens.specs.Laws.Past.{alike-programs}
 use Rattle.state.specs.Scene.{Turn}
 use Rattle.state.specs.Open.{openRefusal, openOf}
 use Rattle.state.specs.Run.{RunResult}
-use Rattle.state.specs.Laws.Past.{same-open-refusal, same-open, same-step, same-run}
+use Rattle.state.specs.Laws.Past.{same-open-refusal, same-open, alike-read, alike-sees, same-step, same-run}
 use Rattle.screen.specs.Laws.Exact.Exactly.{one-result}
 use Rattle.screen.specs.Laws.Rules.Past.{heights-there, same-heights, promised-there}
 use Rattle.screen.specs.declared.screening.Verdict.{Verdict}
@@ -25,16 +26,16 @@ use Rattle.host.specs.Host.{hostRun, hostRan, hostRunOf}
 use Rattle.promise.specs.PastLength.{OpensAlike, HeightsAlike, Screens, Steps, Runs, Handed, PastLength}
 
 opens : OpensAlike
-opens rom other a = (same-header a, same-open a)
+opens rom other a = (same-header a, same-open (alike-programs a))
 
 heights : HeightsAlike
-heights rom other a h = let s = same-heights a h in (heights-there a h, s .0, s .1, s .2)
+heights rom other a h = let p = alike-programs a in let s = same-heights p h in (heights-there p h, s .0, s .1, s .2)
 
 screens : Screens
-screens rom other before after after′ v v′ a p q = one-result (promised-there a p) q
+screens rom other before after after′ v v′ a p q = one-result (promised-there (alike-programs a) p) q
 
 steps : Steps
-steps rom other work store st a = same-step rom other work store st a
+steps rom other work store st a = same-step rom other work store st (alike-read a) (alike-sees rom other work st a)
 
 runs : Runs
 runs rom other work store st a budget = same-run budget 0 rom other work store st a
@@ -51,13 +52,14 @@ module _ {rom other : List ℕ} (a : Alike rom other) (work store : List ℕ) (b
   same-started =
       let o = openOf rom work store in
       same-run budget 0 rom other (o .work) (o .store) (o .state) (alike-below (opened-length rom work store) (a .program))
-      ∙ ap (λ (r : Turn). startedOf other r budget) (same-open a work store)
+      ∙ ap (λ (r : Turn). startedOf other r budget) (same-open (alike-programs a) work store)
 
   same-host : hostRunOf rom work store budget ≡ hostRunOf other work store budget
   unfolding hostRunOf
   same-host =
       λ i.
-      pick (eqb (same-open-refusal a work store i) 0) (hostRan (same-started i)) (hostRun (same-open-refusal a work store i) 0 work store)
+      pick (eqb (same-open-refusal (alike-programs a) work store i) 0) (hostRan (same-started i))
+      (hostRun (same-open-refusal (alike-programs a) work store i) 0 work store)
 
   same-judged : (v : Verdict) (after text : List ℕ)
       → judgedAs v after rom work store budget text ≡ judgedAs v after other work store budget text
@@ -74,7 +76,7 @@ module _ {rom other : List ℕ} (a : Alike rom other) (work store : List ℕ) (b
 
   -- a listing of the one is a listing of the other
   lists-there : (marks text : List ℕ) {l : Listed} → Lists rom marks work store budget text l → Lists other marks work store budget text l
-  lists-there marks text (v, after, p, e) = (v, after, promised-there a p, e ∙ same-list v after marks text)
+  lists-there marks text (v, after, p, e) = (v, after, promised-there (alike-programs a) p, e ∙ same-list v after marks text)
 
 handed : Handed
 handed rom other marks work store text budget a = (

@@ -3,17 +3,17 @@ use Prim.Native.Nat.{ℕ, _≤_}
 use native.Mathlib.Omega.{arith}
 use mathlib.Core.Path.{_≡_, refl, sym, ap, subst, _∙_}
 use mathlib.Core.Logic.{inl, inr}
-use mathlib.Core.Bool.{Bool, true, false, not, _||_}
+use mathlib.Core.Bool.{Bool, true, false, not}
 use mathlib.Core.List.{List}
 use lib.ListN.{length, getD, take}
 use lib.Seq.{take-append-seam}
-use lib.Dec.{T, eqb, ltb}
+use lib.Dec.{T, eqb}
 use borrow.Author.Tests.{eq-eqb}
 use Rattle.cells.specs.Choice.{pick}
-use Rattle.rom.specs.Sizes.{romLeast, romMost, marksSize, workSize, storeSize}
+use Rattle.rom.specs.Sizes.{marksSize, workSize, storeSize}
 use Rattle.rom.specs.Words.{lettersOf}
 use Rattle.rom.specs.Sum.{sumOf}
-use Rattle.rom.specs.Header.{startOf, formatOf, checksumOf, lengthOf, headerOf}
+use Rattle.rom.specs.Header.{startOf, formatOf, checksumOf, lengthOf, wrongRom, wrongLength, headerOf}
 use Rattle.state.specs.Run.{RunResult}
 use Rattle.screen.specs.Promise.{Promised, wrong-size, bad-header, no-heights, passes}
 use Rattle.screen.specs.declared.screening.Verdict.the-variants.{Refused}
@@ -35,8 +35,8 @@ few false false false false false = omega arith
 header-most : (rom : List ℕ) → headerOf rom ≤ 5
 unfolding headerOf
 header-most rom =
-    few (ltb (length rom) romLeast || ltb romMost (length rom)) (not (startOf rom)) (not (formatOf rom))
-    (ltb (lengthOf rom) 9 || ltb (length rom) (lengthOf rom)) (not (eqb (sumOf rom (lengthOf rom)) (checksumOf rom)))
+    few (wrongRom rom) (not (startOf rom)) (not (formatOf rom)) (wrongLength rom (lengthOf rom))
+    (not (eqb (sumOf rom (lengthOf rom)) (checksumOf rom)))
 
 zero-exactly : Zero
 zero-exactly rom before after number (v, e, wrong-size n) = (λ z. absurd (omega arith), λ k. absurd (n (k .0)))

@@ -16,7 +16,7 @@ use Rattle.rom.specs.Sizes.{romLeast, firstPlace, workSize, storeSize}
 use Rattle.rom.specs.Spread.{fcodeMost}
 use Rattle.rom.specs.Bytes.{byteOf, word32Of}
 use Rattle.rom.specs.Alike.{AlikeTo}
-use Rattle.rom.specs.Laws.Past.{same-all, same-part}
+use Rattle.rom.specs.Laws.Past.{SameFrom, same-all, same-part}
 use Rattle.tokens.specs.Place.{readOf}
 use Rattle.tokens.specs.Laws.Tokens.{find-is}
 use Rattle.tokens.specs.Laws.Past.{SameTokens, SamePrograms, tokens-below, same-read, same-body}
@@ -128,7 +128,7 @@ module _ (rom other work store : List ℕ) (st : State) (a : SameRead rom other 
   there = scene other work store st
 
   -- the windows are as large
-  same-range : (address count : ℕ) → rangeOf rom work (st .length) address count ≡ rangeOf other work (st .length) address count
+  pub same-range : (address count : ℕ) → rangeOf rom work (st .length) address count ≡ rangeOf other work (st .length) address count
   same-range address count =
       let h : min (st .length) (length rom) ≡ st .length = let l = a .within .0 in omega arith in
       let k : min (st .length) (length other) ≡ st .length = let l = a .within .1 in omega arith in
@@ -274,16 +274,23 @@ module _ {rom other : List ℕ} {size : ℕ} (a : AlikeTo size rom other) where
   pub alike-read : SameRead rom other size
   alike-read = record { within = a .within; tokens = tokens-below size rom other (a .same); least = a .least; most = a .most }
 
+-- what the windows show of bytes that are the same from a place on, where no byte before it is asked for
+pub same-string : (from : ℕ) (rom other work : List ℕ) (st : State) → SameFrom from (st .length) rom other → SameRead rom other (st .length)
+    → (address count : ℕ) → (romBase ≤ address → romBase + from ≤ address)
+    → resolveOf rom work (st .length) address count ≡ resolveOf other work (st .length) address count
+unfolding resolveOf
+same-string from rom other work st same a address count f =
+    window-is (min (st .length) (length rom)) (length work) address count (λ w. heldBy rom work count w ≡ heldBy other work count w)
+    (λ p q.
+    let g = f p in
+    same-part from (st .length) rom other same (a .within .0) (a .within .1) (address - romBase) count (omega arith) (omega arith))
+    (λ p q. refl) refl
+    ∙ ap (λ w. heldBy other work count w) (same-range rom other work [] st a address count)
+
 module _ (rom other work : List ℕ) (st : State) (a : AlikeTo (st .length) rom other) where
   alike-string : (address count : ℕ) → resolveOf rom work (st .length) address count ≡ resolveOf other work (st .length) address count
-  unfolding resolveOf
   alike-string address count =
-      window-is (min (st .length) (length rom)) (length work) address count (λ w. heldBy rom work count w ≡ heldBy other work count w)
-      (λ p q.
-      same-part 0 (st .length) rom other (same-all (st .length) rom other (a .same)) (a .within .0) (a .within .1) (address - romBase) count
-      (omega arith) (omega arith))
-      (λ p q. refl) refl
-      ∙ ap (λ w. heldBy other work count w) (same-range rom other work [] st (alike-read a) address count)
+      same-string 0 rom other work st (same-all (st .length) rom other (a .same)) (alike-read a) address count (λ h. omega arith)
 
   alike-range : (address count : ℕ) → SameRange rom other work st address count
   alike-range address count =

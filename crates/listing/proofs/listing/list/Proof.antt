@@ -1,4 +1,5 @@
 use denote.Ref.{now}
+use Rattle.rom.specs.Spread.{fcodeOf}
 use Rattle.listing.specs.Laws.Listing.{wrong-text, wrong-buffer, wrong-marks, wrong-work, wrong-store, refused, passed, judged-as}
 use Rattle.listing.specs.Laws.Listing.{passed-header, and-inside}
 use borrow.Author.Needs.{needs}
@@ -14,8 +15,8 @@ use Rattle.screen.proofs.screen.Reads as screen-reads
 returns : tie.Need-returns
 returns c =
     let a = c .before .before .before .before .before .before .args in
-    and-inside (now (a .rom)) (now (a .marks)) (now (a .work)) (now (a .store)) (a .budget) (now (a .text))
-    (wrong-text (now (a .rom)) (now (a .marks)) (now (a .work)) (now (a .store)) (a .budget) (now (a .text)) (c .if1 .taken))
+    and-inside (fcodeOf (now (a .rom))) (now (a .marks)) (now (a .work)) (now (a .store)) (a .budget) (now (a .text))
+    (wrong-text (fcodeOf (now (a .rom))) (now (a .marks)) (now (a .work)) (now (a .store)) (a .budget) (now (a .text)) (c .if1 .taken))
 
 -- src/listing.rt:54:9
 refused-text-requires : tie.Need-refused-text-requires
@@ -32,8 +33,8 @@ returns-2 c =
     let if2 = c .before .before .before .before .if2 in
     let if1 = c .before .before .before .before .before .if1 in
     let a = c .before .before .before .before .before .before .before .before .before .before .before .args in
-    and-inside (now (a .rom)) (now (a .marks)) (now (a .work)) (now (a .store)) (a .budget) (now (a .text))
-    (wrong-buffer (now (a .rom)) (now (a .marks)) (now (a .work)) (now (a .store)) (a .budget) (now (a .text)) (if1 .left)
+    and-inside (fcodeOf (now (a .rom))) (now (a .marks)) (now (a .work)) (now (a .store)) (a .budget) (now (a .text))
+    (wrong-buffer (fcodeOf (now (a .rom))) (now (a .marks)) (now (a .work)) (now (a .store)) (a .budget) (now (a .text)) (if1 .left)
     (wrong-marks (now (a .marks)) (now (a .work)) (now (a .store)) (if2 .taken)) _ _ (refused-text .ensures))
 
 -- src/listing.rt:57:9
@@ -52,8 +53,8 @@ returns-3 c =
     let if2 = c .before .before .before .before .before .if2 in
     let if1 = c .before .before .before .before .before .before .if1 in
     let a = c .before .before .before .before .before .before .before .before .before .before .before .before .args in
-    and-inside (now (a .rom)) (now (a .marks)) (now (a .work)) (now (a .store)) (a .budget) (now (a .text))
-    (wrong-buffer (now (a .rom)) (now (a .marks)) (now (a .work)) (now (a .store)) (a .budget) (now (a .text)) (if1 .left)
+    and-inside (fcodeOf (now (a .rom))) (now (a .marks)) (now (a .work)) (now (a .store)) (a .budget) (now (a .text))
+    (wrong-buffer (fcodeOf (now (a .rom))) (now (a .marks)) (now (a .work)) (now (a .store)) (a .budget) (now (a .text)) (if1 .left)
     (wrong-work (now (a .marks)) (now (a .work)) (now (a .store)) (if2 .left) (if3 .taken)) _ _ (refused-text2 .ensures))
 
 -- src/listing.rt:60:9
@@ -74,8 +75,8 @@ returns-4 c =
     let if1 = c .before .before .before .before .before .before .before .if1 in
     let c₁ = c .before .before .before .before .before .before .before .before .before .before .before .before in
     let a = c₁ .before .args in
-    and-inside (now (a .rom)) (now (a .marks)) (now (a .work)) (now (a .store)) (a .budget) (now (a .text))
-    (wrong-buffer (now (a .rom)) (now (a .marks)) (now (a .work)) (now (a .store)) (a .budget) (now (a .text)) (if1 .left)
+    and-inside (fcodeOf (now (a .rom))) (now (a .marks)) (now (a .work)) (now (a .store)) (a .budget) (now (a .text))
+    (wrong-buffer (fcodeOf (now (a .rom))) (now (a .marks)) (now (a .work)) (now (a .store)) (a .budget) (now (a .text)) (if1 .left)
     (wrong-store (now (a .marks)) (now (a .work)) (now (a .store)) (if2 .left) (if3 .left) (if4 .taken)) _ _ (refused-text3 .ensures))
 
 -- src/listing.rt:62:11
@@ -96,7 +97,7 @@ list-run-requires c κs =
     let if1 = c .before .before .before .before .before .before .before .before .before .before .before .before .if1 in
     let c₁ = c .before .before .before .before .before .before .before .before .before .before .before .before in
     let a = c₁ .before .before .before .before .before .before .args in
-    (passed-header (judged-as (now (a .rom)) (now (a .marks)) _ (screen .ensures) (enum-told .given .1)), if3 .left, if4 .left, if1 .left)
+    (passed-header (judged-as (fcodeOf (now (a .rom))) (now (a .marks)) _ (screen .ensures) (enum-told .given .1)), if3 .left, if4 .left, if1 .left)
 
 -- src/listing.rt:64:26
 enum-known-why : tie.Need-enum-known-why
@@ -135,9 +136,9 @@ returns-5 c =
     let if1 = c₁ .before .before .before .before .before .before .before .if1 in
     let c₂ = c₁ .before .before .before .before .before .before .before .before .before .before .before .before in
     let a = c₂ .before .args in
-    let p = judged-as (now (a .rom)) (now (a .marks)) _ (screen .ensures) (enum-told .given .1) in
-    and-inside (now (a .rom)) (now (a .marks)) (now (a .work)) (now (a .store)) (a .budget) (now (a .text))
-    (passed (now (a .rom)) (now (a .marks)) (now (a .work)) (now (a .store)) (a .budget) (now (a .text)) (if1 .left) (if2 .left)
+    let p = judged-as (fcodeOf (now (a .rom))) (now (a .marks)) _ (screen .ensures) (enum-told .given .1) in
+    and-inside (fcodeOf (now (a .rom))) (now (a .marks)) (now (a .work)) (now (a .store)) (a .budget) (now (a .text))
+    (passed (fcodeOf (now (a .rom))) (now (a .marks)) (now (a .work)) (now (a .store)) (a .budget) (now (a .text)) (if1 .left) (if2 .left)
     (if3 .left) (if4 .left) _ p _ _ _ _ (list-run .ensures))
 
 -- src/listing.rt:38:1
@@ -160,9 +161,9 @@ returns-6 c =
     let if2 = c₁ .before .if2 in
     let if1 = c₁ .before .before .if1 in
     let a = c₁ .before .before .before .before .before .before .before .before .args in
-    let p = judged-as (now (a .rom)) (now (a .marks)) _ (screen .ensures) (why .given .1) in
-    and-inside (now (a .rom)) (now (a .marks)) (now (a .work)) (now (a .store)) (a .budget) (now (a .text))
-    (refused (now (a .rom)) (now (a .marks)) (now (a .work)) (now (a .store)) (a .budget) (now (a .text)) (if1 .left) (if2 .left)
+    let p = judged-as (fcodeOf (now (a .rom))) (now (a .marks)) _ (screen .ensures) (why .given .1) in
+    and-inside (fcodeOf (now (a .rom))) (now (a .marks)) (now (a .work)) (now (a .store)) (a .budget) (now (a .text))
+    (refused (fcodeOf (now (a .rom))) (now (a .marks)) (now (a .work)) (now (a .store)) (a .budget) (now (a .text)) (if1 .left) (if2 .left)
     (if3 .left) (if4 .left) _ _ p _ _ (refused-text4 .ensures))
 
 pub list-spec : {M : Type 1} → statement M

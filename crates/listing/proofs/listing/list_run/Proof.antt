@@ -1,4 +1,5 @@
 use denote.Ref.{now}
+use Rattle.rom.specs.Spread.{fcodeOf}
 use Rattle.listing.specs.Laws.Listing.{listed-run}
 use borrow.Author.Needs.{needs}
 use Rattle.listing.proofs.listing.list_run.Statement.{statement}
@@ -50,7 +51,7 @@ returns c =
     let o = c₁ .before .before .before .before .before .before .before .before .«open» in
     let r = c .before .before .before .before .before .before .before .before .before .before .before .before .run in
     let t = c .before .before .run-text in
-    listed-run (now (a .rom)) (now (a .work)) (now (a .store)) (a .budget) (p .0) (p .1) (p .2) (o .result) _ _ (o .ensures) (r .result) _ _
+    listed-run (fcodeOf (now (a .rom))) (now (a .work)) (now (a .store)) (a .budget) (p .0) (p .1) (p .2) (o .result) _ _ (o .ensures) (r .result) _ _
     (r .ensures) _ (number-of .ensures) (now (a .text)) _ _ (p .3) (t .ensures)
 
 pub list-run-spec : {M : Type 1} → statement M

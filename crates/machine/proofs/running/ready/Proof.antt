@@ -1,4 +1,4 @@
-use borrow.Author.Tests.{lt-ltb, le-ltb, eq-eqb, ne-eqb}
+use borrow.Author.Tests.{eq-eqb, ne-eqb}
 use Rattle.cells.specs.Laws.Facts.{not-on, not-off}
 use Rattle.state.specs.Step.{readyOf}
 use borrow.Author.Needs.{needs}
@@ -12,97 +12,51 @@ ready-spec =
     (tie.spec
     (λ c. simp (ne-eqb _ _ (c .if1 .taken)))
     (λ c. simp (eq-eqb _ _ (c .before .if1 .left), ne-eqb _ _ (c .if2 .taken)))
-    (λ c.
-    let if1 = c .before .before .if1 in
-    simp (eq-eqb _ _ (if1 .left), eq-eqb _ _ (c .before .if2 .left), lt-ltb _ _ (c .if3 .taken)))
-    (λ c.
-    let if2 = c .before .before .if2 in
-    let if1 = c .before .before .before .if1 in
-    simp (eq-eqb _ _ (if1 .left), eq-eqb _ _ (if2 .left), le-ltb _ _ (c .before .if3 .left), lt-ltb _ _ (c .if4 .taken)))
+    (λ c κs. search needs)
+    (λ c. rw (eq-eqb _ _ (c .before .before .before .if1 .left), eq-eqb _ _ (c .before .before .if2 .left), ← c .before .wrong-rom .ensures, c .if3 .taken))
     (λ c κs. search needs)
     (λ c.
-    let if4 = c .before .before .if4 in
-    let if3 = c .before .before .before .if3 in
-    let if2 = c .before .before .before .before .if2 in
-    let if1 = c .before .before .before .before .before .if1 in
-    simp (
-      eq-eqb _ _ (if1 .left),
-      eq-eqb _ _ (if2 .left),
-      le-ltb _ _ (if3 .left),
-      le-ltb _ _ (if4 .left),
+    rw (
+      eq-eqb _ _ (c .before .before .before .before .before .if1 .left),
+      eq-eqb _ _ (c .before .before .before .before .if2 .left),
+      ← c .before .before .before .wrong-rom .ensures,
+      c .before .before .if3 .left,
       ← c .before .is-whole .ensures,
-      not-off (c .before .is-whole .result) (c .if5 .taken),
+      not-off (c .before .is-whole .result) (c .if4 .taken),
+    ))
+    (λ c κs. search needs)
+    (λ c.
+    rw (
+      eq-eqb _ _ (c .before .before .before .before .before .before .before .if1 .left),
+      eq-eqb _ _ (c .before .before .before .before .before .before .if2 .left),
+      ← c .before .before .before .before .before .wrong-rom .ensures,
+      c .before .before .before .before .if3 .left,
+      ← c .before .before .before .is-whole .ensures,
+      not-on (c .before .before .before .is-whole .result) (c .before .before .if4 .left),
+      ← c .before .wrong-length .ensures,
+      c .if5 .taken,
     ))
     (λ c.
-    let if5 = c .before .before .if5 in
-    let is-whole = c .before .before .before .is-whole in
-    let if4 = c .before .before .before .before .if4 in
-    let if3 = c .before .before .before .before .before .if3 in
-    let if2 = c .before .before .before .before .before .before .if2 in
-    let if1 = c .before .before .before .before .before .before .before .if1 in
-    simp (
-      eq-eqb _ _ (if1 .left),
-      eq-eqb _ _ (if2 .left),
-      le-ltb _ _ (if3 .left),
-      le-ltb _ _ (if4 .left),
-      ← is-whole .ensures,
-      not-on (is-whole .result) (if5 .left),
-      lt-ltb _ _ (c .if6 .taken),
-    ))
-    (λ c. search needs)
-    (λ c.
-    let if6 = c .before .before .if6 in
-    let if5 = c .before .before .before .before .if5 in
-    let is-whole = c .before .before .before .before .before .is-whole in
-    let if4 = c .before .before .before .before .before .before .if4 in
-    let if3 = c .before .before .before .before .before .before .before .if3 in
-    let if2 = c .before .before .before .before .before .before .before .before .if2 in
-    let if1 = c .before .before .before .before .before .before .before .before .before .if1 in
-    simp (
-      eq-eqb _ _ (if1 .left),
-      eq-eqb _ _ (if2 .left),
-      le-ltb _ _ (if3 .left),
-      le-ltb _ _ (if4 .left),
-      ← is-whole .ensures,
-      not-on (is-whole .result) (if5 .left),
-      le-ltb _ _ (if6 .left),
-      lt-ltb _ _ (c .if7 .taken),
+    rw (
+      eq-eqb _ _ (c .before .before .before .before .before .before .before .before .if1 .left),
+      eq-eqb _ _ (c .before .before .before .before .before .before .before .if2 .left),
+      ← c .before .before .before .before .before .before .wrong-rom .ensures,
+      c .before .before .before .before .before .if3 .left,
+      ← c .before .before .before .before .is-whole .ensures,
+      not-on (c .before .before .before .before .is-whole .result) (c .before .before .before .if4 .left),
+      ← c .before .before .wrong-length .ensures,
+      c .before .if5 .left,
+      c .if6 .taken,
     ))
     (λ c.
-    let if6 = c .before .before .before .if6 in
-    let if5 = c .before .before .before .before .before .if5 in
-    let is-whole = c .before .before .before .before .before .before .is-whole in
-    let if4 = c .before .before .before .before .before .before .before .if4 in
-    let if3 = c .before .before .before .before .before .before .before .before .if3 in
-    let if2 = c .before .before .before .before .before .before .before .before .before .if2 in
-    let if1 = c .before .before .before .before .before .before .before .before .before .before .if1 in
-    simp (
-      eq-eqb _ _ (if1 .left),
-      eq-eqb _ _ (if2 .left),
-      le-ltb _ _ (if3 .left),
-      le-ltb _ _ (if4 .left),
-      ← is-whole .ensures,
-      not-on (is-whole .result) (if5 .left),
-      le-ltb _ _ (if6 .left),
-      le-ltb _ _ (c .before .if7 .left),
-      c .if8 .taken,
-    ))
-    (λ c.
-    let if6 = c .before .before .before .if6 in
-    let if5 = c .before .before .before .before .before .if5 in
-    let is-whole = c .before .before .before .before .before .before .is-whole in
-    let if4 = c .before .before .before .before .before .before .before .if4 in
-    let if3 = c .before .before .before .before .before .before .before .before .if3 in
-    let if2 = c .before .before .before .before .before .before .before .before .before .if2 in
-    let if1 = c .before .before .before .before .before .before .before .before .before .before .if1 in
-    simp (
-      eq-eqb _ _ (if1 .left),
-      eq-eqb _ _ (if2 .left),
-      le-ltb _ _ (if3 .left),
-      le-ltb _ _ (if4 .left),
-      ← is-whole .ensures,
-      not-on (is-whole .result) (if5 .left),
-      le-ltb _ _ (if6 .left),
-      le-ltb _ _ (c .before .if7 .left),
-      c .if8 .left,
+    rw (
+      eq-eqb _ _ (c .before .before .before .before .before .before .before .before .if1 .left),
+      eq-eqb _ _ (c .before .before .before .before .before .before .before .if2 .left),
+      ← c .before .before .before .before .before .before .wrong-rom .ensures,
+      c .before .before .before .before .before .if3 .left,
+      ← c .before .before .before .before .is-whole .ensures,
+      not-on (c .before .before .before .before .is-whole .result) (c .before .before .before .if4 .left),
+      ← c .before .before .wrong-length .ensures,
+      c .before .if5 .left,
+      c .if6 .left,
     )))

@@ -1,4 +1,5 @@
 use denote.Ref.{now}
+use Rattle.rom.specs.Spread.{fcodeOf}
 use mathlib.Core.Path.{sym, _∙_}
 use Rattle.state.specs.Scene.{scene}
 use Rattle.state.specs.Laws.Keeps.Whole.{not-going, not-finished}
@@ -44,7 +45,7 @@ run-spec =
     let ready = c .before .before .before .ready in
     let a = c .before .before .before .before .before .before .before .before .before .args in
     rw (c .ended .ensures)
-    (sym (run-known (a .budget) 0 (scene (now (a .rom)) (now (a .work)) (now (a .store)) (a .st)) Finished
+    (sym (run-known (a .budget) 0 (scene (fcodeOf (now (a .rom))) (now (a .work)) (now (a .store)) (a .st)) Finished
     (sym (ready .ensures) ∙ c .before .enum-told2 .given .1) not-finished)))
     (λ c. search needs)
     (λ c. search needs)
@@ -53,7 +54,7 @@ run-spec =
     let ready = c .before .before .before .before .ready in
     let a = c .before .before .before .before .before .before .before .before .before .before .args in
     rw (c .ended2 .ensures)
-    (sym (run-known (a .budget) 0 (scene (now (a .rom)) (now (a .work)) (now (a .store)) (a .st)) (Refused _)
+    (sym (run-known (a .budget) 0 (scene (fcodeOf (now (a .rom))) (now (a .work)) (now (a .store)) (a .st)) (Refused _)
     (sym (ready .ensures) ∙ why .given .1) (not-going _))))
     (λ c. search needs)
     (λ c. search needs)
@@ -62,5 +63,5 @@ run-spec =
     let ready = c .before .before .before .before .ready in
     let a = c .before .before .before .before .before .before .before .before .before .before .args in
     rw (c .ended3 .ensures)
-    (sym (run-known (a .budget) 0 (scene (now (a .rom)) (now (a .work)) (now (a .store)) (a .st)) (Spent _)
+    (sym (run-known (a .budget) 0 (scene (fcodeOf (now (a .rom))) (now (a .work)) (now (a .store)) (a .st)) (Spent _)
     (sym (ready .ensures) ∙ n .given .1) (not-spent _)))))

@@ -1,6 +1,7 @@
 use Rattle.state.specs.Laws.Steps.{step-going, finished-stays, step-refused, step-spent}
 use Rattle.state.specs.Scene.{scene}
 use denote.Ref.{now}
+use Rattle.rom.specs.Spread.{fcodeOf}
 use mathlib.Core.Path.{sym, _∙_}
 use borrow.Author.Needs.{needs}
 use Rattle.machine.proofs.running.step.Statement.{statement}
@@ -40,14 +41,14 @@ step-spec =
     let c₁ = c .before .before .before .before .before .before .before .before .before .before .before .before in
     let args = c₁ .before .before .before .args in
     token .ensures
-    ∙ sym (step-going (scene (now (args .rom)) (now (args .work)) (now (args .store)) (args .st))
+    ∙ sym (step-going (scene (fcodeOf (now (args .rom))) (now (args .work)) (now (args .store)) (args .st))
     (sym (ready .ensures) ∙ enum-told .given .1)))
     (λ c. search needs)
     (λ c. search needs)
     (λ c.
     let ready = c .before .before .ready in
     let args = c .before .before .before .before .before .before .before .before .args in
-    sym (finished-stays (scene (now (args .rom)) (now (args .work)) (now (args .store)) (args .st))
+    sym (finished-stays (scene (fcodeOf (now (args .rom))) (now (args .work)) (now (args .store)) (args .st))
     (sym (ready .ensures) ∙ c .enum-told2 .given .1)))
     (λ c. search needs)
     (λ c. search needs)
@@ -56,12 +57,12 @@ step-spec =
     let ready = c .before .before .before .before .ready in
     let args = c .before .before .before .before .before .before .before .before .before .before .args in
     rw (c .refused .ensures)
-    (sym (step-refused (scene (now (args .rom)) (now (args .work)) (now (args .store)) (args .st)) _
+    (sym (step-refused (scene (fcodeOf (now (args .rom))) (now (args .work)) (now (args .store)) (args .st)) _
     (sym (ready .ensures) ∙ why .given .1))))
     (λ c. search needs)
     (λ c. search needs)
     (λ c.
     let ready = c .before .before .before .ready in
     let args = c .before .before .before .before .before .before .before .before .before .args in
-    sym (step-spent (scene (now (args .rom)) (now (args .work)) (now (args .store)) (args .st)) _
+    sym (step-spent (scene (fcodeOf (now (args .rom))) (now (args .work)) (now (args .store)) (args .st)) _
     (sym (ready .ensures) ∙ c .before .n .given .1))))
