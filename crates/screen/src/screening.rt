@@ -108,8 +108,8 @@ fn laid<'a>(rom: &'a [u8], spread: Spread, count: usize, room: &'a [u8]) -> &'a 
     }
 }
 
-// A program of a length, by tables that have room for it. The mark buffer is written whatever the verdict is, so that until then it can hold
-// the FCode bytes of a spread ROM: as many as the program has.
+// A program of a length, by tables that have room for it. The mark buffer is written whatever the verdict is, so that until then it can
+// hold the FCode bytes of a spread ROM: as many as the program has.
 fn judge_in(
     rom: &[u8],
     length: u32,

@@ -38,7 +38,8 @@ same c =
     let k = c₃ .pre in
     let b = k .buffer in
     let l = tabled-short _ _ _ _ (k .tabled) in
-    program-same (now (c₃ .args .rom)) (now (c₃ .args .marks)) (c₂ .spread-of .ensures) (c₁ .lay-spread .ensures) (c .laid .ensures) (omega arith) (k .tabled .size) (k .tabled .header)
+    program-same (now (c₃ .args .rom)) (now (c₃ .args .marks)) (c₂ .spread-of .ensures) (c₁ .lay-spread .ensures) (c .laid .ensures)
+    (omega arith) (k .tabled .size) (k .tabled .header)
 
 finds-heights-requires : tie.Need-finds-heights-requires
 finds-heights-requires c κs =

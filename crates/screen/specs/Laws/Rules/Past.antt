@@ -1,6 +1,6 @@
--- "Bytes past the length are ignored", and whatever else leaves a ROM's tokens as they are: of two ROMs with the same verdict of the header,
--- the same length, first width and tokens the same tokens can be reached, and heights of the one are heights of the other. By the rules of
--- reachability and of heights, and by nothing that finds them. Assumes nothing.
+-- "Bytes past the length are ignored", and so is whatever else leaves a ROM's tokens as they are: of two ROMs with the same verdict of the
+-- header, the same length, first width and tokens the same tokens can be reached, and heights of the one are heights of the other. By the
+-- rules of reachability and of heights, and by nothing that finds them. Assumes nothing.
 use Prim.Native.Nat.{ℕ}
 use mathlib.Core.Path.{_≡_, refl, sym, ap, _∙_, subst}
 use mathlib.Core.Bool.{Bool}
