@@ -5,7 +5,7 @@ ghost use lib.ListN.{length, replicate};
 ghost use Rattle.rom.specs.Sizes.{marksSize, romMost};
 ghost use Rattle.rom.specs.Spread.{fcodeOf};
 ghost use Rattle.screen.specs.Laws.Found.Model.{laidOf, screenOf};
-ghost use Rattle.screen.specs.Laws.Code.Screen.{passedBy, Tabled, Judging, Judged};
+ghost use Rattle.screen.specs.Laws.Code.Screen.{passedBy, Cleared, Judging, Judged};
 ghost use Rattle.screen.specs.Laws.Code.Spread.{roomWith, judgedBytes};
 ghost use Rattle.screen.specs.Laws.Found.Screen.{screened, judgedOf};
 ghost use Rattle.screen.specs.Promise.{Promised};
@@ -60,7 +60,7 @@ fn clear_marks(marks: &mut [u8])
 
 // Whether heights are found for a program of a length, by tables that have room for it; where they are, its cells hold them.
 fn finds_heights(rom: &[u8], length: u32, seen: &mut [u32], work: &mut [u16]) -> bool
-    requires { ⌜ Tabled (now rom) length (now seen) (now work) ⌝ }
+    requires { ⌜ Cleared (now rom) length (now seen) (now work) ⌝ }
     ensures { λ r. ⌜ passedBy r (now (seen .exit)) ≡ screenOf (now (rom .entry)) ⌝ }
 {
     let codes = first_codes();

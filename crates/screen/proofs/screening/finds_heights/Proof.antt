@@ -1,6 +1,6 @@
 use mathlib.Core.Path.{refl}
 use denote.Ref.{now}
-use Rattle.screen.specs.Laws.Code.Screen.{tabled-walk, tabled-low, passed-by}
+use Rattle.screen.specs.Laws.Code.Screen.{cleared-walk, cleared-low, passed-by}
 use Rattle.screen.specs.Laws.Found.Cell.{first-cell}
 use native.Mathlib.Omega.{arith}
 use borrow.Author.Needs.{needs}
@@ -12,10 +12,10 @@ all-rounds-requires c κs =
     let c₁ = c .before .before .before .before .before .before in
     let k = c₁ .before .before .before .before .pre in (
       c₁ .first-codes .ensures,
-      tabled-walk _ _ _ _ k,
+      cleared-walk _ _ _ _ k,
       record { start = omega arith; some = λ z. omega arith; real = λ z. omega arith; children = omega arith; nodes = omega arith },
       omega arith,
-      tabled-low _ _ _ _ k,
+      cleared-low _ _ _ _ k,
     )
 
 returns : tie.Need-returns

@@ -89,7 +89,7 @@ module _ (rom : List ℕ) (size : ℕ) (b : Board) (good : Bool) (seen′ : List
 
 -- ---- what a program is judged by
 -- a good header, its length, and clear tables with room for it
-pub record Tabled (rom : List ℕ) (n : ℕ) (seen work : List ℕ) : Type 0 where
+pub record Cleared (rom : List ℕ) (n : ℕ) (seen work : List ℕ) : Type 0 where
   pub header : headerOf rom ≡ 0
   pub size : n ≡ lengthOf rom
   pub clear : seen ≡ replicate (roomOf (lengthOf rom)) 0
@@ -98,7 +98,7 @@ pub record Tabled (rom : List ℕ) (n : ℕ) (seen work : List ℕ) : Type 0 whe
 -- and the mark buffer
 pub record Judging (rom : List ℕ) (n : ℕ) (marks seen work : List ℕ) : Type 0 where
   pub buffer : length marks ≡ marksSize
-  pub tabled : Tabled rom n seen work
+  pub cleared : Cleared rom n seen work
 
 -- the same before the tables are there
 pub record Judged (rom : List ℕ) (n : ℕ) (marks : List ℕ) (room : ℕ) : Type 0 where
@@ -116,29 +116,29 @@ pub judging : (rom : List ℕ) (n : ℕ) (marks : List ℕ) (room : ℕ) → Jud
 judging rom n marks room k =
     record {
       buffer = k .buffer;
-      tabled = record { header = k .header; size = k .size; clear = rw (← k .size, ← k .fits) refl; wide = omega arith };
+      cleared = record { header = k .header; size = k .size; clear = rw (← k .size, ← k .fits) refl; wide = omega arith };
     }
 
 -- and of another ROM that has the same program
-pub tabled-same : {rom other : List ℕ} {n : ℕ} {seen work : List ℕ} → SamePrograms rom other → Tabled other n seen work
-    → Tabled rom n seen work
-tabled-same s k =
+pub cleared-same : {rom other : List ℕ} {n : ℕ} {seen work : List ℕ} → SamePrograms rom other → Cleared other n seen work
+    → Cleared rom n seen work
+cleared-same s k =
     record { header = s .header ∙ k .header; size = k .size ∙ sym (s .length); clear = rw (s .length) (k .clear); wide = k .wide }
 
-module _ (rom : List ℕ) (n : ℕ) (seen work : List ℕ) (k : Tabled rom n seen work) where
+module _ (rom : List ℕ) (n : ℕ) (seen work : List ℕ) (k : Cleared rom n seen work) where
   cells : length seen ≡ roomOf n
   cells = rw (k .clear, k .size) (length-replicate (roomOf (lengthOf rom)) 0)
 
-  pub tabled-short : n ≤ romMost
-  tabled-short = rw (k .size) (header-length rom (k .header))
+  pub cleared-short : n ≤ romMost
+  cleared-short = rw (k .size) (header-length rom (k .header))
 
-  pub tabled-walk : WalkTables n seen work
-  tabled-walk =
-      let h = has-room n tabled-short cells in
+  pub cleared-walk : WalkTables n seen work
+  cleared-walk =
+      let h = has-room n cleared-short cells in
       record { room = h .0; few = h .1; wide = k .wide }
 
-  pub tabled-low : Bounded 65536 seen
-  tabled-low = rw (k .clear) (zeros-bounded (roomOf (lengthOf rom)))
+  pub cleared-low : Bounded 65536 seen
+  cleared-low = rw (k .clear) (zeros-bounded (roomOf (lengthOf rom)))
 
 -- ---- the verdict
 module _ (rom marks : List ℕ) where
