@@ -3,8 +3,10 @@ ghost use mathlib.Core.Path.{_≡_};
 ghost use Prim.Native.Nat.{_≤_};
 ghost use lib.ListN.{length, replicate};
 ghost use Rattle.rom.specs.Sizes.{marksSize, romMost};
-ghost use Rattle.screen.specs.Laws.Found.Model.{laidOf};
-ghost use Rattle.screen.specs.Laws.Code.Screen.{Judging, Judged};
+ghost use Rattle.rom.specs.Spread.{fcodeOf};
+ghost use Rattle.screen.specs.Laws.Found.Model.{laidOf, screenOf};
+ghost use Rattle.screen.specs.Laws.Code.Screen.{passedBy, Cleared, Judging, Judged};
+ghost use Rattle.screen.specs.Laws.Code.Spread.{roomWith, judgedBytes};
 ghost use Rattle.screen.specs.Laws.Found.Screen.{screened, judgedOf};
 ghost use Rattle.screen.specs.Promise.{Promised};
 use crate::cell::FIRST_CELL;
@@ -12,10 +14,13 @@ use crate::cell::mark_in;
 use crate::limits::FIRST_PLACE;
 use crate::rounds::Stand;
 use crate::rounds::all_rounds;
+use rom::Spread;
 use rom::check_header;
+use rom::lay_fcode;
 use rom::program_length;
 use rom::sizes::MARKS_SIZE;
 use rom::sizes::ROM_MOST;
+use rom::spread_of;
 use rom::wide_start;
 use tokens::first_codes;
 use tokens::programs::PROGRAMS_MOST;
@@ -53,16 +58,10 @@ fn clear_marks(marks: &mut [u8])
     }
 }
 
-// A program of a length, by tables that have room for it.
-fn judge_in(
-    rom: &[u8],
-    length: u32,
-    marks: &mut [u8],
-    seen: &mut [u32],
-    work: &mut [u16],
-) -> Verdict
-    requires { ⌜ Judging (now rom) length (now marks) (now seen) (now work) ⌝ }
-    ensures { λ r. ⌜ screened r (now (marks .exit)) ≡ judgedOf (now (rom .entry)) (now (marks .entry)) ⌝ }
+// Whether heights are found for a program of a length, by tables that have room for it; where they are, its cells hold them.
+fn finds_heights(rom: &[u8], length: u32, seen: &mut [u32], work: &mut [u16]) -> bool
+    requires { ⌜ Cleared (now rom) length (now seen) (now work) ⌝ }
+    ensures { λ r. ⌜ passedBy r (now (seen .exit)) ≡ screenOf (now (rom .entry)) ⌝ }
 {
     let codes = first_codes();
     let mut kinds = [0u8; PROGRAMS_MOST];
@@ -75,17 +74,57 @@ fn judge_in(
         nodes: 2,
         count: 0,
     };
-    let good = all_rounds(
+    all_rounds(
         &codes,
         rom,
         length,
-        &mut *seen,
-        &mut *work,
+        seen,
+        work,
         &mut kinds,
         &mut sums,
         first,
-    );
-    if good {
+    )
+}
+
+// The first FCode bytes of a spread ROM are laid into the front of a room; of a ROM that is not spread nothing is copied.
+fn lay_spread(rom: &[u8], spread: Spread, count: usize, room: &mut [u8])
+    requires { ⌜ count ≤ length (now room) ⌝ }
+    ensures { λ r. ⌜ now (room .exit) ≡ roomWith spread (now (rom .entry)) count (now (room .entry)) ⌝ }
+{
+    match spread {
+        Spread::One => {}
+        _ => lay_fcode(rom, spread, &mut room[..count]),
+    }
+}
+
+// The bytes to judge: the ROM itself, or the front of the room where a spread ROM's are laid out.
+fn laid<'a>(rom: &'a [u8], spread: Spread, count: usize, room: &'a [u8]) -> &'a [u8]
+    requires { ⌜ count ≤ length (now room) ⌝ }
+    ensures { λ r. ⌜ now r ≡ judgedBytes spread (now (rom .entry)) count (now (room .entry)) ⌝ }
+{
+    match spread {
+        Spread::One => rom,
+        _ => &room[..count],
+    }
+}
+
+// A program of a length, by tables that have room for it. The mark buffer is written whatever the verdict is, so that until then it can
+// hold the FCode bytes of a spread ROM: as many as the program has.
+fn judge_in(
+    rom: &[u8],
+    length: u32,
+    marks: &mut [u8],
+    seen: &mut [u32],
+    work: &mut [u16],
+) -> Verdict
+    requires { ⌜ Judging (fcodeOf (now rom)) length (now marks) (now seen) (now work) ⌝ }
+    ensures { λ r. ⌜ screened r (now (marks .exit)) ≡ judgedOf (fcodeOf (now (rom .entry))) (now (marks .entry)) ⌝ }
+{
+    let spread = spread_of(rom);
+    let count = length as usize;
+    lay_spread(rom, spread, count, &mut *marks);
+    let program = laid(rom, spread, count, &*marks);
+    if finds_heights(program, length, &mut *seen, &mut *work) {
         lay_marks(&*seen, marks);
         return Verdict::Passes;
     }
@@ -94,8 +133,8 @@ fn judge_in(
 }
 
 fn judge_least(rom: &[u8], length: u32, marks: &mut [u8]) -> Verdict
-    requires { ⌜ Judged (now rom) length (now marks) 256 ⌝ }
-    ensures { λ r. ⌜ screened r (now (marks .exit)) ≡ judgedOf (now (rom .entry)) (now (marks .entry)) ⌝ }
+    requires { ⌜ Judged (fcodeOf (now rom)) length (now marks) 256 ⌝ }
+    ensures { λ r. ⌜ screened r (now (marks .exit)) ≡ judgedOf (fcodeOf (now (rom .entry))) (now (marks .entry)) ⌝ }
 {
     let mut seen = [0u32; 256];
     let mut work = [0u16; 256];
@@ -103,8 +142,8 @@ fn judge_least(rom: &[u8], length: u32, marks: &mut [u8]) -> Verdict
 }
 
 fn judge_small(rom: &[u8], length: u32, marks: &mut [u8]) -> Verdict
-    requires { ⌜ Judged (now rom) length (now marks) 1024 ⌝ }
-    ensures { λ r. ⌜ screened r (now (marks .exit)) ≡ judgedOf (now (rom .entry)) (now (marks .entry)) ⌝ }
+    requires { ⌜ Judged (fcodeOf (now rom)) length (now marks) 1024 ⌝ }
+    ensures { λ r. ⌜ screened r (now (marks .exit)) ≡ judgedOf (fcodeOf (now (rom .entry))) (now (marks .entry)) ⌝ }
 {
     let mut seen = [0u32; 1024];
     let mut work = [0u16; 1024];
@@ -112,8 +151,8 @@ fn judge_small(rom: &[u8], length: u32, marks: &mut [u8]) -> Verdict
 }
 
 fn judge_middle(rom: &[u8], length: u32, marks: &mut [u8]) -> Verdict
-    requires { ⌜ Judged (now rom) length (now marks) 4096 ⌝ }
-    ensures { λ r. ⌜ screened r (now (marks .exit)) ≡ judgedOf (now (rom .entry)) (now (marks .entry)) ⌝ }
+    requires { ⌜ Judged (fcodeOf (now rom)) length (now marks) 4096 ⌝ }
+    ensures { λ r. ⌜ screened r (now (marks .exit)) ≡ judgedOf (fcodeOf (now (rom .entry))) (now (marks .entry)) ⌝ }
 {
     let mut seen = [0u32; 4096];
     let mut work = [0u16; 4096];
@@ -121,8 +160,8 @@ fn judge_middle(rom: &[u8], length: u32, marks: &mut [u8]) -> Verdict
 }
 
 fn judge_large(rom: &[u8], length: u32, marks: &mut [u8]) -> Verdict
-    requires { ⌜ Judged (now rom) length (now marks) 16384 ⌝ }
-    ensures { λ r. ⌜ screened r (now (marks .exit)) ≡ judgedOf (now (rom .entry)) (now (marks .entry)) ⌝ }
+    requires { ⌜ Judged (fcodeOf (now rom)) length (now marks) 16384 ⌝ }
+    ensures { λ r. ⌜ screened r (now (marks .exit)) ≡ judgedOf (fcodeOf (now (rom .entry))) (now (marks .entry)) ⌝ }
 {
     let mut seen = [0u32; 16384];
     let mut work = [0u16; 16384];
@@ -130,8 +169,8 @@ fn judge_large(rom: &[u8], length: u32, marks: &mut [u8]) -> Verdict
 }
 
 fn judge_most(rom: &[u8], length: u32, marks: &mut [u8]) -> Verdict
-    requires { ⌜ Judged (now rom) length (now marks) romMost ⌝ }
-    ensures { λ r. ⌜ screened r (now (marks .exit)) ≡ judgedOf (now (rom .entry)) (now (marks .entry)) ⌝ }
+    requires { ⌜ Judged (fcodeOf (now rom)) length (now marks) romMost ⌝ }
+    ensures { λ r. ⌜ screened r (now (marks .exit)) ≡ judgedOf (fcodeOf (now (rom .entry))) (now (marks .entry)) ⌝ }
 {
     let mut seen = [0u32; ROM_MOST];
     let mut work = [0u16; ROM_MOST];
@@ -144,7 +183,7 @@ fn judge_most(rom: &[u8], length: u32, marks: &mut [u8]) -> Verdict
 // function of their own: so the compiler takes the calls with the large tables for rare, and does not lay these into the frame that a small
 // ROM's call has (docs/DECISIONS.md, point 122; tests/host.c looks at the stack).
 pub fn screen(rom: &[u8], marks: &mut [u8]) -> Verdict
-    ensures { λ r. ⌜ Promised (now (rom .entry)) (now (marks .entry)) r (now (marks .exit)) ⌝ }
+    ensures { λ r. ⌜ Promised (fcodeOf (now (rom .entry))) (now (marks .entry)) r (now (marks .exit)) ⌝ }
 {
     if marks.len() != MARKS_SIZE {
         return Verdict::Refused(6);
@@ -153,7 +192,7 @@ pub fn screen(rom: &[u8], marks: &mut [u8]) -> Verdict
     if why != 0 {
         return Verdict::Refused(why);
     }
-    let length = program_length(rom);
+    let length = program_length(rom, spread_of(rom));
     if length <= 256 {
         return judge_least(rom, length, marks);
     }

@@ -14,3 +14,5 @@ pub mod Keep
 pub mod Round
 -- The screen's definitions, by what the code has learnt where it returns.
 pub mod Screen
+-- Which bytes the code judges, of a ROM that is spread and of one that is not.
+pub mod Spread

@@ -14,13 +14,14 @@ use lib.Dec.{eqb}
 use Rattle.cells.specs.Laws.Facts.{when-true, when-false}
 use Rattle.rom.specs.Sizes.{romMost, marksSize}
 use Rattle.rom.specs.Header.{lengthOf, wideOf, headerOf}
+use Rattle.tokens.specs.Laws.Past.{SamePrograms}
 use Rattle.screen.specs.Laws.Found.Model.{Board, RoundEnd, roomOf, firstBoard, roundsOf, lastOf, laidOf, screenOf}
 use Rattle.screen.specs.Laws.Found.Room.{has-room, zeros}
 use Rattle.screen.specs.Laws.Found.Laid.{header-length, laid-size, laid-at}
 use Rattle.screen.specs.Laws.Code.Walk.{WalkTables}
 use Rattle.screen.specs.Laws.Code.Body.{Bounded}
 use Rattle.screen.specs.Laws.Code.Round.{PassedIs}
-use Rattle.screen.specs.Laws.Found.Screen.{screened, verdictOn, judgedOf, screenedOf}
+use Rattle.screen.specs.Laws.Found.Screen.{screened, judgedOf, screenedOf}
 use Rattle.screen.specs.declared.screening.Verdict.the-variants.{Passes, Refused}
 use Rattle.screen.specs.Laws.Found.Cell.{markIn, mark-none}
 
@@ -62,14 +63,42 @@ filled-zeros n l i e h k =
 zeros-bounded : (n : ℕ) → Bounded 65536 (replicate n 0)
 zeros-bounded n = record { each = λ p. rw (zeros n p) (omega arith) }
 
+-- ---- whether a program passes, and its marks where it does
+abbrev pub passedBy : Bool → List ℕ → Option (List ℕ)
+passedBy true seen = some (laidOf seen)
+passedBy false seen = none
+
+module _ (rom : List ℕ) (size : ℕ) (b : Board) (good : Bool) (seen′ : List ℕ) (e : size ≡ lengthOf rom)
+    (f : b ≡ firstBoard (roomOf (lengthOf rom)) (wideOf rom))
+    (p : PassedIs (roundsOf rom size romMost b) good seen′) where
+  last-so : roundsOf rom size romMost b ≡ lastOf rom
+  unfolding lastOf
+  last-so =
+      ap (λ (n : ℕ). roundsOf rom n romMost b) e ∙ ap (λ (y : Board). roundsOf rom (lengthOf rom) romMost y) f
+
+  passed-last : PassedIs (lastOf rom) good seen′
+  passed-last = subst (λ (m : RoundEnd). PassedIs m good seen′) last-so p
+
+  pub passed-by : passedBy good seen′ ≡ screenOf rom
+  unfolding screenOf
+  passed-by = so good (passed-last .same) (passed-last .whole)
+    where
+      so : (g : Bool) → lastOf rom .good ≡ g → (g ≡ true → lastOf rom .board .seen ≡ seen′) → passedBy g seen′ ≡ screenOf rom
+      so true s w = ap (λ (l : List ℕ). some (laidOf l)) (sym (w refl)) ∙ sym (when-true _ none (lastOf rom .good) s)
+      so false s w = sym (when-false (some (laidOf (lastOf rom .board .seen))) none (lastOf rom .good) s)
+
 -- ---- what a program is judged by
--- a good header, its length, the mark buffer, and clear tables with room for it
-pub record Judging (rom : List ℕ) (n : ℕ) (marks seen work : List ℕ) : Type 0 where
+-- a good header, its length, and clear tables with room for it
+pub record Cleared (rom : List ℕ) (n : ℕ) (seen work : List ℕ) : Type 0 where
   pub header : headerOf rom ≡ 0
   pub size : n ≡ lengthOf rom
-  pub buffer : length marks ≡ marksSize
   pub clear : seen ≡ replicate (roomOf (lengthOf rom)) 0
   pub wide : length seen ≤ length work
+
+-- and the mark buffer
+pub record Judging (rom : List ℕ) (n : ℕ) (marks seen work : List ℕ) : Type 0 where
+  pub buffer : length marks ≡ marksSize
+  pub cleared : Cleared rom n seen work
 
 -- the same before the tables are there
 pub record Judged (rom : List ℕ) (n : ℕ) (marks : List ℕ) (room : ℕ) : Type 0 where
@@ -86,25 +115,30 @@ pub judging : (rom : List ℕ) (n : ℕ) (marks : List ℕ) (room : ℕ) → Jud
     → Judging rom n marks (replicate room 0) (replicate room 0)
 judging rom n marks room k =
     record {
-      header = k .header;
-      size = k .size;
       buffer = k .buffer;
-      clear = rw (← k .size, ← k .fits) refl;
-      wide = omega arith;
+      cleared = record { header = k .header; size = k .size; clear = rw (← k .size, ← k .fits) refl; wide = omega arith };
     }
 
-module _ (rom : List ℕ) (n : ℕ) (marks seen work : List ℕ) (k : Judging rom n marks seen work) where
+-- and of another ROM that has the same program
+pub cleared-same : {rom other : List ℕ} {n : ℕ} {seen work : List ℕ} → SamePrograms rom other → Cleared other n seen work
+    → Cleared rom n seen work
+cleared-same s k =
+    record { header = s .header ∙ k .header; size = k .size ∙ sym (s .length); clear = rw (s .length) (k .clear); wide = k .wide }
+
+module _ (rom : List ℕ) (n : ℕ) (seen work : List ℕ) (k : Cleared rom n seen work) where
   cells : length seen ≡ roomOf n
   cells = rw (k .clear, k .size) (length-replicate (roomOf (lengthOf rom)) 0)
 
-  pub judging-tables : WalkTables n seen work
-  judging-tables =
-      let l : n ≤ romMost = rw (k .size) (header-length rom (k .header)) in
-      let h = has-room n l cells in
+  pub cleared-short : n ≤ romMost
+  cleared-short = rw (k .size) (header-length rom (k .header))
+
+  pub cleared-walk : WalkTables n seen work
+  cleared-walk =
+      let h = has-room n cleared-short cells in
       record { room = h .0; few = h .1; wide = k .wide }
 
-  pub judging-low : Bounded 65536 seen
-  judging-low = rw (k .clear) (zeros-bounded (roomOf (lengthOf rom)))
+  pub cleared-low : Bounded 65536 seen
+  cleared-low = rw (k .clear) (zeros-bounded (roomOf (lengthOf rom)))
 
 -- ---- the verdict
 module _ (rom marks : List ℕ) where
@@ -125,32 +159,13 @@ module _ (rom marks : List ℕ) where
   screen-judged l e =
       sym (when-true _ _ (eqb (length marks) marksSize) (eq-eqb _ _ l) ∙ when-true _ _ (eqb (headerOf rom) 0) (eq-eqb _ _ e))
 
-  module _ (size : ℕ) (b : Board) (good : Bool) (seen′ : List ℕ) (e : size ≡ lengthOf rom)
-      (f : b ≡ firstBoard (roomOf (lengthOf rom)) (wideOf rom))
-      (p : PassedIs (roundsOf rom size romMost b) good seen′) where
-    last-so : roundsOf rom size romMost b ≡ lastOf rom
-    unfolding lastOf
-    last-so =
-        ap (λ (n : ℕ). roundsOf rom n romMost b) e ∙ ap (λ (y : Board). roundsOf rom (lengthOf rom) romMost y) f
+  -- with the cells of a program that passes, or without
+  pub judge-passes : (good : Bool) (seen′ marks′ : List ℕ) → passedBy good seen′ ≡ screenOf rom → good ≡ true → marks′ ≡ laidOf seen′
+      → screened Passes marks′ ≡ judgedOf rom marks
+  unfolding judgedOf
+  judge-passes good seen′ marks′ e g m = rw (← e, g, m) refl
 
-    passed-last : PassedIs (lastOf rom) good seen′
-    passed-last = subst (λ (m : RoundEnd). PassedIs m good seen′) last-so p
-
-    pub judge-passes : good ≡ true → (marks′ : List ℕ) → marks′ ≡ laidOf seen′ → screened Passes marks′ ≡ judgedOf rom marks
-    unfolding judgedOf screenOf
-    judge-passes g marks′ m =
-        let k = passed-last in
-        m-so marks′ m (k .whole g) ∙ ap (λ (o : Option (List ℕ)). verdictOn marks o)
-        (sym (when-true (some (laidOf (lastOf rom .board .seen))) none (lastOf rom .good) (k .same ∙ g)))
-      where
-        m-so : (marks′ : List ℕ) → marks′ ≡ laidOf seen′ → lastOf rom .board .seen ≡ seen′
-            → screened Passes marks′ ≡ screened Passes (laidOf (lastOf rom .board .seen))
-        m-so marks′ m s = ap (λ (l : List ℕ). screened Passes l) (m ∙ ap (λ (l : List ℕ). laidOf l) (sym s))
-
-    pub judge-refuses : good ≡ false → (marks′ : List ℕ) → marks′ ≡ replicate (length marks) 0
-        → screened (Refused 31) marks′ ≡ judgedOf rom marks
-    unfolding judgedOf screenOf
-    judge-refuses g marks′ m =
-        let k = passed-last in
-        ap (λ (l : List ℕ). screened (Refused 31) l) m ∙ ap (λ (o : Option (List ℕ)). verdictOn marks o)
-        (sym (when-false (some (laidOf (lastOf rom .board .seen))) none (lastOf rom .good) (k .same ∙ g)))
+  pub judge-refuses : (good : Bool) (seen′ marks′ : List ℕ) → passedBy good seen′ ≡ screenOf rom → good ≡ false
+      → marks′ ≡ replicate (length marks) 0 → screened (Refused 31) marks′ ≡ judgedOf rom marks
+  unfolding judgedOf
+  judge-refuses good seen′ marks′ e g m = rw (← e, g, m) refl

@@ -15,6 +15,7 @@ use mathlib.Core.Option.{none, some}
 use lib.Seq.{ext-getD}
 use Rattle.rom.specs.Header.{lengthOf, headerOf}
 use Rattle.rom.specs.Sizes.{romMost, marksSize, dataMost}
+use Rattle.tokens.specs.Laws.Past.{SamePrograms}
 use Rattle.screen.specs.Reach.{Setting, Reach}
 use Rattle.screen.specs.Rules.{Assignment}
 use Rattle.screen.specs.Laws.Found.Model.{Board, roomOf, lastOf, laidOf, screenOf}
@@ -22,6 +23,7 @@ use Rattle.screen.specs.Laws.Found.Screen.{Screened, screened, verdictOn
 use Rattle.screen.specs.Laws.Found.Room.{room-most, zeros}
 use Rattle.screen.specs.Laws.Found.Laid.{header-length, laid-size, laid-at}
 use Rattle.screen.specs.Promise.{Marks, Promised, wrong-size, bad-header, no-heights, passes}
+use Rattle.screen.specs.Laws.Rules.Past.{promised-there}
 use Rattle.screen.specs.Laws.Walk.Rounds.{Ready, ran-size, Chain, ends, goes}
 use Rattle.screen.specs.Laws.Walk.Boards.{advanced}
 use Rattle.screen.specs.Laws.Walk.Chains.{here, chain-of, first-ready, chain-kept}
@@ -168,3 +170,12 @@ one-result (passes r h a k) (bad-header s j) = absurd (j h)
 one-result (passes r h a k) (no-heights s j z) = absurd (z a)
 one-result {rom} (passes {marks = m} r h a k) (passes {marks = n} s j b l) =
     let f = header-length rom h in (refl, marks-are rom f a m k ∙ sym (marks-are rom f b n l))
+
+-- ---- and two ROMs with the same program are judged alike
+pub judged-same : {rom other : List ℕ} (before : List ℕ) → SamePrograms rom other → length before ≡ marksSize → headerOf other ≡ 0
+    → judgedOf rom before ≡ judgedOf other before
+judged-same {rom} {other} before p s h =
+    let here = judged rom before s (p .header ∙ h) (lastOf rom .good) refl in
+    let there = judged other before s h (lastOf other .good) refl in
+    let (v, m) = one-result (promised-there p here) there in
+    λ i. screened (v i) (m i)

@@ -1,15 +1,14 @@
--- "Bytes past the length are ignored": of two ROMs that differ past their length alone the same tokens can be reached, and heights of
--- the one are heights of the other. By the rules of reachability and of heights, and by nothing that finds them. Assumes nothing.
+-- "Bytes past the length are ignored", and so is whatever else leaves a ROM's tokens as they are: of two ROMs with the same verdict of the
+-- header, the same length, first width and tokens the same tokens can be reached, and heights of the one are heights of the other. By the
+-- rules of reachability and of heights, and by nothing that finds them. Assumes nothing.
 use Prim.Native.Nat.{ℕ}
 use mathlib.Core.Path.{_≡_, refl, sym, ap, _∙_, subst}
 use mathlib.Core.Bool.{Bool}
 use mathlib.Core.List.{List}
 use Rattle.rom.specs.Sizes.{firstPlace}
 use Rattle.rom.specs.Header.{lengthOf}
-use Rattle.rom.specs.Alike.{Alike}
-use Rattle.rom.specs.Laws.Past.{alike-back, same-length, same-wide, same-header}
 use Rattle.tokens.specs.Place.{readOf}
-use Rattle.tokens.specs.Laws.Past.{same-read}
+use Rattle.tokens.specs.Laws.Past.{same-read, SamePrograms, programs-back}
 use Rattle.tokens.specs.declared.decoding.Token.{Token}
 use Rattle.tokens.specs.declared.read.Read.the-variants.{Good}
 use Rattle.screen.specs.Reach.{Setting, setting, inBody, tokenAt, Claim, reached, Holds, first, body, next, by-itself, past-body}
@@ -21,17 +20,17 @@ use Rattle.screen.specs.declared.screening.Verdict.{Verdict}
 use Rattle.screen.specs.declared.screening.Verdict.the-variants.{Refused}
 
 -- ---- what is reachable
-module _ {rom other : List ℕ} (a : Alike rom other) where
+module _ {rom other : List ℕ} (a : SamePrograms rom other) where
   same-token : (x : ℕ) (wide : Bool) (p : ℕ) → tokenAt rom x wide p ≡ tokenAt other x wide p
   same-token x wide p =
-      same-read (lengthOf rom) rom other (a .program .same) wide (inBody x) p ∙ ap (λ n. readOf other n wide (inBody x) p) (same-length a)
+      same-read (lengthOf rom) rom other (a .tokens) wide (inBody x) p ∙ ap (λ n. readOf other n wide (inBody x) p) (a .length)
 
   -- a token of the one is a token of the other
   token-there : (x : ℕ) (wide : Bool) (p : ℕ) {t : Token} → tokenAt rom x wide p ≡ Good t → tokenAt other x wide p ≡ Good t
   token-there x wide p e = sym (same-token x wide p) ∙ e
 
   pub holds-there : {c : Claim} → Holds rom c → Holds other c
-  holds-there first = subst (λ w. Holds other (reached 0 (setting w) firstPlace)) (sym (same-wide a)) first
+  holds-there first = subst (λ w. Holds other (reached 0 (setting w) firstPlace)) (sym (a .wide)) first
   holds-there (body {s} {d} h e k r) = body (holds-there h) (token-there 0 (s .wide) d e) k (holds-there r)
   holds-there (next {x} {s} {p} h e l) = next (holds-there h) (token-there x (s .wide) p e) (holds-there l)
   holds-there (by-itself k i) = by-itself (holds-there k) i
@@ -54,9 +53,9 @@ module _ {rom other : List ℕ} (a : Alike rom other) where
   starts-there {w} (behind {p} s e n) = behind (starts-there s) (token-there 1 w p e) n
 
 -- ---- heights
-module _ {rom other : List ℕ} (a : Alike rom other) where
-  abbrev back : Alike other rom
-  back = alike-back a
+module _ {rom other : List ℕ} (a : SamePrograms rom other) where
+  abbrev back : SamePrograms other rom
+  back = programs-back a
 
   most-there : {d m : ℕ} (worth : ℕ → Token → ℕ) → Most rom d worth m → Most other d worth m
   most-there worth m =
@@ -102,25 +101,25 @@ module _ {rom other : List ℕ} (a : Alike rom other) where
       }
 
 -- they are the same heights, and a number does the same to them
-module _ {rom other : List ℕ} (a : Alike rom other) (h : Assignment rom) where
+module _ {rom other : List ℕ} (a : SamePrograms rom other) (h : Assignment rom) where
   pub same-heights : (heights-there a h .height ≡ h .height) × (heights-there a h .back ≡ h .back) × (heights-there a h .sum ≡ h .sum)
   unfolding heights-there
   same-heights = (refl, refl, refl)
 
 -- ---- the promise: what allows an answer and its marks for the one allows them for the other
-module _ {rom other : List ℕ} (a : Alike rom other) where
+module _ {rom other : List ℕ} (a : SamePrograms rom other) where
   marks-there : (h : Assignment rom) {marks : List ℕ} → Marks rom h marks → Marks other (heights-there a h) marks
   unfolding heights-there
   marks-there h m =
       record {
         size = m .size;
-        height = λ r. m .height (holds-there (alike-back a) r);
+        height = λ r. m .height (holds-there (programs-back a) r);
         elsewhere = λ p n. m .elsewhere p (λ x s r. n x s (holds-there a r));
       }
 
   pub promised-there : {before after : List ℕ} {v : Verdict} → Promised rom before v after → Promised other before v after
   promised-there (wrong-size n) = wrong-size n
   promised-there {before} (bad-header s n) =
-      subst (λ w. Promised other before (Refused w) before) (sym (same-header a)) (bad-header s (λ e. n (same-header a ∙ e)))
-  promised-there (no-heights s h n) = no-heights s (sym (same-header a) ∙ h) (λ k. n (heights-there (alike-back a) k))
-  promised-there (passes s h k m) = passes s (sym (same-header a) ∙ h) (heights-there a k) (marks-there k m)
+      subst (λ w. Promised other before (Refused w) before) (sym (a .header)) (bad-header s (λ e. n (a .header ∙ e)))
+  promised-there (no-heights s h n) = no-heights s (sym (a .header) ∙ h) (λ k. n (heights-there (programs-back a) k))
+  promised-there (passes s h k m) = passes s (sym (a .header) ∙ h) (heights-there a k) (marks-there k m)
