@@ -1,7 +1,6 @@
 // A step and a run. Both test the state, take it apart once, carry tokens out in place, and put it together once.
 ghost use mathlib.Core.Path.{_≡_};
 ghost use Prim.Native.Nat.{_≤_, _<_};
-ghost use lib.ListN.{length};
 ghost use Rattle.rom.specs.Spread.{viewOf, fcodeOf};
 ghost use Rattle.state.specs.Scene.{scene, handedBack};
 ghost use Rattle.state.specs.Step.{readyOf, tokenTurn, stepOf};
@@ -10,7 +9,7 @@ ghost use Rattle.state.specs.Joints.Apart.{joined, arrays};
 ghost use Rattle.state.specs.Laws.Sized.{Sized};
 ghost use Rattle.acts.specs.Joints.Acts.{Ready};
 ghost use Rattle.machine.specs.Joints.Cruised.{cruisedBy, cruisedTo, oneOf};
-ghost use Rattle.machine.specs.Joints.Rooms.{smallRoom, largeRoom};
+ghost use Rattle.machine.specs.Joints.Rooms.{smallRoom, largeRoom, RoomFor};
 use acts::cold_token;
 use acts::fill_tables;
 use reckon::Fared;
@@ -284,8 +283,8 @@ fn tokens(rom: &[u8], work: &mut [u8], store: &mut [u8], st: State, budget: u32)
     ended(answer, r.count, state)
 }
 
-// The same of a spread ROM: its FCode bytes are laid into a room first, which has as many as the state's length says, so that the loop over
-// tokens reads every ROM alike.
+// The same of a spread ROM: its FCode bytes are laid into a room first, as many as the state's length says, so that the loop over tokens
+// reads every ROM alike.
 fn tokens_laid(
     rom: &[u8],
     spread: Spread,
@@ -295,12 +294,13 @@ fn tokens_laid(
     st: State,
     budget: u32,
 ) -> Ran
-    requires { ⌜ Ready (viewOf spread (now rom)) (now work) (now store) st × Sized st × (length (now room) ≡ st .length) ⌝ }
+    requires { ⌜ Ready (viewOf spread (now rom)) (now work) (now store) st × Sized st × RoomFor (st .length) (now room) ⌝ }
     ensures { λ r. ⌜ toldRan r (now (work .exit)) (now (store .exit)) ≡ runOf budget
         (scene (viewOf spread (now (rom .entry))) (now (work .entry)) (now (store .entry)) st) ⌝ }
 {
-    lay_fcode(rom, spread, &mut *room);
-    tokens(&*room, work, store, st, budget)
+    let n = st.length as usize;
+    lay_fcode(rom, spread, &mut room[..n]);
+    tokens(&room[..n], work, store, st, budget)
 }
 
 // A room is cleared at each call, so that a small program has a small one.
@@ -317,8 +317,7 @@ fn tokens_small(
         (scene (viewOf spread (now (rom .entry))) (now (work .entry)) (now (store .entry)) st) ⌝ }
 {
     let mut room = [0u8; SMALL_ROOM];
-    let n = st.length as usize;
-    tokens_laid(rom, spread, &mut room[..n], work, store, st, budget)
+    tokens_laid(rom, spread, &mut room, work, store, st, budget)
 }
 
 fn tokens_large(
@@ -334,8 +333,7 @@ fn tokens_large(
         (scene (viewOf spread (now (rom .entry))) (now (work .entry)) (now (store .entry)) st) ⌝ }
 {
     let mut room = [0u8; LARGE_ROOM];
-    let n = st.length as usize;
-    tokens_laid(rom, spread, &mut room[..n], work, store, st, budget)
+    tokens_laid(rom, spread, &mut room, work, store, st, budget)
 }
 
 fn tokens_spread(
