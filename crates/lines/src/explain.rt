@@ -115,7 +115,7 @@ fn sums(text: &mut [u8], at: usize, fcode: &[u8]) -> usize
     if bad_length(fcode) {
         return at;
     }
-    let field = word16(fcode, Spread::One, 2);
+    let field = word16(fcode, 2);
     let length = program_length(fcode, Spread::One);
     sum_words(text, at, field, body_sum(fcode, Spread::One, length))
 }
@@ -124,7 +124,7 @@ fn sum_line(text: &mut [u8], at: usize, fcode: &[u8]) -> usize
     ensures { λ r. ⌜ Wrote (now (text .entry)) (now (text .exit)) at r (sumLine (now (fcode .entry))) ⌝ }
 {
     let at = say(text, at, b"checksum: ");
-    let at = hex_word(text, at, word16(fcode, Spread::One, 2));
+    let at = hex_word(text, at, word16(fcode, 2));
     let at = sums(text, at, fcode);
     letter(text, at, b'\n')
 }

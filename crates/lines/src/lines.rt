@@ -18,7 +18,6 @@ use crate::printed::quoted;
 use crate::printed::text_of;
 use crate::words::letter;
 use crate::words::say;
-use rom::Spread;
 use rom::word32;
 use tree::Tree;
 
@@ -65,7 +64,7 @@ fn number_read(text: &mut [u8], at: usize, value: &[u8]) -> usize
         return at;
     }
     let at = letter(text, at, b' ');
-    decimal(text, at, word32(value, Spread::One, 0))
+    decimal(text, at, word32(value, 0))
 }
 
 fn text_read(text: &mut [u8], at: usize, value: &[u8]) -> usize

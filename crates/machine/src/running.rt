@@ -1,27 +1,31 @@
 // A step and a run. Both test the state, take it apart once, carry tokens out in place, and put it together once.
 ghost use mathlib.Core.Path.{_≡_};
-ghost use Prim.Native.Nat.{_≤_, _<_};
+ghost use Prim.Native.Nat.{_≤_, _<_, min, max};
+ghost use Rattle.rom.specs.Sizes.{romLeast};
 ghost use Rattle.rom.specs.Spread.{viewOf, fcodeOf};
 ghost use Rattle.state.specs.Scene.{scene, handedBack};
-ghost use Rattle.state.specs.Step.{readyOf, tokenTurn, stepOf};
+ghost use Rattle.state.specs.Step.{readyOf, stepOf};
 ghost use Rattle.state.specs.Run.{runOf, toldRan, ranOf};
 ghost use Rattle.state.specs.Joints.Apart.{joined, arrays};
 ghost use Rattle.state.specs.Laws.Sized.{Sized};
 ghost use Rattle.acts.specs.Joints.Acts.{Ready};
 ghost use Rattle.machine.specs.Joints.Cruised.{cruisedBy, cruisedTo, oneOf};
-ghost use Rattle.machine.specs.Joints.Rooms.{smallRoom, largeRoom, RoomFor};
+ghost use Rattle.machine.specs.Joints.Rooms.{smallRoom, middleRoom, largeRoom, RoomFor, SpreadIs, Laying};
 use acts::cold_token;
 use acts::fill_tables;
 use reckon::Fared;
 use reckon::fast;
 use rom::Spread;
+use rom::fcode_count;
 use rom::lay_fcode;
+use rom::least;
 use rom::sizes::DATA_MOST;
 use rom::sizes::FRAMES_MOST;
 use rom::sizes::NODES_MOST;
 use rom::sizes::NUMBERS_MOST;
 use rom::sizes::PROPERTIES_MOST;
 use rom::sizes::RETURN_MOST;
+use rom::sizes::ROM_LEAST;
 use rom::sizes::ROM_MOST;
 use rom::sizes::STORE_SIZE;
 use rom::sizes::WORK_SIZE;
@@ -41,13 +45,14 @@ use state::Told;
 use state::core_of;
 use state::going;
 use state::is_whole;
-use state::refused;
 use tokens::programs::PROGRAMS_MOST;
 use tree::Tree;
 use tree::tail_of;
 
-// Rooms for the FCode bytes of a spread ROM: the larger one has as many as there can be.
-const SMALL_ROOM: usize = 4096;
+// Rooms for the FCode bytes of a spread ROM: the largest has as many as there can be.
+const SMALL_ROOM: usize = 512;
+
+const MIDDLE_ROOM: usize = 4096;
 
 const LARGE_ROOM: usize = ROM_MOST / 2;
 
@@ -59,8 +64,8 @@ pub struct Cruised {
 }
 
 // What is known before a token is looked at: 6, 1, 7, 4, or that the state is finished.
-fn ready(rom: &[u8], work: &[u8], store: &[u8], st: State) -> Answer
-    ensures { λ r. ⌜ r ≡ readyOf (scene (fcodeOf (now (rom .entry))) (now (work .entry)) (now (store .entry)) st) ⌝ }
+fn ready(fcode: &[u8], work: &[u8], store: &[u8], st: State) -> Answer
+    ensures { λ r. ⌜ r ≡ readyOf (scene (now (fcode .entry)) (now (work .entry)) (now (store .entry)) st) ⌝ }
 {
     if work.len() != WORK_SIZE {
         return Answer::Refused(6);
@@ -68,13 +73,13 @@ fn ready(rom: &[u8], work: &[u8], store: &[u8], st: State) -> Answer
     if store.len() != STORE_SIZE {
         return Answer::Refused(6);
     }
-    if wrong_rom(rom) {
+    if wrong_rom(fcode, Spread::One) {
         return Answer::Refused(1);
     }
     if !is_whole(st) {
         return Answer::Refused(7);
     }
-    if wrong_length(rom, st.length) {
+    if wrong_length(fcode, Spread::One, st.length) {
         return Answer::Refused(4);
     }
     if st.finished {
@@ -283,60 +288,114 @@ fn tokens(rom: &[u8], work: &mut [u8], store: &mut [u8], st: State, budget: u32)
     ended(answer, r.count, state)
 }
 
-// The same of a spread ROM: its FCode bytes are laid into a room first, as many as the state's length says, so that the loop over tokens
-// reads every ROM alike.
-fn tokens_laid(
+fn ended(answer: Answer, count: u32, state: State) -> Ran
+    ensures { λ r. ⌜ r ≡ ranOf answer count state ⌝ }
+{
+    Ran {
+        answer: answer,
+        count: count,
+        state: state,
+    }
+}
+
+// A run over FCode bytes that lie one behind the other. It is the one function that the loop over tokens is laid out in.
+fn run_fcode(fcode: &[u8], work: &mut [u8], store: &mut [u8], st: State, budget: u32) -> Ran
+    ensures { λ r. ⌜ toldRan r (now (work .exit)) (now (store .exit)) ≡ runOf budget
+        (scene (now (fcode .entry)) (now (work .entry)) (now (store .entry)) st) ⌝ }
+{
+    match ready(fcode, &*work, &*store, st) {
+        Answer::Going => tokens(fcode, work, store, st, budget),
+        Answer::Finished => ended(Answer::Finished, 0, st),
+        Answer::Refused(why) => ended(Answer::Refused(why), 0, st),
+        Answer::Spent(n) => ended(Answer::Spent(n), 0, st),
+    }
+}
+
+// A run of a spread ROM: so many FCode bytes are laid into a room first, so that the loop over tokens reads every ROM alike.
+fn run_laid(
     rom: &[u8],
     spread: Spread,
     room: &mut [u8],
+    count: usize,
     work: &mut [u8],
     store: &mut [u8],
     st: State,
     budget: u32,
 ) -> Ran
-    requires { ⌜ Ready (viewOf spread (now rom)) (now work) (now store) st × Sized st × RoomFor (st .length) (now room) ⌝ }
+    requires { ⌜ Laying spread (now rom) (st .length) count × RoomFor count (now room) ⌝ }
     ensures { λ r. ⌜ toldRan r (now (work .exit)) (now (store .exit)) ≡ runOf budget
         (scene (viewOf spread (now (rom .entry))) (now (work .entry)) (now (store .entry)) st) ⌝ }
 {
-    let n = st.length as usize;
-    lay_fcode(rom, spread, &mut room[..n]);
-    tokens(&room[..n], work, store, st, budget)
+    lay_fcode(rom, spread, &mut room[..count]);
+    run_fcode(&room[..count], work, store, st, budget)
 }
 
 // A room is cleared at each call, so that a small program has a small one.
-fn tokens_small(
+fn run_small(
     rom: &[u8],
     spread: Spread,
+    count: usize,
     work: &mut [u8],
     store: &mut [u8],
     st: State,
     budget: u32,
 ) -> Ran
-    requires { ⌜ Ready (viewOf spread (now rom)) (now work) (now store) st × Sized st × (st .length ≤ smallRoom) ⌝ }
+    requires { ⌜ Laying spread (now rom) (st .length) count × (count ≤ smallRoom) ⌝ }
     ensures { λ r. ⌜ toldRan r (now (work .exit)) (now (store .exit)) ≡ runOf budget
         (scene (viewOf spread (now (rom .entry))) (now (work .entry)) (now (store .entry)) st) ⌝ }
 {
     let mut room = [0u8; SMALL_ROOM];
-    tokens_laid(rom, spread, &mut room, work, store, st, budget)
+    run_laid(rom, spread, &mut room, count, work, store, st, budget)
 }
 
-fn tokens_large(
+fn run_middle(
     rom: &[u8],
     spread: Spread,
+    count: usize,
     work: &mut [u8],
     store: &mut [u8],
     st: State,
     budget: u32,
 ) -> Ran
-    requires { ⌜ Ready (viewOf spread (now rom)) (now work) (now store) st × Sized st × (st .length ≤ largeRoom) ⌝ }
+    requires { ⌜ Laying spread (now rom) (st .length) count × (count ≤ middleRoom) ⌝ }
+    ensures { λ r. ⌜ toldRan r (now (work .exit)) (now (store .exit)) ≡ runOf budget
+        (scene (viewOf spread (now (rom .entry))) (now (work .entry)) (now (store .entry)) st) ⌝ }
+{
+    let mut room = [0u8; MIDDLE_ROOM];
+    run_laid(rom, spread, &mut room, count, work, store, st, budget)
+}
+
+fn run_large(
+    rom: &[u8],
+    spread: Spread,
+    count: usize,
+    work: &mut [u8],
+    store: &mut [u8],
+    st: State,
+    budget: u32,
+) -> Ran
+    requires { ⌜ Laying spread (now rom) (st .length) count × (count ≤ largeRoom) ⌝ }
     ensures { λ r. ⌜ toldRan r (now (work .exit)) (now (store .exit)) ≡ runOf budget
         (scene (viewOf spread (now (rom .entry))) (now (work .entry)) (now (store .entry)) st) ⌝ }
 {
     let mut room = [0u8; LARGE_ROOM];
-    tokens_laid(rom, spread, &mut room, work, store, st, budget)
+    run_laid(rom, spread, &mut room, count, work, store, st, budget)
 }
 
-fn tokens_spread(
+// How many FCode bytes a run asks for: as many as the state's length says, or all that there are if they are fewer; and not fewer than a
+// header, since 1 is not for a state's length to say.
+fn asked(count: usize, length: u32) -> usize
+    ensures { λ r. ⌜ r ≡ min count (max romLeast length) ⌝ }
+{
+    let wanted = length as usize;
+    if wanted < ROM_LEAST {
+        return least(count, ROM_LEAST);
+    }
+    least(count, wanted)
+}
+
+// A run of a spread ROM. One that is refused for its size is so by 1 as any that is too short, and there is nothing to lay out.
+fn run_spread(
     rom: &[u8],
     spread: Spread,
     work: &mut [u8],
@@ -344,27 +403,34 @@ fn tokens_spread(
     st: State,
     budget: u32,
 ) -> Ran
-    requires { ⌜ Ready (viewOf spread (now rom)) (now work) (now store) st × Sized st × (st .length ≤ largeRoom) ⌝ }
+    requires { ⌜ SpreadIs spread (now rom) ⌝ }
     ensures { λ r. ⌜ toldRan r (now (work .exit)) (now (store .exit)) ≡ runOf budget
         (scene (viewOf spread (now (rom .entry))) (now (work .entry)) (now (store .entry)) st) ⌝ }
 {
-    if (st.length as usize) <= SMALL_ROOM {
-        return tokens_small(rom, spread, work, store, st, budget);
+    if wrong_rom(rom, spread) {
+        return run_fcode(&rom[..0], work, store, st, budget);
     }
-    tokens_large(rom, spread, work, store, st, budget)
+    let count = asked(fcode_count(rom, spread), st.length);
+    if count <= SMALL_ROOM {
+        return run_small(rom, spread, count, work, store, st, budget);
+    }
+    if count <= MIDDLE_ROOM {
+        return run_middle(rom, spread, count, work, store, st, budget);
+    }
+    run_large(rom, spread, count, work, store, st, budget)
 }
 
-// The tokens of a state that is ready, of a ROM as it is lent.
-fn tokens_lent(rom: &[u8], work: &mut [u8], store: &mut [u8], st: State, budget: u32) -> Ran
-    requires { ⌜ Ready (fcodeOf (now rom)) (now work) (now store) st × Sized st ⌝ }
+// Tokens until one finishes or is refused or the budget is spent: 6, 1, 7 and 4 are tested first, then finish, then budget, then the token.
+// The count is that of the tokens carried out. The ROM is as it is lent: its first byte tells how far apart its FCode bytes lie.
+pub fn run(rom: &[u8], work: &mut [u8], store: &mut [u8], st: State, budget: u32) -> Ran
     ensures { λ r. ⌜ toldRan r (now (work .exit)) (now (store .exit)) ≡ runOf budget
         (scene (fcodeOf (now (rom .entry))) (now (work .entry)) (now (store .entry)) st) ⌝ }
 {
     let spread = spread_of(rom);
     match spread {
-        Spread::One => tokens(rom, work, store, st, budget),
-        Spread::Two => tokens_spread(rom, spread, work, store, st, budget),
-        Spread::Four => tokens_spread(rom, spread, work, store, st, budget),
+        Spread::One => run_fcode(rom, work, store, st, budget),
+        Spread::Two => run_spread(rom, spread, work, store, st, budget),
+        Spread::Four => run_spread(rom, spread, work, store, st, budget),
     }
 }
 
@@ -391,54 +457,10 @@ fn one(ran: Ran) -> Stepped
     }
 }
 
-// The token of a state that is ready.
-fn token(rom: &[u8], work: &mut [u8], store: &mut [u8], st: State) -> Stepped
-    requires { ⌜ Ready (fcodeOf (now rom)) (now work) (now store) st × Sized st ⌝ }
-    ensures { λ r. ⌜ handedBack r (now (work .exit)) (now (store .exit)) ≡ tokenTurn
-        (scene (fcodeOf (now (rom .entry))) (now (work .entry)) (now (store .entry)) st) ⌝ }
-{
-    one(tokens_lent(rom, work, store, st, 1))
-}
-
 // One token, or why it is refused; a finished state says so again. A refused step leaves the state, work memory and store as they were.
 pub fn step(rom: &[u8], work: &mut [u8], store: &mut [u8], st: State) -> Stepped
     ensures { λ r. ⌜ handedBack r (now (work .exit)) (now (store .exit)) ≡ stepOf
         (scene (fcodeOf (now (rom .entry))) (now (work .entry)) (now (store .entry)) st) ⌝ }
 {
-    match ready(rom, &*work, &*store, st) {
-        Answer::Going => token(rom, work, store, st),
-        Answer::Finished => Stepped {
-            answer: Answer::Finished,
-            state: st,
-        },
-        Answer::Refused(why) => refused(st, why),
-        Answer::Spent(n) => Stepped {
-            answer: Answer::Spent(n),
-            state: st,
-        },
-    }
-}
-
-fn ended(answer: Answer, count: u32, state: State) -> Ran
-    ensures { λ r. ⌜ r ≡ ranOf answer count state ⌝ }
-{
-    Ran {
-        answer: answer,
-        count: count,
-        state: state,
-    }
-}
-
-// Tokens until one finishes or is refused or the budget is spent: 6, 1, 7 and 4 are tested first, then finish, then budget, then the token.
-// The count is that of the tokens carried out.
-pub fn run(rom: &[u8], work: &mut [u8], store: &mut [u8], st: State, budget: u32) -> Ran
-    ensures { λ r. ⌜ toldRan r (now (work .exit)) (now (store .exit)) ≡ runOf budget
-        (scene (fcodeOf (now (rom .entry))) (now (work .entry)) (now (store .entry)) st) ⌝ }
-{
-    match ready(rom, &*work, &*store, st) {
-        Answer::Going => tokens_lent(rom, work, store, st, budget),
-        Answer::Finished => ended(Answer::Finished, 0, st),
-        Answer::Refused(why) => ended(Answer::Refused(why), 0, st),
-        Answer::Spent(n) => ended(Answer::Spent(n), 0, st),
-    }
+    one(run(rom, work, store, st, 1))
 }

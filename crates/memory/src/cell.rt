@@ -7,7 +7,6 @@ use crate::window::lies;
 use crate::window::resolve;
 use crate::writing::put;
 use crate::writing::write_cell;
-use rom::Spread;
 use rom::byte;
 use rom::word32;
 
@@ -22,7 +21,7 @@ pub fn fetch_cell<'a>(rom: &'a [u8], work: &'a [u8], size: u32, address: u32) ->
     if address % 4 != 0 {
         return Fetched::Refused(23);
     }
-    Fetched::Value(word32(part, Spread::One, 0))
+    Fetched::Value(word32(part, 0))
 }
 
 pub fn fetch_byte<'a>(rom: &'a [u8], work: &'a [u8], size: u32, address: u32) -> Fetched

@@ -38,7 +38,6 @@ use crate::turned::Turned;
 use crate::turned::cold;
 use crate::turned::on;
 use crate::turned::refuse;
-use rom::Spread;
 use rom::destination;
 use rom::sizes::DATA_MOST;
 use rom::sizes::FRAMES_MOST;
@@ -57,7 +56,7 @@ fn branch_to(rom: &[u8], length: u32, wide: bool, place: u32) -> u32
     requires { ⌜ place ≤ romMost ⌝ }
     ensures { λ r. ⌜ r ≡ placeIn (aimOf (now (rom .entry)) length wide (place + 1)) ⌝ }
 {
-    destination(rom, Spread::One, length, wide, place + 1)
+    destination(rom, length, wide, place + 1)
 }
 
 // The byte and the word at a place that is known to be inside.

@@ -3,10 +3,13 @@
 ghost use mathlib.Core.Path.{_≡_};
 ghost use Prim.Native.Nat.{_≤_};
 ghost use lib.ListN.{length};
-ghost use Rattle.rom.specs.Bytes.{byteOf};
-ghost use Rattle.rom.specs.Spread.{distanceOf, spreadOf, isSpread, viewOf, laidOn};
+ghost use Rattle.rom.specs.Bytes.{byteOf, word16Of, word32Of};
+ghost use Rattle.rom.specs.Spread.{distanceOf, spreadOf, isSpread, viewOf, fcodeMost, laidOn};
 ghost use Rattle.rom.specs.Joints.Spread.{InRom, LaidBy};
 use crate::bytes::byte;
+use crate::bytes::word16;
+use crate::bytes::word32;
+use crate::sizes::ROM_MOST;
 use crate::sum::least;
 
 // One behind the other, or two or four apart.
@@ -63,6 +66,17 @@ pub fn fcode_count(rom: &[u8], spread: Spread) -> usize
     }
 }
 
+// How many a ROM of the largest size has: gaps count among its bytes.
+pub fn fcode_most(rom: &[u8]) -> usize
+    ensures { λ r. ⌜ r ≡ fcodeMost (now (rom .entry)) ⌝ }
+{
+    match spread_of(rom) {
+        Spread::One => ROM_MOST,
+        Spread::Two => ROM_MOST / 2,
+        Spread::Four => ROM_MOST / 4,
+    }
+}
+
 // FCode byte k, and 0 past the last.
 pub fn fcode_byte(rom: &[u8], spread: Spread, k: usize) -> u8
     ensures { λ r. ⌜ r ≡ byteOf (viewOf spread (now (rom .entry))) k ⌝ }
@@ -72,6 +86,38 @@ pub fn fcode_byte(rom: &[u8], spread: Spread, k: usize) -> u8
         rom[at]
     } else {
         0
+    }
+}
+
+// The two FCode bytes at a place as a number, big-endian.
+pub fn fcode_word16(rom: &[u8], spread: Spread, at: u32) -> u16
+    ensures { λ r. ⌜ r ≡ word16Of (viewOf spread (now (rom .entry))) at ⌝ }
+{
+    match spread {
+        Spread::One => word16(rom, at),
+        _ => {
+            let k = at as usize;
+            let high = fcode_byte(rom, spread, k) as u16;
+            let low = fcode_byte(rom, spread, k + 1) as u16;
+            high * 256 + low
+        }
+    }
+}
+
+// The four FCode bytes at a place as a number, big-endian.
+pub fn fcode_word32(rom: &[u8], spread: Spread, at: u32) -> u32
+    ensures { λ r. ⌜ r ≡ word32Of (viewOf spread (now (rom .entry))) at ⌝ }
+{
+    match spread {
+        Spread::One => word32(rom, at),
+        _ => {
+            let k = at as usize;
+            let p = fcode_byte(rom, spread, k) as u32;
+            let q = fcode_byte(rom, spread, k + 1) as u32;
+            let r = fcode_byte(rom, spread, k + 2) as u32;
+            let s = fcode_byte(rom, spread, k + 3) as u32;
+            p * 16777216 + q * 65536 + r * 256 + s
+        }
     }
 }
 

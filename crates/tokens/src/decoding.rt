@@ -13,8 +13,8 @@ use rom::Aim;
 use rom::Spread;
 use rom::aim_at;
 use rom::fcode_byte;
+use rom::fcode_word32;
 use rom::offset;
-use rom::word32;
 
 // What stands behind a token's number: a string's bytes lie in the ROM from start on, a branch has the bits of its offset and where it
 // leads, a definition its number and the kind byte behind that.
@@ -127,7 +127,7 @@ fn operand_at(rom: &[u8], spread: Spread, length: u32, wide: bool, at: u32, form
 {
     let k = at as usize;
     match form {
-        1 => Operand::Literal(word32(rom, spread, at)),
+        1 => Operand::Literal(fcode_word32(rom, spread, at)),
         2 => Operand::Text {
             start: at + 1,
             count: fcode_byte(rom, spread, k) as u32,

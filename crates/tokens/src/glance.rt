@@ -166,7 +166,7 @@ fn branched(rom: &[u8], length: u32, wide: bool, code: u32, number: u32, start: 
         code: code,
         number: number,
         next: next as u32,
-        aim: destination(rom, Spread::One, length, wide, start),
+        aim: destination(rom, length, wide, start),
         kind: 0,
     }
 }

@@ -56,6 +56,9 @@ same-start s rom = view-at s rom 0 ∙ ap (λ n. getD rom n 0) (none s)
     none : (s : Spread) → 0 * distanceOf s ≡ 0
     none s = omega arith
 
+pub same-most : (s : Spread) (rom : List ℕ) → fcodeMost (viewOf s rom) ≡ fcodeMost rom
+same-most s rom = rw (same-start s rom)
+
 pub same-spread : (s : Spread) (rom : List ℕ) → spreadOf (viewOf s rom) ≡ spreadOf rom
 same-spread s rom = rw (same-start s rom)
 

@@ -19,4 +19,4 @@ destination-spec =
     rw (if1 .taken, ← c .before .word16 .ensures) (c .led .ensures))
     (λ c.
     let if1 = c .before .before .if1 in
-    rw (if1 .left, ← c .before .fcode-byte .ensures) (c .led2 .ensures)))
+    rw (if1 .left, ← c .before .byte .ensures) (c .led2 .ensures)))

@@ -10,5 +10,5 @@ offset-spec =
     (λ c. search needs)
     (λ c κs. search needs)
     (λ c. search needs)
-    (λ c. rw (c .before .if1 .taken) (c .word16 .ensures))
+    (λ c. rw (c .before .if1 .taken) (c .fcode-word16 .ensures))
     (λ c. rw (c .before .if1 .left) (c .fcode-byte .ensures)))

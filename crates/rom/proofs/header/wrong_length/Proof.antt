@@ -9,5 +9,4 @@ wrong-length-spec =
     (tie.spec
     (λ c. rw (lt-ltb _ _ (c .if1 .taken)))
     (λ c κs. search needs)
-    (λ c κs. search needs)
-    (λ c. rw (← c .before .spread-of .ensures, ← c .fcode-count .ensures, le-ltb _ _ (c .before .before .if1 .left))))
+    (λ c. rw (← c .fcode-count .ensures, le-ltb _ _ (c .before .if1 .left))))

@@ -1,7 +1,7 @@
 use borrow.Author.Needs.{needs}
 use borrow.Author.Tests.{lt-ltb, le-ltb}
 use denote.Ref.{now}
-use Rattle.rom.specs.Laws.Spread.{over-told}
+use Rattle.rom.specs.Laws.Spread.{same-most}
 use Rattle.rom.proofs.header.wrong_rom.Statement.{statement}
 use Rattle.rom.proofs.header.wrong_rom.Tie as tie
 
@@ -10,7 +10,8 @@ wrong-rom-spec =
     tie.close
     (tie.spec
     (λ c κs. search needs)
+    (λ c. rw (← c .before .fcode-count .ensures, lt-ltb _ _ (c .if1 .taken)))
     (λ c κs. search needs)
-    (λ c. rw (← c .before .before .spread-of .ensures, ← c .before .fcode-count .ensures, lt-ltb _ _ (c .if1 .taken)))
     (λ c.
-    rw (← over-told (now (c .before .before .before .before .args .rom)), ← c .before .before .spread-of .ensures, ← c .before .fcode-count .ensures, le-ltb _ _ (c .if1 .left))))
+    let a = c .before .before .before .before .args in
+    rw (← c .before .before .fcode-count .ensures, le-ltb _ _ (c .before .if1 .left), same-most (a .spread) (now (a .rom)), ← c .fcode-most .ensures)))
