@@ -12,12 +12,12 @@ use Rattle.tree.specs.Whole.{wholeTree}
 use Rattle.tree.specs.Laws.Kept.{whole-is as whole-tree}
 use Rattle.tree.specs.declared.tree.Tree.{Tree}
 use Rattle.state.specs.Scene.{Scene, Turn, scene, turn, handedBack, refuse}
-use Rattle.state.specs.Step.{readyOf, tokenTurn}
+use Rattle.state.specs.Step.{readyOf, tokenTurn, knownTurn, stepOf}
 use Rattle.state.specs.State.{baseOf}
 use Rattle.state.specs.Run.{RunResult, ended, then, runOn, unless, runFrom, toldRan}
 use Rattle.state.specs.Laws.Sized.{Sized}
-use Rattle.state.specs.Laws.Steps.{watchedOf, keeps-watched}
-use Rattle.state.specs.Laws.Keeps.Whole.{Lent, ready-facts, whole-facts}
+use Rattle.state.specs.Laws.Steps.{watchedOf, keeps-watched, step-going, finished-stays, step-refused, step-spent}
+use Rattle.state.specs.Laws.Keeps.Whole.{Lent, ready-facts, whole-facts, not-going, not-finished}
 use Rattle.state.specs.Laws.Keeps.Parts.{base-below}
 use Rattle.state.specs.Joints.Apart.{Arrays, arraysOf, coreOf, joined}
 use Rattle.state.specs.declared.apart.Core.{Core}
@@ -281,3 +281,21 @@ module _ (s : Scene) (z : Sized (s .state)) (e : readyOf s ≡ Going) where
   pub one-told : (x : Ran) (work store : List ℕ) → toldRan x work store ≡ runFrom 1 0 s → handedBack (oneOf x) work store ≡ tokenTurn s
   one-told x work store d = one-from (tokenTurn s .answer) (tokenTurn s) refl refl x work store
       (d ∙ run-turn 1 0 s (tokenTurn s) (tokenTurn s .answer) e (omega arith) refl refl)
+
+-- a step of any state is a run of one token
+module _ (s : Scene) (z : Sized (s .state)) (x : Ran) (work store : List ℕ) (d : toldRan x work store ≡ runFrom 1 0 s) where
+  -- what is known beforehand is said by both, and nothing is carried out
+  known-told : (a : Answer) → readyOf s ≡ a → (a ≡ Going → ⊥) → handedBack (oneOf x) work store ≡ knownTurn a s
+  known-told a e g =
+      let f : toldRan x work store ≡ ended a 0 s = d ∙ run-known 1 0 s a e g in
+      let n : x .count ≡ 0 = ap (λ (y : RunResult). y .count) f in
+      rw n (ap (λ (y : RunResult). turn (y .answer) (y .state) (y .work) (y .store)) f)
+
+  step-by : (a : Answer) → readyOf s ≡ a → handedBack (oneOf x) work store ≡ stepOf s
+  step-by Going e = one-told s z e x work store d ∙ sym (step-going s e)
+  step-by Finished e = known-told Finished e not-finished ∙ sym (finished-stays s e)
+  step-by (Refused why) e = known-told (Refused why) e (not-going why) ∙ sym (step-refused s why e)
+  step-by (Spent n) e = known-told (Spent n) e (not-spent n) ∙ sym (step-spent s n e)
+
+  pub step-told : handedBack (oneOf x) work store ≡ stepOf s
+  step-told = step-by (readyOf s) refl

@@ -99,9 +99,10 @@ fn halted(answer: Answer, count: u32, core: Core) -> Cruised
     }
 }
 
-// The tokens of a state that is ready and taken apart, over FCode bytes that lie one behind the other, until one finishes or is refused or the budget is spent. It is lent every array of
-// the state, and so has one parameter for each, in the state's order. The state is not tested again, but for one thing: a finish-device can
-// make the root active where a state was offered whose node 2 or above is a child of the root, and that is 7.
+// The tokens of a state that is ready and taken apart, over FCode bytes that lie one behind the other, until one finishes or is refused or
+// the budget is spent. It is lent every array of the state, and so has one parameter for each, in the state's order. The state is not
+// tested again, but for one thing: a finish-device can make the root active where a state was offered whose node 2 or above is a child of
+// the root, and that is 7.
 fn cruise(
     rom: &[u8],
     work: &mut [u8],

@@ -1,7 +1,7 @@
 -- A test as a fact and as an equation, tests joined and denied, and a choice by a test that is known. Assumes nothing.
 use Prim.Native.Nat.{ℕ}
 use mathlib.Core.Path.{_≡_, refl, sym, subst}
-use mathlib.Core.Bool.{Bool, true, false, not, _&&_, _||_}
+use mathlib.Core.Bool.{Bool, true, false, not, _&&_, _||_, true≢false}
 use lib.Dec.{T, T-not, eqb, eqb→eq}
 
 -- ---- a test as a fact, and as an equation
@@ -76,6 +76,15 @@ either false b X t f g = g t
 pub neither : (a b : Bool) → T (not (a || b)) → T (not a) × T (not b)
 neither true b t = absurd t
 neither false b t = (tt, t)
+
+-- the same of tests that are known by equations
+pub neither-is : (a b : Bool) → (a || b) ≡ false → (a ≡ false) × (b ≡ false)
+neither-is true b e = absurd (true≢false e)
+neither-is false b e = (refl, e)
+
+pub or-is : (a b : Bool) → b ≡ true → (a || b) ≡ true
+or-is true b e = refl
+or-is false b e = e
 
 -- one that does not fail
 pub not-not : (b : Bool) → T (not (not b)) → T b

@@ -7,7 +7,7 @@ use mathlib.Core.List.{List, []}
 use lib.ListN.{length}
 use lib.Dec.{eqb}
 use borrow.Author.Tests.{eq-eqb}
-use Rattle.cells.specs.Laws.Facts.{when-true}
+use Rattle.cells.specs.Laws.Facts.{when-true, neither-is, or-is}
 use Rattle.rom.specs.Spread.{spreadOf, isSpread, viewOf, fcodeOf, unspreadOf}
 use Rattle.rom.specs.Laws.Spread.{same-start}
 use Rattle.rom.specs.Laws.Unspread.{unspread-same, unspread-length, unspread-least, unspread-most}
@@ -33,11 +33,7 @@ use Rattle.screen.specs.Laws.Rules.Past.{promised-there}
 use Rattle.promise.specs.Unspread.{liesInRom, romText, resolvesRom, fetchesStart, touches, Untouched, UntouchedFor, SpreadRom, otherOf}
 use Rattle.promise.specs.Unspread.{OpensSo, ScreensSo, StepsSo, RunsSo, RefusesSo, AsUnspread}
 
--- ---- two tests of which neither holds, and one that is asked of the token's family
-neither-is : (a b : Bool) → (a || b) ≡ false → (a ≡ false) × (b ≡ false)
-neither-is true b e = absurd (true≢false e)
-neither-is false b e = (refl, e)
-
+-- ---- a condition that is asked of the token's family
 asked-is : (family : ℕ) (t : Token) (f : Scene → Token → Bool) (s : Scene) → familyIn (t .code) ≡ family → asked family t f s ≡ f s t
 asked-is family t f s k = when-true (f s t) false (eqb (familyIn (t .code)) family) (eq-eqb _ _ k)
 
@@ -173,14 +169,10 @@ either-is true b a′ b′ f g e = rw (f refl)
 either-is false b true b′ f g e = refl
 either-is false b false b′ f g e = g e
 
-later : (a b : Bool) → b ≡ true → (a || b) ≡ true
-later true b e = refl
-later false b e = e
-
 refuses : RefusesSo
 refuses s t b e =
-    later (asked fetch t (λ s t. bad s (cellOf s 0) (cellSize t)) s) _
-    (later (asked storing t (λ s t. outsideWork (s .work) (cellOf s 0) (cellSize t)) s) _
+    or-is (asked fetch t (λ s t. bad s (cellOf s 0) (cellSize t)) s) _
+    (or-is (asked storing t (λ s t. outsideWork (s .work) (cellOf s 0) (cellSize t)) s) _
     (either-is _ _ _ _ (asked-bad s t b encodeString _ _ (text-bad s t b (cellOf s 1) (cellOf s 0)))
     (either-is _ _ _ _
     (asked-bad s t b property _ _

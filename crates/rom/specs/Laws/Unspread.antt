@@ -3,13 +3,14 @@ use Prim.Native.Nat.{ℕ, zero, suc, _+_, _-_, _≤_, _<_}
 use native.Mathlib.Omega.{arith}
 use native.Mathlib.Numerals.{add-one}
 use mathlib.Core.Path.{_≡_, refl, sym, ap, _∙_}
-use mathlib.Core.Bool.{Bool, true, false, not, _||_, true≢false}
+use mathlib.Core.Bool.{Bool, true, false, not, _||_}
 use mathlib.Core.List.{List}
 use lib.ListN.{length, drop, getD, length-drop}
 use lib.Seq.{getD-drop}
 use lib.Dec.{ltb, eqb}
 use borrow.Author.Tests.{le-ltb, ltb-false}
 use Rattle.cells.specs.Choice.{pick}
+use Rattle.cells.specs.Laws.Facts.{neither-is, or-is}
 use Rattle.rom.specs.Sizes.{romLeast, romMost}
 use Rattle.rom.specs.Bytes.{byteOf}
 use Rattle.rom.specs.Spread.{isSpread, fcodeMost, unspreadOf}
@@ -27,24 +28,16 @@ unspread-same fcode size (suc k) h l =
 pub unspread-length : (fcode : List ℕ) → 1 ≤ length fcode → length (unspreadOf fcode) ≡ length fcode
 unspread-length fcode h = let e = length-drop 1 fcode in omega arith
 
-second-or : (a b : Bool) → b ≡ true → (a || b) ≡ true
-second-or true b e = refl
-second-or false b e = e
-
-neither-or : (a b : Bool) → (a || b) ≡ false → (a ≡ false) × (b ≡ false)
-neither-or true b e = absurd (true≢false e)
-neither-or false b e = (refl, e)
-
 -- a spread ROM of a ROM's size
 module _ (fcode : List ℕ) (s : isSpread fcode ≡ true) (w : wrongRom fcode ≡ false) where
   abbrev other : List ℕ
   other = unspreadOf fcode
 
   least : romLeast ≤ length fcode
-  least = ltb-false (length fcode) romLeast (neither-or (ltb (length fcode) romLeast) (ltb (fcodeMost fcode) (length fcode)) w .0)
+  least = ltb-false (length fcode) romLeast (neither-is (ltb (length fcode) romLeast) (ltb (fcodeMost fcode) (length fcode)) w .0)
 
   most : length fcode ≤ fcodeMost fcode
-  most = ltb-false (fcodeMost fcode) (length fcode) (neither-or (ltb (length fcode) romLeast) (ltb (fcodeMost fcode) (length fcode)) w .1)
+  most = ltb-false (fcodeMost fcode) (length fcode) (neither-is (ltb (length fcode) romLeast) (ltb (fcodeMost fcode) (length fcode)) w .1)
 
   pub unspread-least : (romLeast ≤ length fcode) × (romLeast ≤ length other)
   unspread-least = let l = least in let e = unspread-length fcode (omega arith) in (l, omega arith)
@@ -65,10 +58,10 @@ module _ (fcode : List ℕ) (s : isSpread fcode ≡ true) (w : wrongRom fcode �
       rw (le-ltb (length other) romLeast (unspread-least .1), le-ltb (fcodeMost other) (length other) (unspread-most .1))
 
   pub unspread-wide : wideOf fcode ≡ wideOf other
-  unspread-wide = second-or (eqb (byteOf fcode 0) 0xF1) (isSpread fcode) s
+  unspread-wide = or-is (eqb (byteOf fcode 0) 0xF1) (isSpread fcode) s
 
   started : startOf fcode ≡ true
-  started = second-or (eqb (byteOf fcode 0) 0xFD) (wideOf fcode) unspread-wide
+  started = or-is (eqb (byteOf fcode 0) 0xFD) (wideOf fcode) unspread-wide
 
   pub unspread-program : lengthOf fcode ≡ lengthOf other
   unspread-program = same-word32 1 8 fcode other (unspread-same fcode 8) 4 (omega arith) (omega arith)
@@ -77,7 +70,7 @@ module _ (fcode : List ℕ) (s : isSpread fcode ≡ true) (w : wrongRom fcode �
   same-summed : wrongLength fcode (lengthOf fcode) ≡ false → sumOf fcode (lengthOf fcode) ≡ sumOf other (lengthOf fcode)
   same-summed e =
       let z = same-size in
-      let l = ltb-false (length fcode) (lengthOf fcode) (neither-or (ltb (lengthOf fcode) 9) (ltb (length fcode) (lengthOf fcode)) e .1) in
+      let l = ltb-false (length fcode) (lengthOf fcode) (neither-is (ltb (lengthOf fcode) 9) (ltb (length fcode) (lengthOf fcode)) e .1) in
       same-sum 1 (lengthOf fcode) fcode other (unspread-same fcode (lengthOf fcode)) (omega arith) (omega arith) (omega arith)
 
   same-long : wrongLength fcode (lengthOf fcode) ≡ wrongLength other (lengthOf fcode)

@@ -13,7 +13,13 @@ ready-spec =
     (λ c. simp (ne-eqb _ _ (c .if1 .taken)))
     (λ c. simp (eq-eqb _ _ (c .before .if1 .left), ne-eqb _ _ (c .if2 .taken)))
     (λ c κs. search needs)
-    (λ c. rw (eq-eqb _ _ (c .before .before .before .if1 .left), eq-eqb _ _ (c .before .before .if2 .left), ← c .before .wrong-rom .ensures, c .if3 .taken))
+    (λ c.
+    rw (
+      eq-eqb _ _ (c .before .before .before .if1 .left),
+      eq-eqb _ _ (c .before .before .if2 .left),
+      ← c .before .wrong-rom .ensures,
+      c .if3 .taken,
+    ))
     (λ c κs. search needs)
     (λ c.
     rw (

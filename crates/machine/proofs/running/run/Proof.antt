@@ -1,13 +1,42 @@
-use denote.Ref.{now}
-use Rattle.rom.specs.Spread.{fcodeOf}
-use mathlib.Core.Path.{sym, _∙_}
-use Rattle.state.specs.Scene.{scene}
-use Rattle.state.specs.Laws.Keeps.Whole.{not-going, not-finished}
-use Rattle.state.specs.declared.answer.Answer.the-variants.{Finished, Refused, Spent}
-use Rattle.machine.proofs.Turns.{run-known, not-spent}
+use Prim.Native.Nat.{ℕ}
+use mathlib.Core.Path.{_≡_, sym, _∙_}
+use native.Mathlib.Omega.{arith}
 use borrow.Author.Needs.{needs}
+use Rattle.rom.specs.declared.spread.Spread.the-variants.{One, Two, Four}
 use Rattle.machine.proofs.running.run.Statement.{statement}
 use Rattle.machine.proofs.running.run.Tie as tie
+
+two-apart : Two ≡ One → ⊥
+two-apart e = let z : _≡_ {A = ℕ} 0 1 = cc in omega arith
+
+four-apart : Four ≡ One → ⊥
+four-apart e = let z : _≡_ {A = ℕ} 0 1 = cc in omega arith
+
+run-spread-requires : tie.Need-run-spread-requires
+run-spread-requires c κs =
+    let two = c .before .before in
+    record { is = two .before .before .spread-of .ensures; apart = λ e. two-apart (sym (two .enum-told2 .given .1) ∙ e) }
+
+run-spread-requires-2 : tie.Need-run-spread-requires-2
+run-spread-requires-2 c κs =
+    let four = c .before .before in
+    record { is = four .before .before .spread-of .ensures; apart = λ e. four-apart (sym (four .enum-told3 .given .1) ∙ e) }
+
+returns : tie.Need-returns
+returns c =
+    let ran = c .before .before .before .before in
+    let one = ran .before .before .before in
+    rw (← one .before .before .spread-of .ensures, one .enum-told .given .1) (ran .run-fcode .ensures)
+
+returns-2 : tie.Need-returns-2
+returns-2 c =
+    let ran = c .before .before .before .before in
+    rw (← ran .before .before .before .before .before .spread-of .ensures) (ran .run-spread .ensures)
+
+returns-3 : tie.Need-returns-3
+returns-3 c =
+    let ran = c .before .before .before .before in
+    rw (← ran .before .before .before .before .before .spread-of .ensures) (ran .run-spread2 .ensures)
 
 pub run-spec : {M : Type 1} → statement M
 run-spec =
@@ -15,53 +44,17 @@ run-spec =
     (tie.spec
     (λ c κs. search needs)
     (λ c. search needs)
-    (λ c κs.
-    let good = c .before .before .before .before .before .before .before .before .before .before .good .1 .1 .1 .0 in (
-      sym (c .before .before .before .before .ready .ensures) ∙ c .before .before .enum-told .given .1,
-      record {
-        stack = search needs;
-        back = search needs;
-        calls = let a = good .1 .1 .1 .1 .1 .1 .1 .1 .0 in record { places = search needs; wides = search needs; bases = search needs };
-        numbers =
-            let a = good .1 .1 .1 .1 .1 .1 .1 .1 .1 .0 in
-            record { programs = search needs; kinds = search needs; values = search needs; wides = search needs };
-        tree =
-            let a = good .1 .1 .1 .1 .1 .1 .1 .1 .1 .1 .1 .1 .1 .0 in
-            record { parents = search needs; owners = search needs; nameSizes = search needs; valueSizes = search needs };
-      },
-    ))
-    (λ c. search needs)
     (λ c κs. search needs)
     (λ c. search needs)
-    (λ c κs. search needs)
+    run-spread-requires
     (λ c. search needs)
-    (λ c κs. search needs)
-    (λ c. search needs)
-    (λ c. search needs)
+    run-spread-requires-2
     (λ c. search needs)
     (λ c. search needs)
-    (λ c. search needs)
-    (λ c.
-    let ready = c .before .before .before .ready in
-    let a = c .before .before .before .before .before .before .before .before .before .args in
-    rw (c .ended .ensures)
-    (sym (run-known (a .budget) 0 (scene (fcodeOf (now (a .rom))) (now (a .work)) (now (a .store)) (a .st)) Finished
-    (sym (ready .ensures) ∙ c .before .enum-told2 .given .1) not-finished)))
+    returns
     (λ c. search needs)
     (λ c. search needs)
-    (λ c.
-    let why = c .before .before .why in
-    let ready = c .before .before .before .before .ready in
-    let a = c .before .before .before .before .before .before .before .before .before .before .args in
-    rw (c .ended2 .ensures)
-    (sym (run-known (a .budget) 0 (scene (fcodeOf (now (a .rom))) (now (a .work)) (now (a .store)) (a .st)) (Refused _)
-    (sym (ready .ensures) ∙ why .given .1) (not-going _))))
+    returns-2
     (λ c. search needs)
     (λ c. search needs)
-    (λ c.
-    let n = c .before .before .n in
-    let ready = c .before .before .before .before .ready in
-    let a = c .before .before .before .before .before .before .before .before .before .before .args in
-    rw (c .ended3 .ensures)
-    (sym (run-known (a .budget) 0 (scene (fcodeOf (now (a .rom))) (now (a .work)) (now (a .store)) (a .st)) (Spent _)
-    (sym (ready .ensures) ∙ n .given .1) (not-spent _)))))
+    returns-3)

@@ -25,7 +25,7 @@ operand-at-spec =
     (λ c κs. search needs)
     (λ c κs. search needs)
     (λ c κs. search needs)
-    (λ c. rw (c .before .match .keys1, ← c .word32 .ensures))
+    (λ c. rw (c .before .match .keys1, ← c .fcode-word32 .ensures))
     (λ c. rw (c .before .match .keys2, ← c .fcode-byte .ensures))
     (λ c.
     let match = c .before .before .match in
