@@ -5,8 +5,12 @@
  * written to do not overlap each other or the ROM, and `steps` leads to a uint32_t outside them. With the length 0 a pointer is not
  * followed, and may be null.
  *
+ * A ROM that starts with F2 or F3 is spread: its bytes lie two or four apart, and what lies between is not read. Lengths, marks and the
+ * program's addresses count the bytes that are left without the gaps.
+ *
  * The library is for x86-64 Linux and calls nothing but memcpy and memset: no heap, no files. A call may take FCODE_STACK_SIZE bytes of
- * stack; fcode_check and fcode_run, and the other two of a program of up to 4,096 bytes, take an eighth of that at most. */
+ * stack; fcode_check, and the others of a program of up to 4,096 bytes, take an eighth of that at most, and fcode_run of any that is not
+ * spread. */
 #ifndef CELESTALAMP_FCODE_H
 #define CELESTALAMP_FCODE_H
 
@@ -17,7 +21,7 @@
 extern "C" {
 #endif
 
-/* a ROM has 8 bytes at least, and so many at most */
+/* a ROM has 8 bytes at least, and so many at most, the gaps of a spread one counted */
 #define FCODE_ROM_MOST 65536
 
 /* the stack, in bytes, that a call may take: 452,408 were measured, the rest is margin */

@@ -5,8 +5,8 @@ how heights are found. So the screener may change without crate promise.
     python3 tests/rests.py            the modules of crate screen that each module of crate promise names, and whether all of them may be
     python3 tests/rests.py --check    the same, printed only where one may not
 
-Three modules of crate promise join theorems to what the code computes, PastLength and Witness by that the screen's promise allows one
-answer, Table by computing. Demand 3 itself must not rest on any of those three.
+Four modules of crate promise join theorems to what the code computes, PastLength, Unspread and Witness by that the screen's promise allows
+one answer, Table by computing. Demand 3 itself must not rest on any of those four.
 """
 import pathlib
 import re
@@ -14,7 +14,7 @@ import sys
 
 CRATES = pathlib.Path(__file__).resolve().parent.parent / "crates"
 RULES = re.compile(r"(\w+|Laws\.Rules\.\w+)$")
-JOINTS = {"Laws.PastLength", "Laws.Witness", "Laws.Table"}
+JOINTS = {"Laws.PastLength", "Laws.Unspread", "Laws.Witness", "Laws.Table"}
 PROOF = "Laws.Demand3"
 USED = re.compile(r"^use Rattle·(promise|screen)(?:·specs)?\.specs\.([\w.]+?)(?:\.\{| as |$)", re.M)
 

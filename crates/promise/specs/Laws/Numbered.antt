@@ -12,6 +12,7 @@ use Rattle.tree.specs.Laws.Layout.{either}
 use Rattle.tokens.specs.Code.{familyIn}
 use Rattle.tokens.specs.Definition.{colon, value, variable, kindIn}
 use Rattle.tokens.specs.Place.{readOf}
+use Rattle.rom.specs.Header.{wrongRom, wrongLength}
 use Rattle.tokens.specs.declared.decoding.Token.{Token}
 use Rattle.tokens.specs.declared.read.Read.{Read}
 use Rattle.tokens.specs.declared.read.Read.the-variants.{Refused as Unread, Good}
@@ -21,7 +22,7 @@ use Rattle.state.specs.Whole.{damagedOf}
 use Rattle.state.specs.Numbers.{isBody, seekOf}
 use Rattle.state.specs.Refusals.{refusalOf}
 use Rattle.state.specs.Effects.{effects, nothing, defines, colons, values, variables, calls, actOf}
-use Rattle.state.specs.Step.{wrongSize, wrongRom, wrongLength, readyOf, doneOf, readTurn, tokenTurn, stepOf}
+use Rattle.state.specs.Step.{wrongSize, readyOf, doneOf, readTurn, tokenTurn, stepOf}
 use Rattle.state.specs.Laws.Keeps.Tests.{_▸_, find-at}
 use Rattle.state.specs.Laws.Steps.{step-going, finished-stays, step-refused}
 use Rattle.state.specs.Laws.Done.{carried, stopped}

@@ -37,6 +37,13 @@ use Rattle.promise.specs.Unspread.{OpensSo, ScreensSo, StepsSo, RunsSo, 
 asked-is : (family : ℕ) (t : Token) (f : Scene → Token → Bool) (s : Scene) → familyIn (t .code) ≡ family → asked family t f s ≡ f s t
 asked-is family t f s k = when-true (f s t) false (eqb (familyIn (t .code)) family) (eq-eqb _ _ k)
 
+-- ---- the strings that a token resolves lie in the ROM: one, or a name or a value
+abbrev one-there : Scene → Token → Bool
+one-there s t = romText s (cellOf s 1) (cellOf s 0)
+
+abbrev two-there : Scene → Token → Bool
+two-there s t = romText s (cellOf s 1) (cellOf s 0) || romText s (cellOf s 3) (cellOf s 2)
+
 -- ---- what a token sees that touches nothing in which the two differ
 module _ (fcode work store : List ℕ) (st : State) (s : isSpread fcode ≡ true) (a : SameRead fcode (unspreadOf fcode) (st .length)) where
   abbrev here : Scene
@@ -77,19 +84,19 @@ module _ (fcode work store : List ℕ) (st : State) (s : isSpread fcode ≡ true
     texts = neither-is (fetchesStart here t) (resolvesRom here t) u .1
 
     abbrev encodes : Bool
-    encodes = asked encodeString t (λ s t. romText s (cellOf s 1) (cellOf s 0)) here
+    encodes = asked encodeString t one-there here
 
     abbrev keeps : Bool
-    keeps = asked property t (λ s t. romText s (cellOf s 1) (cellOf s 0) || romText s (cellOf s 3) (cellOf s 2)) here
+    keeps = asked property t two-there here
 
     abbrev titles : Bool
-    titles = asked titled t (λ s t. romText s (cellOf s 1) (cellOf s 0)) here
+    titles = asked titled t one-there here
 
     both : familyIn (t .code) ≡ property → (romText here (cellOf here 1) (cellOf here 0) ≡ false) × (romText here (cellOf here 3) (cellOf here 2) ≡ false)
     both k =
         neither-is (romText here (cellOf here 1) (cellOf here 0)) (romText here (cellOf here 3) (cellOf here 2))
-        (sym (asked-is property t (λ s t. romText s (cellOf s 1) (cellOf s 0) || romText s (cellOf s 3) (cellOf s 2)) here k)
-        ∙ neither-is keeps titles (neither-is encodes (keeps || titles) texts .1) .0)
+        (sym (asked-is property t two-there here k)
+        ∙ neither-is encodes keeps (neither-is (encodes || keeps) titles texts .0) .1)
 
     untouched-sees : Sees fcode (unspreadOf fcode) work st t
     untouched-sees =
@@ -98,14 +105,14 @@ module _ (fcode work store : List ℕ) (st : State) (s : isSpread fcode ≡ true
               λ k. fetched-there (cellOf here 0) (sym (asked-is fetch t (λ s t. eqb (cellOf s 0) romBase) here k) ∙ first);
           encoded =
               λ k. same-there (cellOf here 1) (cellOf here 0)
-              (sym (asked-is encodeString t (λ s t. romText s (cellOf s 1) (cellOf s 0)) here k)
-              ∙ neither-is encodes (keeps || titles) texts .0);
+              (sym (asked-is encodeString t one-there here k)
+              ∙ neither-is encodes keeps (neither-is (encodes || keeps) titles texts .0) .0);
           named = λ k. same-there (cellOf here 1) (cellOf here 0) (both k .0);
           valued = λ k. same-there (cellOf here 3) (cellOf here 2) (both k .1);
           told =
               λ k. same-there (cellOf here 1) (cellOf here 0)
-              (sym (asked-is titled t (λ s t. romText s (cellOf s 1) (cellOf s 0)) here k)
-              ∙ neither-is keeps titles (neither-is encodes (keeps || titles) texts .1) .1);
+              (sym (asked-is titled t one-there here k)
+              ∙ neither-is (encodes || keeps) titles texts .1);
         }
 
 -- ---- the two ROMs
@@ -169,16 +176,41 @@ either-is true b a′ b′ f g e = rw (f refl)
 either-is false b true b′ f g e = refl
 either-is false b false b′ f g e = g e
 
+-- they are refused
+abbrev one-bad : Scene → Token → Bool
+one-bad s t = badText s (cellOf s 1) (cellOf s 0)
+
+abbrev two-bad : Scene → Token → Bool
+two-bad s t = badText s (cellOf s 1) (cellOf s 0) || badText s (cellOf s 3) (cellOf s 2)
+
+module _ (s : Scene) (t : Token) (b : isSpread (s .rom) ≡ true) where
+  one-refused : one-there s t ≡ true → one-bad s t ≡ true
+  one-refused = text-bad s t b (cellOf s 1) (cellOf s 0)
+
+  two-refused : two-there s t ≡ true → two-bad s t ≡ true
+  two-refused =
+      either-is (one-there s t) (romText s (cellOf s 3) (cellOf s 2)) (one-bad s t) (badText s (cellOf s 3) (cellOf s 2)) one-refused
+      (text-bad s t b (cellOf s 3) (cellOf s 2))
+
+  -- 22 of what is no string, which is tested beside it
+  abbrev others : Bool
+  others =
+      asked fetch t (λ s t. bad s (cellOf s 0) (cellSize t)) s
+      || asked storing t (λ s t. outsideWork (s .work) (cellOf s 0) (cellSize t)) s
+
+  encode-refused : asked encodeString t one-there s ≡ true → (others || asked encodeString t one-bad s) ≡ true
+  encode-refused e = or-is others (asked encodeString t one-bad s) (asked-bad s t b encodeString one-there one-bad one-refused e)
+
+  refused : resolvesRom s t ≡ true → noWindow s t ≡ true
+  refused =
+      either-is (asked encodeString t one-there s || asked property t two-there s) (asked titled t one-there s)
+      (others || asked encodeString t one-bad s || asked property t two-bad s) (asked titled t one-bad s)
+      (either-is (asked encodeString t one-there s) (asked property t two-there s) (others || asked encodeString t one-bad s)
+      (asked property t two-bad s) encode-refused (asked-bad s t b property two-there two-bad two-refused))
+      (asked-bad s t b titled one-there one-bad one-refused)
+
 refuses : RefusesSo
-refuses s t b e =
-    or-is (asked fetch t (λ s t. bad s (cellOf s 0) (cellSize t)) s) _
-    (or-is (asked storing t (λ s t. outsideWork (s .work) (cellOf s 0) (cellSize t)) s) _
-    (either-is _ _ _ _ (asked-bad s t b encodeString _ _ (text-bad s t b (cellOf s 1) (cellOf s 0)))
-    (either-is _ _ _ _
-    (asked-bad s t b property _ _
-    (either-is _ _ _ _ (text-bad s t b (cellOf s 1) (cellOf s 0)) (text-bad s t b (cellOf s 3) (cellOf s 2))))
-    (asked-bad s t b titled _ _ (text-bad s t b (cellOf s 1) (cellOf s 0))))
-    e))
+refuses = refused
 
 opens : OpensSo
 opens rom r = (programs rom r .header, same-open (programs rom r))
