@@ -10,7 +10,16 @@ use Rattle.tokens.specs.Family.{encodeInt, encodeString, join}
 use Rattle.tokens.specs.Decode.{tokenOf}
 use Rattle.memory.specs.Window.{badString, rangeOf, windowOf, partOf, resolveOf}
 use Rattle.memory.specs.Writing.{writtenOf, bytesOf}
-use Rattle.memory.specs.Laws.Memory.{written-append, written-more, written-none, length-resolved, string-range, range-rom, resolved-rom, resolved-work}
+use Rattle.memory.specs.Laws.Memory.{
+  written-append,
+  written-more,
+  written-none,
+  length-resolved,
+  string-range,
+  range-rom,
+  resolved-rom,
+  resolved-work,
+}
 use Rattle.memory.specs.Laws.Memory.{resolved-none}
 use Rattle.memory.specs.declared.window.Window.{Window}
 use Rattle.memory.specs.declared.window.Window.the-variants.{Rom, Work, Nowhere}

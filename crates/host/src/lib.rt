@@ -69,8 +69,8 @@ pub extern "C" fn fcode_list(
     budget: u32,
     text: &mut [u8],
 ) -> usize
-    ensures { λ r. ⌜ Lists (fcodeOf (now (rom .entry))) (now (marks .entry)) (now (work .entry)) (now (store .entry)) budget (now (text .entry))
-        (listedWith r (now (marks .exit)) (now (work .exit)) (now (store .exit)) (now (text .exit))) ⌝ }
+    ensures { λ r. ⌜ Lists (fcodeOf (now (rom .entry))) (now (marks .entry)) (now (work .entry)) (now (store .entry)) budget
+        (now (text .entry)) (listedWith r (now (marks .exit)) (now (work .exit)) (now (store .exit)) (now (text .exit))) ⌝ }
 {
     list(rom, marks, work, store, budget, text)
 }

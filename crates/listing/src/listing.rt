@@ -24,7 +24,8 @@ use state::open;
 fn list_run(rom: &[u8], work: &mut [u8], store: &mut [u8], budget: u32, text: &mut [u8]) -> usize
     requires { ⌜ (headerOf (fcodeOf (now rom)) ≡ 0) × (length (now work) ≡ workSize) × (length (now store) ≡ storeSize)
         × (length (now text) ≡ textSize) ⌝ }
-    ensures { λ r. ⌜ ListedRun (startedOf (fcodeOf (now (rom .entry))) (openOf (fcodeOf (now (rom .entry))) (now (work .entry)) (now (store .entry))) budget)
+    ensures { λ r. ⌜ ListedRun (startedOf (fcodeOf (now (rom .entry)))
+        (openOf (fcodeOf (now (rom .entry))) (now (work .entry)) (now (store .entry))) budget)
         (now (text .entry)) r (now (work .exit)) (now (store .exit)) (now (text .exit)) ⌝ }
 {
     let opened = open(rom, &mut *work, &mut *store);
@@ -47,8 +48,8 @@ pub fn list(
     budget: u32,
     text: &mut [u8],
 ) -> usize
-    ensures { λ r. ⌜ Lists (fcodeOf (now (rom .entry))) (now (marks .entry)) (now (work .entry)) (now (store .entry)) budget (now (text .entry))
-        (listedWith r (now (marks .exit)) (now (work .exit)) (now (store .exit)) (now (text .exit))) ⌝ }
+    ensures { λ r. ⌜ Lists (fcodeOf (now (rom .entry))) (now (marks .entry)) (now (work .entry)) (now (store .entry)) budget
+        (now (text .entry)) (listedWith r (now (marks .exit)) (now (work .exit)) (now (store .exit)) (now (text .exit))) ⌝ }
     ensures { λ r. ⌜ r ≤ length (now (text .exit)) ⌝ }
 {
     if text.len() != TEXT_SIZE {

@@ -55,8 +55,8 @@ fn led(length: u32, at: u32, bits: u32, range: u32) -> u32
     }
 }
 
-// Where the offset at a place leads, as a number: 0, which is no place of a branch, for outside. For a loop that goes by numbers, over FCode
-// bytes that are laid out.
+// Where the offset at a place leads, as a number: 0, which is no place of a branch, for outside. For a loop that goes by numbers, over
+// FCode bytes that are laid out.
 pub fn destination(fcode: &[u8], length: u32, wide: bool, at: u32) -> u32
     ensures { λ r. ⌜ r ≡ placeIn (aimOf (now (fcode .entry)) length wide at) ⌝ }
 {

@@ -1,4 +1,4 @@
-// What stands in bytes that lie one behind the other, as FCode bytes do once they are laid out: single ones, and numbers of two and of four.
+// What stands in bytes that lie one behind the other, as FCode bytes do once they are laid out: single ones, and numbers of two and four.
 ghost use mathlib.Core.Path.{_≡_};
 ghost use Rattle.rom.specs.Bytes.{byteOf, word16Of, word32Of};
 

@@ -71,8 +71,8 @@ pub fn wrong_length(rom: &[u8], spread: Spread, length: u32) -> bool
     fcode_count(rom, spread) < (length as usize)
 }
 
-// The header test of a ROM as it is lent: 0, or the first of the refusals 1 to 5 whose condition holds. Only a start that 2 knows is spread,
-// so that neither part of 1 can come before a 2 that should.
+// The header test of a ROM as it is lent: 0, or the first of the refusals 1 to 5 whose condition holds. Only a start that 2 knows is
+// spread, so that neither part of 1 can come before a 2 that should.
 pub fn check_header(rom: &[u8]) -> u32
     ensures { λ r. ⌜ r ≡ headerOf (fcodeOf (now (rom .entry))) ⌝ }
 {

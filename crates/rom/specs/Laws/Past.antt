@@ -92,7 +92,13 @@ alike-to-back a =
 pub alike-below : {n size : ℕ} {rom other : List ℕ} → n ≤ size → AlikeTo size rom other → AlikeTo n rom other
 alike-below l a =
     let w = a .within in
-    record { same = λ k h. a .same k (omega arith); start = a .start; least = a .least; most = a .most; within = (omega arith, omega arith) }
+    record {
+      same = λ k h. a .same k (omega arith);
+      start = a .start;
+      least = a .least;
+      most = a .most;
+      within = (omega arith, omega arith);
+    }
 
 module _ {rom other : List ℕ} (a : Alike rom other) where
   pub same-length : lengthOf rom ≡ lengthOf other

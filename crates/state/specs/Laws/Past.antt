@@ -35,7 +35,19 @@ use Rattle.state.specs.State.{isOpen, movedTo}
 use Rattle.state.specs.Numbers.{seekOf, isBody, kindsOf}
 use Rattle.state.specs.Scene.{Scene, scene, Turn, turn, refuse, goes, cellOf}
 use Rattle.state.specs.Refusals.{asked, undefined, taken, bodyHere, whyStopped, bodyRefusal, low, goesAstray, backWrong, high}
-use Rattle.state.specs.Refusals.{tooManyFrames, noNode, zeroDivisor, isCell, cellSize, bad, badText, noWindow, notAligned, exhausted, apart}
+use Rattle.state.specs.Refusals.{
+  tooManyFrames,
+  noNode,
+  zeroDivisor,
+  isCell,
+  cellSize,
+  bad,
+  badText,
+  noWindow,
+  notAligned,
+  exhausted,
+  apart,
+}
 use Rattle.state.specs.Refusals.{titleOf, namedHere, valueHere, titledHere, misnamed, noRoomFor, storeFull}
 use Rattle.state.specs.Refusals.{firstOf, refusalOf}
 use Rattle.state.specs.Effects.{Effect, onward, calls, fetches, behindBody, withNumber, colons, values, variables, defines}

@@ -13,8 +13,20 @@ bad-string-spec =
     (λ c. search needs)
     (λ c. search needs)
     (λ c.
-    rw (← range-is _ _ _ _ _ (c .before .before .before .before .before .before .pre), ← c .before .before .before .window-of .ensures, c .before .enum-told .given .1) (c .is-spread .ensures))
+    rw (
+      ← range-is _ _ _ _ _ (c .before .before .before .before .before .before .pre),
+      ← c .before .before .before .window-of .ensures,
+      c .before .enum-told .given .1,
+    ) (c .is-spread .ensures))
     (λ c.
-    rw (← range-is _ _ _ _ _ (c .before .before .before .before .before .pre), ← c .before .before .window-of .ensures, c .enum-told2 .given .1))
+    rw (
+      ← range-is _ _ _ _ _ (c .before .before .before .before .before .pre),
+      ← c .before .before .window-of .ensures,
+      c .enum-told2 .given .1,
+    ))
     (λ c.
-    rw (← range-is _ _ _ _ _ (c .before .before .before .before .before .pre), ← c .before .before .window-of .ensures, c .enum-told3 .given .1)))
+    rw (
+      ← range-is _ _ _ _ _ (c .before .before .before .before .before .pre),
+      ← c .before .before .window-of .ensures,
+      c .enum-told3 .given .1,
+    )))

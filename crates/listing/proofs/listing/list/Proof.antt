@@ -96,8 +96,12 @@ list-run-requires c κs =
     let if3 = c .before .before .before .before .before .before .before .before .before .before .if3 in
     let if1 = c .before .before .before .before .before .before .before .before .before .before .before .before .if1 in
     let c₁ = c .before .before .before .before .before .before .before .before .before .before .before .before in
-    let a = c₁ .before .before .before .before .before .before .args in
-    (passed-header (judged-as (fcodeOf (now (a .rom))) (now (a .marks)) _ (screen .ensures) (enum-told .given .1)), if3 .left, if4 .left, if1 .left)
+    let a = c₁ .before .before .before .before .before .before .args in (
+      passed-header (judged-as (fcodeOf (now (a .rom))) (now (a .marks)) _ (screen .ensures) (enum-told .given .1)),
+      if3 .left,
+      if4 .left,
+      if1 .left,
+    )
 
 -- src/listing.rt:64:26
 enum-known-why : tie.Need-enum-known-why

@@ -51,7 +51,8 @@ returns c =
     let o = c₁ .before .before .before .before .before .before .before .before .«open» in
     let r = c .before .before .before .before .before .before .before .before .before .before .before .before .run in
     let t = c .before .before .run-text in
-    listed-run (fcodeOf (now (a .rom))) (now (a .work)) (now (a .store)) (a .budget) (p .0) (p .1) (p .2) (o .result) _ _ (o .ensures) (r .result) _ _
+    listed-run (fcodeOf (now (a .rom))) (now (a .work)) (now (a .store)) (a .budget) (p .0) (p .1) (p .2) (o .result) _ _ (o .ensures)
+    (r .result) _ _
     (r .ensures) _ (number-of .ensures) (now (a .text)) _ _ (p .3) (t .ensures)
 
 pub list-run-spec : {M : Type 1} → statement M

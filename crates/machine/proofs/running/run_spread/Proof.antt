@@ -22,7 +22,8 @@ run-small-requires c κs =
     let tested = counted .before .before .before in
     let a = tested .before .before .before .before .args in (
       laying (a .spread) (now (a .rom)) (a .st .length) (counted .asked .result)
-          (sym (tested .wrong-rom .ensures) ∙ counted .before .before .if1 .left) (rw (← counted .before .fcode-count .ensures) (counted .asked .ensures)),
+          (sym (tested .wrong-rom .ensures) ∙ counted .before .before .if1 .left)
+          (rw (← counted .before .fcode-count .ensures) (counted .asked .ensures)),
       c .before .before .if2 .taken,
     )
 
@@ -32,7 +33,8 @@ run-middle-requires c κs =
     let tested = counted .before .before .before in
     let a = tested .before .before .before .before .args in (
       laying (a .spread) (now (a .rom)) (a .st .length) (counted .asked .result)
-          (sym (tested .wrong-rom .ensures) ∙ counted .before .before .if1 .left) (rw (← counted .before .fcode-count .ensures) (counted .asked .ensures)),
+          (sym (tested .wrong-rom .ensures) ∙ counted .before .before .if1 .left)
+          (rw (← counted .before .fcode-count .ensures) (counted .asked .ensures)),
       c .before .before .if3 .taken,
     )
 

@@ -13,7 +13,9 @@ aim-at-spec =
     (λ c κs. search needs)
     (λ c.
     let a = c .before .before .before .args in
-    sym (aim-outside (viewOf (a .spread) (now (a .rom))) (a .length) (a .wide) (a .at) (sym (c .before .spread-destination .ensures) ∙ c .if1 .taken)))
+    sym (aim-outside (viewOf (a .spread) (now (a .rom))) (a .length) (a .wide) (a .at) (sym (c .before .spread-destination .ensures)
+    ∙ c .if1 .taken)))
     (λ c.
     let a = c .before .before .before .args in
-    sym (aim-inside (viewOf (a .spread) (now (a .rom))) (a .length) (a .wide) (a .at) _ (c .before .spread-destination .ensures) (c .if1 .left))))
+    sym (aim-inside (viewOf (a .spread) (now (a .rom))) (a .length) (a .wide) (a .at) _ (c .before .spread-destination .ensures)
+    (c .if1 .left))))

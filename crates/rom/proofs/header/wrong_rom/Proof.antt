@@ -14,4 +14,10 @@ wrong-rom-spec =
     (λ c κs. search needs)
     (λ c.
     let a = c .before .before .before .before .args in
-    rw (← c .before .before .fcode-count .ensures, le-ltb _ _ (c .before .if1 .left), same-most (a .spread) (now (a .rom)), ← c .fcode-most .ensures)))
+    rw (
+      ← c .before .before .fcode-count .ensures,
+      le-ltb _ _ (c .before .if1 .left),
+      same-most (a .spread)
+          (now (a .rom)),
+      ← c .fcode-most .ensures,
+    )))

@@ -18,7 +18,8 @@ shared-slice-read-result : tie.Need-shared-slice-read-result
 shared-slice-read-result c =
     let a = c .before .before .before .before .before .args in
     rw (c .before .distance .ensures)
-    (view-within (a .spread) (now (a .rom)) (a .k) (omega (arith, c .before .before .before .fcode-count .ensures, c .before .before .if1 .taken)))
+    (view-within (a .spread) (now (a .rom)) (a .k)
+    (omega (arith, c .before .before .before .fcode-count .ensures, c .before .before .if1 .taken)))
 
 returns : tie.Need-returns
 returns c =

@@ -27,8 +27,11 @@ slice-write-room c = let z = c .before .before .loop .inv .1 .size in search nee
 
 loop-again : tie.Need-loop-again Inv-loop μ-loop
 loop-again c =
-    let z = c .before .before .loop .inv .1 .size in
-    (search needs, one-laid _ _ _ (c .before .before .loop .i) (c .before .before .loop .room) (search needs) (c .before .before .loop .inv .1))
+    let z = c .before .before .loop .inv .1 .size in (
+      search needs,
+      one-laid _ _ _ (c .before .before .loop .i) (c .before .before .loop .room) (search needs)
+          (c .before .before .loop .inv .1),
+    )
 
 returns : tie.Need-returns Inv-loop μ-loop
 returns c =

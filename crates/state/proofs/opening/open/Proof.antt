@@ -17,7 +17,8 @@ open-spec =
     (λ c.
     let if1 = c .before .before .if1 in
     let a = c .before .before .before .before .before .before .args in
-    rw (c .refused .ensures, c .before .zero-state .ensures) (bad-work (fcodeOf (now (a .rom))) (now (a .work)) (now (a .store)) (if1 .taken)))
+    rw (c .refused .ensures, c .before .zero-state .ensures) (bad-work (fcodeOf (now (a .rom))) (now (a .work)) (now (a .store))
+    (if1 .taken)))
     (λ c κs. search needs)
     (λ c κs. search needs)
     (λ c.
@@ -36,7 +37,8 @@ open-spec =
     let if1 = c .before .before .before .before .before .if1 in
     let a = c .before .before .before .before .before .before .before .before .before .args in
     rw (c .refused3 .ensures, c .before .zero-state3 .ensures)
-    (bad-header (fcodeOf (now (a .rom))) (now (a .work)) (now (a .store)) (if1 .left) (if2 .left) (check-header .result) (check-header .ensures)
+    (bad-header (fcodeOf (now (a .rom))) (now (a .work)) (now (a .store)) (if1 .left) (if2 .left) (check-header .result)
+    (check-header .ensures)
     (if3 .taken)))
     (λ c κs. search needs)
     (λ c κs. search needs)

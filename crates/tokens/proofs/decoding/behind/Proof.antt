@@ -30,5 +30,9 @@ behind-spec =
     let match = c .before .before .match in
     (rw (match .keys6, ← c .before .behind-string2 .ensures .0, ← c .behind-number3 .ensures .0), search needs, search needs))
     (λ c.
-    let a = c .before .before .args in
-    (sym (find-none (Unit {0}) (behinds (viewOf (a .spread) (now (a .rom))) (a .wide) (a .at)) (a .at) (a .form) (c .match .rest)), search needs, search needs)))
+    let a = c .before .before .args in (
+      sym (find-none (Unit {0}) (behinds (viewOf (a .spread) (now (a .rom))) (a .wide) (a .at)) (a .at) (a .form) (c .match .rest)),
+      search
+          needs,
+      search needs,
+    )))

@@ -11,7 +11,8 @@ start b = b .before .before .before .before .before
 
 -- what is known of the token once its end is
 found : (b : tie.After-behind)
-    → Found (viewOf (start b .args .spread) (now (start b .args .rom))) (start b .args .wide) (start b .args .place) (b .before .before .before .number-at .result)
+    → Found (viewOf (start b .args .spread) (now (start b .args .rom))) (start b .args .wide) (start b .args .place)
+    (b .before .before .before .number-at .result)
     (b .before .before .code-of .result) (b .before .behind-number .result) (b .behind .result)
 found b =
     record {

@@ -37,4 +37,5 @@ operand-at-spec =
     rw (match .keys6, ← c .before .behind-string .ensures .0) (c .definition-at2 .ensures))
     (λ c.
     let a = c .before .before .args in
-    sym (find-none (Unit {0}) (operands (viewOf (a .spread) (now (a .rom))) (a .length) (a .wide) (a .at)) Nothing (a .form) (c .match .rest))))
+    sym (find-none (Unit {0}) (operands (viewOf (a .spread) (now (a .rom))) (a .length) (a .wide) (a .at)) Nothing (a .form)
+    (c .match .rest))))

@@ -26,7 +26,8 @@ piece-in-spec =
     (λ c κs. search needs)
     (λ c.
     let a = c .before .before .before .args in
-    is-end (viewOf (a .spread) (now (a .rom))) (a .wide) (a .place) (c .before .program-end .result) (c .before .program-end .ensures) (search needs))
+    is-end (viewOf (a .spread) (now (a .rom))) (a .wide) (a .place) (c .before .program-end .result) (c .before .program-end .ensures)
+    (search needs))
     (λ c κs. search needs)
     (λ c. search needs)
     (λ c. search needs)
@@ -36,7 +37,8 @@ piece-in-spec =
     let program-end = c .before .before .before .before .before .program-end in
     let a = c .before .before .before .before .before .before .before .args in
     let e = program-end .result in
-    let u = formed-as (viewOf (a .spread) (now (a .rom))) e (a .wide) (a .place) _ (sym (decode .ensures) ∙ c .before .enum-told2 .given .1) in
+    let u = formed-as (viewOf (a .spread) (now (a .rom))) e (a .wide) (a .place) _ (sym (decode .ensures) ∙ c .before .enum-told2 .given .1)
+    in
     search (needs, u, c .behind-number .ensures))
     (λ c. search needs)
     (λ c κs. search needs)
@@ -62,4 +64,5 @@ piece-in-spec =
     let e = c .before .before .before .before .before .before .before .program-end in
     let t = token .given in
     rw (c .before .behind-number2 .ensures .0, c .width-behind .ensures)
-    (is-piece (viewOf (a .spread) (now (a .rom))) (a .wide) (a .place) (e .result) _ (e .ensures) (search needs) (sym (decode .ensures) ∙ t .1))))
+    (is-piece (viewOf (a .spread) (now (a .rom))) (a .wide) (a .place) (e .result) _ (e .ensures) (search needs) (sym (decode .ensures)
+    ∙ t .1))))
