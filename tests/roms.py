@@ -26,6 +26,17 @@ def with_header(program, start=NARROW):
     return bytes([start, 8]) + (sum(program) % 65536).to_bytes(2, "big") + length.to_bytes(4, "big") + program
 
 
+def words(line):
+    """A program by its tokens with their data heights, '-' where one is not reached: its bytes, and the heights by place."""
+    program, heights = b"", {}
+    for word in line.split():
+        token, height = word.split(":")
+        if height != "-":
+            heights[8 + len(program)] = int(height)
+        program += bytes.fromhex(token)
+    return program, heights
+
+
 def spread_of(rom):
     """How far apart a ROM's FCode bytes lie: its first byte says so."""
     return {TWO: 2, FOUR: 4}.get(rom[0], 1) if rom else 1

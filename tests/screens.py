@@ -35,12 +35,7 @@ def refused(number):
 
 def passing(text, start=NARROW):
     """A ROM by its tokens with their heights."""
-    program, heights = b"", {}
-    for word in text.split():
-        token, height = word.split(":")
-        if height != "-":
-            heights[8 + len(program)] = int(height)
-        program += bytes.fromhex(token)
+    program, heights = roms.words(text)
     return f"S {with_header(program, start).hex().upper()}", passed(heights)
 
 

@@ -5,24 +5,13 @@ F3, the ROM window, and strings, which no token takes from a spread ROM.
 import random
 
 from long import END, GO, MOST, fails, filled, level, passes, shut, to
-from roms import FOUR, TWO, WIDE, apart, left, with_header
+from roms import FOUR, TWO, WIDE, apart, left, with_header, words
 
 SPREADS = ((TWO, 2), (FOUR, 4))
 ALIKE = (WIDE, TWO, FOUR)
 NONE, FULL = b"\x00", b"\xFF"
 draw = random.Random(1275)
 ANY = bytes(draw.randrange(256) for _ in range(61))
-
-
-def words(line):
-    """A program by its tokens with their data heights, '-' where one is not reached: its bytes, and the heights by place."""
-    program, heights = b"", {}
-    for word in line.split():
-        token, height = word.split(":")
-        if height != "-":
-            heights[8 + len(program)] = int(height)
-        program += bytes.fromhex(token)
-    return program, heights
 
 
 def rom_of(program, start, gaps=ANY):

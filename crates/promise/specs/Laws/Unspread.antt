@@ -30,7 +30,17 @@ use Rattle.state.specs.declared.state.State.{State}
 use Rattle.state.specs.declared.answer.Answer.the-variants.{Going}
 use Rattle.screen.specs.Laws.Exact.Exactly.{one-result}
 use Rattle.screen.specs.Laws.Rules.Past.{promised-there}
-use Rattle.promise.specs.Unspread.{liesInRom, romText, resolvesRom, fetchesStart, touches, Untouched, UntouchedFor, SpreadRom, otherOf}
+use Rattle.promise.specs.Unspread.{
+  liesInRom,
+  romText,
+  resolvesRom,
+  fetchesStart,
+  touches,
+  Untouched,
+  UntouchedFor,
+  SpreadRom,
+  otherOf,
+}
 use Rattle.promise.specs.Unspread.{OpensSo, ScreensSo, StepsSo, RunsSo, RefusesSo, AsUnspread}
 
 -- ---- a condition that is asked of the token's family
@@ -92,7 +102,8 @@ module _ (fcode work store : List ℕ) (st : State) (s : isSpread fcode ≡ true
     abbrev titles : Bool
     titles = asked titled t one-there here
 
-    both : familyIn (t .code) ≡ property → (romText here (cellOf here 1) (cellOf here 0) ≡ false) × (romText here (cellOf here 3) (cellOf here 2) ≡ false)
+    both : familyIn (t .code) ≡ property → (romText here (cellOf here 1) (cellOf here 0) ≡ false) ×
+        (romText here (cellOf here 3) (cellOf here 2) ≡ false)
     both k =
         neither-is (romText here (cellOf here 1) (cellOf here 0)) (romText here (cellOf here 3) (cellOf here 2))
         (sym (asked-is property t two-there here k)
@@ -219,7 +230,8 @@ screens : ScreensSo
 screens rom before after after′ v v′ r p q = one-result (promised-there (programs rom r) p) q
 
 steps : StepsSo
-steps rom work store st r h u = same-step (fcodeOf rom) (otherOf rom) work store st (reads rom r (st .length) h) (sees rom r work store st h u)
+steps rom work store st r h u = same-step (fcodeOf rom) (otherOf rom) work store st (reads rom r (st .length) h)
+    (sees rom r work store st h u)
 
 runs : RunsSo
 runs rom work store st r h budget u =
