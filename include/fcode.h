@@ -9,8 +9,8 @@
  * program's addresses count the bytes that are left without the gaps.
  *
  * The library is for x86-64 Linux and calls nothing but memcpy and memset: no heap, no files. A call may take FCODE_STACK_SIZE bytes of
- * stack; fcode_check, and the others of a program of up to 4,096 bytes, take an eighth of that at most, and fcode_run of any that is not
- * spread. */
+ * stack; fcode_check and fcode_run, and the other two of a program of up to 4,096 bytes, take an eighth of that at most, and a quarter
+ * where a spread ROM is run. */
 #ifndef CELESTALAMP_FCODE_H
 #define CELESTALAMP_FCODE_H
 
@@ -24,7 +24,7 @@ extern "C" {
 /* a ROM has 8 bytes at least, and so many at most, the gaps of a spread one counted */
 #define FCODE_ROM_MOST 65536
 
-/* the stack, in bytes, that a call may take: 452,408 were measured, the rest is margin */
+/* the stack, in bytes, that a call may take: 455,648 were measured, the rest is margin */
 #define FCODE_STACK_SIZE 524288
 
 /* the sizes, in bytes, that each buffer must have exactly */

@@ -295,19 +295,20 @@ static size_t stack_taken(int which) {
     return sizeof stack - left;
 }
 
-/* fcode.h says how much a call may take, and how much of that with a short program: no table for a long one lies in its way. A program's
- * size is that of its FCode bytes, however far apart they lie */
+/* fcode.h says how much a call may take, and how much of that with a short program: no table for a long one lies in its way, but for the
+ * room that a spread program is laid into to be run. A program's size is that of its FCode bytes, however far apart they lie */
 static void stacks_of(uint8_t start) {
     static const size_t sizes[] = {10, 4096, 4097, 16384, 32768, FCODE_ROM_MOST};
     size_t most = 0, most_of_short = 0;
     for (size_t k = 0; k < sizeof sizes / sizeof sizes[0] && sizes[k] * spread_by(start) <= FCODE_ROM_MOST; k++) {
         for (int which = CHECK; which <= LIST; which++) {
-            int is_short = sizes[k] <= 4096 || (spread_by(start) == 1 && (which == CHECK || which == RUN));
+            int is_short = sizes[k] <= 4096 || which == CHECK || which == RUN;
+            int is_laid = spread_by(start) != 1 && (which == RUN || which == LIST);
             burn_noops(sizes[k]);
             lay_apart(start);
             size_t taken = stack_taken(which);
             EXPECT(0 < taken && taken <= FCODE_STACK_SIZE);
-            EXPECT(!is_short || taken <= FCODE_STACK_SIZE / 8);
+            EXPECT(!is_short || taken <= FCODE_STACK_SIZE / (is_laid ? 4 : 8));
             most = most < taken ? taken : most;
             most_of_short = is_short && most_of_short < taken ? taken : most_of_short;
         }
