@@ -5,7 +5,7 @@ ghost use Rattle.acts.specs.Joints.Acts.{acted_of, refused_of};
 use state::{Core, Handed, Told};
 use tree::Tail;
 
-#[derive(Drop)]
+#[derive(Clone, Copy)]
 pub struct Acted {
     pub told: Told,
     pub core: Core,

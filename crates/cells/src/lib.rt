@@ -14,7 +14,7 @@ pub use order::{
 };
 
 // What u/mod gives: the remainder stands under the quotient on the stack.
-#[derive(Drop)]
+#[derive(Clone, Copy)]
 pub enum Divided {
     ByZero,
     Parts { remainder: u32, quotient: u32 },

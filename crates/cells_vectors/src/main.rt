@@ -132,7 +132,7 @@ fn print_three(token: u32, n: u32, min: u32, max: u32) {
 }
 
 // What a token takes from the stack. The count of a shift is the upper cell.
-#[derive(Drop)]
+#[derive(Clone, Copy)]
 enum Takes {
     One,
     Two,

@@ -64,7 +64,7 @@ pub fn digits_at(text: &[u8], from: usize) -> u32 {
 }
 
 // A byte of a ROM, how often it stands, and where the text goes on. Where none is written it stands no times.
-#[derive(Drop)]
+#[derive(Clone, Copy)]
 pub struct Item {
     pub byte: u8,
     pub times: u32,

@@ -15,7 +15,7 @@ pub const SPACE: usize = ROM_MOST + 1;
 pub const FCODE_SPACE: usize = ROM_MOST / 2;
 
 // How many bytes were read; or that they could not be, which was said on standard error.
-#[derive(Drop)]
+#[derive(Clone, Copy)]
 pub struct Dumped {
     pub size: usize,
     pub lost: bool,

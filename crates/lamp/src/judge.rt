@@ -5,7 +5,7 @@ use screen::{Verdict, screen};
 use state::{State, number_of, open};
 
 // How a run ended: its number, 0 for a finish, its steps, and the state then.
-#[derive(Drop)]
+#[derive(Clone, Copy)]
 pub struct Ended {
     pub number: u32,
     pub steps: u32,

@@ -16,7 +16,7 @@ use show::{explain_file, list_file, tokens_file};
 use tree::same_bytes;
 
 // What is wanted of a file, or of many.
-#[derive(Drop)]
+#[derive(Clone, Copy)]
 enum Wish {
     List,
     Explain,

@@ -15,7 +15,7 @@ const NAMES: i32 = 4;
 const BOARD: u32 = 1;
 
 // How the lines are asked for.
-#[derive(Drop)]
+#[derive(Clone, Copy)]
 pub struct Wish {
     pub csv: bool,
     pub budget: u32,
@@ -23,7 +23,7 @@ pub struct Wish {
 }
 
 // What has been done: the dumps by kind, the bytes of a name that is not whole yet, and whether all could be printed.
-#[derive(Drop)]
+#[derive(Clone, Copy)]
 pub struct Progress {
     pub counts: Counts,
     pub have: usize,
@@ -113,7 +113,7 @@ fn lost_dump(text: &mut [u8], csv: bool, file: &[u8]) -> usize {
 }
 
 // A dump that was judged, or could not be read: the status of it alone, and whether its line was printed.
-#[derive(Drop)]
+#[derive(Clone, Copy)]
 pub struct Scanned {
     pub status: u8,
     pub printed: bool,

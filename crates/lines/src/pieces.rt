@@ -20,7 +20,7 @@ use tokens::reader::{Piece, piece_in, program_end};
 use tokens::{Operand, Token, name_front, name_rest};
 
 // Where the parts of an operand meet.
-#[derive(Drop)]
+#[derive(Clone, Copy)]
 pub struct Cuts {
     pub first: usize,
     pub second: usize,
@@ -29,7 +29,7 @@ pub struct Cuts {
 
 // What `piece_line` hands back: the place behind the line in the text, the place of the next piece, and the offset width in
 // force there.
-#[derive(Drop)]
+#[derive(Clone, Copy)]
 pub struct PieceTold {
     pub end: usize,
     pub next: u32,

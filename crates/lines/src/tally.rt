@@ -7,7 +7,7 @@ use rom::{Spread, wide_start};
 use tokens::reader::{Piece, piece_in, program_end};
 
 // So many pieces, so many of them raw, and the first of those from a place up to another.
-#[derive(Drop)]
+#[derive(Clone, Copy)]
 pub struct Tally {
     pub pieces: u32,
     pub raws: u32,

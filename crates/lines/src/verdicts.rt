@@ -12,7 +12,7 @@ use crate::numbers::{has_words, words_of};
 use crate::words::{letter, say};
 
 // What came of a dump: its number, 0 for none, whether its program was run, and how many steps it took.
-#[derive(Drop)]
+#[derive(Clone, Copy)]
 pub struct Dump {
     pub number: u32,
     pub ran: bool,
@@ -20,7 +20,7 @@ pub struct Dump {
 }
 
 // How many dumps there were, and of them those that passed, that were refused, whose budget was spent, and that could not be read.
-#[derive(Drop)]
+#[derive(Clone, Copy)]
 pub struct Counts {
     pub all: u32,
     pub passed: u32,

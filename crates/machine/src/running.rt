@@ -32,7 +32,7 @@ const MIDDLE_ROOM: usize = 4096;
 const LARGE_ROOM: usize = ROM_MOST / 2;
 
 // How a run ended, of a state that is taken apart.
-#[derive(Drop)]
+#[derive(Clone, Copy)]
 pub struct Cruised {
     pub answer: Answer,
     pub count: u32,

@@ -7,7 +7,7 @@ pub const ROM_BASE: u32 = 0x1000_0000;
 pub const WORK_BASE: u32 = 0x2000_0000;
 
 // The window that holds a range, with the byte at which the range starts there.
-#[derive(Drop)]
+#[derive(Clone, Copy)]
 pub enum Window {
     Rom(u32),
     Work(u32),
@@ -15,7 +15,7 @@ pub enum Window {
 }
 
 // What is fetched, or why it is refused.
-#[derive(Drop)]
+#[derive(Clone, Copy)]
 pub enum Fetched {
     Value(u32),
     Refused(u32),

@@ -4,7 +4,7 @@ ghost use Rattle.reckon.specs.Joints.Fast.{turned};
 ghost use Rattle.reckon.specs.declared.turned.Fared.TheVariants.{On, Cold, Not};
 
 // It was carried out; or it is none of those that are done in place, and is left as it was; or it is refused, and why.
-#[derive(Drop)]
+#[derive(Clone, Copy)]
 pub enum Fared {
     On,
     Cold,
@@ -12,7 +12,7 @@ pub enum Fared {
 }
 
 // With the heights of the two stacks and the place behind it.
-#[derive(Drop)]
+#[derive(Clone, Copy)]
 pub struct Turned {
     pub fared: Fared,
     pub height: usize,

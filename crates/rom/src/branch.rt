@@ -8,7 +8,7 @@ use crate::sizes::FIRST_PLACE;
 use crate::spread::{Spread, fcode_byte, fcode_word16};
 
 // Where a branch leads: a place inside 8..length-1, or outside, which is refusal 19 where the branch is taken.
-#[derive(Drop)]
+#[derive(Clone, Copy)]
 pub enum Aim {
     Inside(u32),
     Outside,

@@ -29,7 +29,7 @@ pub const MARKS_SIZE: usize = 65536;
 
 pub const TEXT_SIZE: usize = 65536;
 
-#[derive(Drop)]
+#[derive(Clone, Copy)]
 pub struct House {
     pub rom_least: usize,
     pub rom_most: usize,

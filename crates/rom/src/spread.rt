@@ -10,7 +10,7 @@ use crate::sizes::ROM_MOST;
 use crate::sum::least;
 
 // One behind the other, or two or four apart.
-#[derive(Drop)]
+#[derive(Clone, Copy)]
 pub enum Spread {
     One,
     Two,

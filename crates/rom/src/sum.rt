@@ -13,7 +13,7 @@ use crate::spread::{Spread, fcode_count};
 
 // A sum on its way from the last byte down to the first: `left` bytes are still to be added, the first ones. So one number says both how
 // many there are and where the next ones end.
-#[derive(Drop)]
+#[derive(Clone, Copy)]
 struct Summed {
     sum: u16,
     left: usize,

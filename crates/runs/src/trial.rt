@@ -92,7 +92,7 @@ pub fn show_tried(rom: &[u8], work: &mut [u8], store: &mut [u8], state: State, b
     );
 }
 
-#[derive(Drop)]
+#[derive(Clone, Copy)]
 pub struct Sums(u32, u32);
 
 pub fn both_sums(work: &[u8], store: &[u8]) -> Sums {

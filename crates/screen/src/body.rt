@@ -18,11 +18,11 @@ use tokens::programs::PROGRAMS_MOST;
 use tokens::{Glance, family, family_of, glance_from, kind_of, out_of_place, quick_at};
 
 // How far the token starts of a body were marked: whether up to its C2, and the place.
-#[derive(Drop)]
+#[derive(Clone, Copy)]
 pub struct Span(pub bool, pub u32);
 
 // A body that was walked: whether it passes, the place of its C2, and what it comes to.
-#[derive(Drop)]
+#[derive(Clone, Copy)]
 pub struct Survey {
     pub good: bool,
     pub end: u32,

@@ -10,7 +10,7 @@ use tokens::{Token, code_of, family, family_of, takes_of};
 
 // What a program number does where it is entered at its need: the need, the data height that it leaves, the highest data height and count
 // of return cells, nested calls included, and the frames that it opens, its own included.
-#[derive(Drop)]
+#[derive(Clone, Copy)]
 pub struct Sum {
     pub need: u32,
     pub out: u32,
@@ -21,7 +21,7 @@ pub struct Sum {
 
 // What a token takes and gives, how high it rises over the cells that it leaves alone, and the frames that it opens. The definitions go by
 // this; the code has each part from where it stands, in a code or a sum.
-#[derive(Drop)]
+#[derive(Clone, Copy)]
 pub struct Effect {
     pub takes: u32,
     pub gives: u32,

@@ -27,7 +27,7 @@ use tokens::{
 };
 
 // Where a round starts, with which heights, and what is in force there.
-#[derive(Drop)]
+#[derive(Clone, Copy)]
 pub struct Stand {
     pub start: u32,
     pub cell: u32,
@@ -38,21 +38,21 @@ pub struct Stand {
 }
 
 // A round: whether it is good, and the highest place that it came to.
-#[derive(Drop)]
+#[derive(Clone, Copy)]
 pub struct Round {
     pub good: bool,
     pub far: u32,
 }
 
 // What a token that ends a round leaves: whether it may stand there, and where the next round starts.
-#[derive(Drop)]
+#[derive(Clone, Copy)]
 pub struct Turned {
     pub good: bool,
     pub stand: Stand,
 }
 
 // What comes behind a round.
-#[derive(Drop)]
+#[derive(Clone, Copy)]
 pub enum After {
     Fails,
     Ends,

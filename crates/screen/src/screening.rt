@@ -17,7 +17,7 @@ use tokens::first_codes;
 use tokens::programs::PROGRAMS_MOST;
 
 // A ROM passes, or is refused for the reason of a number.
-#[derive(Drop)]
+#[derive(Clone, Copy)]
 pub enum Verdict {
     Passes,
     Refused(u32),

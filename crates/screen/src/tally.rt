@@ -11,7 +11,7 @@ use tokens::{Glance, family, family_of};
 // Whether the ends of a body agree so far, its need, the highest data height and return height, the frames, and one more than the data
 // height of its ends, 0 where none was met: all as they are where it is entered at 64. `fine` is 1 or 0: a byte in a struct is copied with
 // the padding behind it at every turn of a walk.
-#[derive(Drop)]
+#[derive(Clone, Copy)]
 pub struct Tally {
     pub fine: u32,
     pub need: u32,

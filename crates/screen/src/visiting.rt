@@ -19,7 +19,7 @@ use tokens::{
 };
 
 // What a visit to a token tells: the cell behind it, 0 where its rules are not met, and its successors, 0 for none.
-#[derive(Drop)]
+#[derive(Clone, Copy)]
 pub struct Visit {
     pub cell: u32,
     pub next: u32,
@@ -27,7 +27,7 @@ pub struct Visit {
 }
 
 // A visit, and what a body comes to with its token.
-#[derive(Drop)]
+#[derive(Clone, Copy)]
 pub struct Seen {
     pub visit: Visit,
     pub tally: Tally,

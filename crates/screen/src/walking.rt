@@ -15,7 +15,7 @@ use tokens::programs::PROGRAMS_MOST;
 
 // The text: the program's length, the offset width in force, whether it is a body, the place below which it has no token, and the open
 // children.
-#[derive(Drop)]
+#[derive(Clone, Copy)]
 pub struct Text {
     pub length: u32,
     pub wide: bool,
@@ -25,7 +25,7 @@ pub struct Text {
 }
 
 // How a walk ended: whether it is good, the highest place that it came to, and what a body comes to.
-#[derive(Drop)]
+#[derive(Clone, Copy)]
 pub struct Walk {
     pub good: bool,
     pub far: u32,
@@ -34,7 +34,7 @@ pub struct Walk {
 
 // Where a walk is: whether it is fine, 1 or 0, the highest place that it came to, the place that is met next with its cell, 0 where none is
 // at hand, and how many more wait in the table.
-#[derive(Drop)]
+#[derive(Clone, Copy)]
 pub struct Way {
     pub fine: u32,
     pub far: u32,

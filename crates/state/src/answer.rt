@@ -5,7 +5,7 @@ ghost use Rattle.state.specs.Scene.{answer_number};
 use crate::state::State;
 
 // Going on, finished, refused with a number, or the budget spent with the count of tokens carried out.
-#[derive(Drop)]
+#[derive(Clone, Copy)]
 pub enum Answer {
     Going,
     Finished,
@@ -13,14 +13,14 @@ pub enum Answer {
     Spent(u32),
 }
 
-#[derive(Drop)]
+#[derive(Clone, Copy)]
 pub struct Stepped {
     pub answer: Answer,
     pub state: State,
 }
 
 // A run's answer, how many tokens it carried out, and the state then.
-#[derive(Drop)]
+#[derive(Clone, Copy)]
 pub struct Ran {
     pub answer: Answer,
     pub count: u32,

@@ -7,7 +7,7 @@ ghost use Rattle.state.specs.declared.apart.Told.TheVariants.{On, Not};
 use crate::state::State;
 
 // The numbers of a state: place, width, heights, counts, the active node and the first.
-#[derive(Drop)]
+#[derive(Clone, Copy)]
 pub struct Core {
     pub length: u32,
     pub place: u32,
@@ -25,21 +25,21 @@ pub struct Core {
 }
 
 // How a token ended: carried out, the program's last one, or refused with a number. A budget is the run's, so there is no case for it.
-#[derive(Drop)]
+#[derive(Clone, Copy)]
 pub enum Told {
     On,
     Over,
     Not(u32),
 }
 
-#[derive(Drop)]
+#[derive(Clone, Copy)]
 pub struct Handed {
     pub told: Told,
     pub core: Core,
 }
 
 // A cell taken from the data stack, with the numbers then.
-#[derive(Drop)]
+#[derive(Clone, Copy)]
 pub struct Taken {
     pub told: Told,
     pub cell: u32,

@@ -3,20 +3,20 @@
 use rom::sizes::{DATA_MOST, FRAMES_MOST, NUMBERS_MOST, RETURN_MOST};
 use tree::Tree;
 
-#[derive(Drop)]
+#[derive(Clone, Copy)]
 pub struct Stack {
     pub cells: [u32; DATA_MOST],
     pub height: usize,
 }
 
-#[derive(Drop)]
+#[derive(Clone, Copy)]
 pub struct Back {
     pub cells: [u32; RETURN_MOST],
     pub height: usize,
 }
 
 // The open calls, the oldest first: where each goes back to, the offset width in force there, and the return stack's height at its entry.
-#[derive(Drop)]
+#[derive(Clone, Copy)]
 pub struct Calls {
     pub places: [u32; FRAMES_MOST],
     pub wides: [bool; FRAMES_MOST],
@@ -26,7 +26,7 @@ pub struct Calls {
 
 // The program numbers, the oldest first: the number, its kind byte, its value (of b(:) the body's place, of b(variable) its address), and
 // the offset width in force where it was defined.
-#[derive(Drop)]
+#[derive(Clone, Copy)]
 pub struct Numbers {
     pub programs: [u32; NUMBERS_MOST],
     pub kinds: [u8; NUMBERS_MOST],
@@ -36,7 +36,7 @@ pub struct Numbers {
 }
 
 // The active node is the one that properties go to, and the first is the one that the program started at, which no finish-device leaves.
-#[derive(Drop)]
+#[derive(Clone, Copy)]
 pub struct State {
     pub length: u32,
     pub place: u32,

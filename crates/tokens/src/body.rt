@@ -16,7 +16,7 @@ use crate::read::{Read, out_of_place, read_at};
 use rom::{Spread, byte};
 
 // Where a body ends: the place of its b(;), or the place of the first token that is refused, and why.
-#[derive(Drop)]
+#[derive(Clone, Copy)]
 pub enum Body {
     Ends(u32),
     Stops { at: u32, why: u32 },

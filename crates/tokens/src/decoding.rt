@@ -12,7 +12,7 @@ use rom::{Aim, Spread, aim_at, fcode_byte, fcode_word32, offset};
 
 // What stands behind a token's number: a string's bytes lie in the ROM from start on, a branch has the bits of its offset and where it
 // leads, a definition its number and the kind byte behind that.
-#[derive(Drop)]
+#[derive(Clone, Copy)]
 pub enum Operand {
     Nothing,
     Literal(u32),
@@ -23,7 +23,7 @@ pub enum Operand {
 }
 
 // A token of the list: its number, its row of the list as a code, its operand, and the place behind it.
-#[derive(Drop)]
+#[derive(Clone, Copy)]
 pub struct Token {
     pub number: u32,
     pub code: u32,
@@ -33,7 +33,7 @@ pub struct Token {
 
 // What stands at a place: a token that the program length cuts off, one that is not in the list or badly formed, with the code of its
 // number, or a whole one.
-#[derive(Drop)]
+#[derive(Clone, Copy)]
 pub enum Decoded {
     Cut,
     Unlisted(u32),

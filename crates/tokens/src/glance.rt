@@ -13,7 +13,7 @@ use rom::{Spread, byte, destination};
 // A whole token of the list: its code; the number that it is about, which behind b(to) is the one that stands there, of a definition the
 // new one, and else its own; the place behind it; where a branch leads, 0 for outside; and the kind byte of a definition. A string's bytes
 // lie from the second byte behind the token's place up to the next place. What is cut off or not in the list has the code 0, and zeros.
-#[derive(Drop)]
+#[derive(Clone, Copy)]
 pub struct Glance {
     pub code: u32,
     pub number: u32,

@@ -7,7 +7,7 @@ ghost use Rattle.tokens.specs.Joints.Quick.{Codes, Quickly};
 use rom::byte;
 
 // A token's first byte, what the table says of it, and the place behind the token, 0 where it is none of those that are read quickly.
-#[derive(Drop)]
+#[derive(Clone, Copy)]
 pub struct Quick {
     pub first: u8,
     pub code: u32,

@@ -6,7 +6,7 @@ ghost use Rattle.tokens.specs.Place.{misplaced_of, read_of};
 use crate::decoding::{Decoded, Token, decode};
 use rom::Spread;
 
-#[derive(Drop)]
+#[derive(Clone, Copy)]
 pub enum Read {
     Refused(u32),
     Good(Token),

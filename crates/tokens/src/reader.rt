@@ -14,7 +14,7 @@ use rom::{Spread, fcode_count, program_length, spread_of, wide_start};
 
 // What stands at a place: nothing, at the program's end; bytes that no token of the list covers, up to a place; or a token of the list,
 // with the place behind its number, where its operand starts, and the offset width in force behind it.
-#[derive(Drop)]
+#[derive(Clone, Copy)]
 pub enum Piece {
     End,
     Raw(u32),
@@ -26,7 +26,7 @@ pub enum Piece {
 }
 
 // A ROM, a place in it, and the offset width in force there.
-#[derive(Drop)]
+#[derive(Clone, Copy)]
 pub struct Reader<'a> {
     pub rom: &'a [u8],
     pub place: u32,

@@ -16,28 +16,28 @@ use rom::sizes::{NODES_MOST, PROPERTIES_MOST, STORE_SIZE};
 
 // The live bytes of the store, and a place, at or behind their end, from which on all of it is zero. A store that is offered may hold
 // anything behind its live bytes, so there the place is the store's end; after a write it is the live end.
-#[derive(Drop)]
+#[derive(Clone, Copy)]
 pub struct Tail {
     pub live: usize,
     pub zeros: usize,
 }
 
 // What writing a property gives, with the count of records and the tail then.
-#[derive(Drop)]
+#[derive(Clone, Copy)]
 pub struct Kept {
     pub outcome: Outcome,
     pub held: usize,
     pub tail: Tail,
 }
 
-#[derive(Drop)]
+#[derive(Clone, Copy)]
 pub struct Opened {
     pub outcome: Outcome,
     pub nodes: usize,
     pub active: u32,
 }
 
-#[derive(Drop)]
+#[derive(Clone, Copy)]
 pub struct Closed {
     pub outcome: Outcome,
     pub active: u32,

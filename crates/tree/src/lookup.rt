@@ -15,14 +15,14 @@ use rom::sizes::STORE_SIZE;
 const SLASH: u8 = 0x2F;
 
 // A node, or why there is none.
-#[derive(Drop)]
+#[derive(Clone, Copy)]
 pub enum NodeSought {
     Node(u32),
     Refused(u32),
 }
 
 // Where a property's value lies in the store, its first place and its size, or why there is none.
-#[derive(Drop)]
+#[derive(Clone, Copy)]
 pub enum ValueSought {
     Value(usize, usize),
     Refused(u32),

@@ -14,7 +14,7 @@ use memory::{copy_in, put};
 use rom::sizes::PROPERTIES_MOST;
 
 // A record, and where its bytes start in the store. A record that is not there stands behind them all, its bytes at the live end.
-#[derive(Drop)]
+#[derive(Clone, Copy)]
 pub struct Found {
     pub index: usize,
     pub at: usize,

@@ -7,7 +7,7 @@ use crate::node::parent;
 use crate::tree::{Tree, is_whole};
 use rom::sizes::{NODES_MOST, PROPERTIES_MOST};
 
-#[derive(Drop)]
+#[derive(Clone, Copy)]
 pub struct Row {
     pub parent: u32,
     pub count: u32,

@@ -10,7 +10,7 @@ pub const NAME_MOST: usize = 31;
 
 // Node k has the parent parents[k]. Record i says that a property of the node owners[i] has a name and a value of these lengths; their
 // bytes lie in the store, one record's behind the other's.
-#[derive(Drop)]
+#[derive(Clone, Copy)]
 pub struct Tree {
     pub parents: [u32; NODES_MOST],
     pub nodes: usize,
@@ -21,7 +21,7 @@ pub struct Tree {
 }
 
 // Done, or why not.
-#[derive(Drop)]
+#[derive(Clone, Copy)]
 pub enum Outcome {
     Done,
     Refused(u32),
