@@ -2,6 +2,7 @@
 // and a reader that goes from place to place. Every call is total: any bytes, any place, any length; but a table that is lent must be that
 // of `first_codes`, `quick_at` wants a place before the length, and `glance_from` what that has read. Places are counted in 32 bits.
 #![tactic(auto)]
+
 mod body;
 mod code;
 mod decoding;
