@@ -1,6 +1,6 @@
 -- Which refusal meets a token that is not hot, by its code. Each law is what the order of refusals leaves of it for one kind of token.
 -- Assumes nothing.
-use Rattle.std.proofs.Common.{◌≡◌, ℕ, ◌+◌, ◌-◌, ◌%◌, ◌^◌, ◌<◌, ◌≤◌, Bool, true, false, not, eqb, arith, le-ltb, lt-ltb, le-leb}
+use Rattle.std.proofs.Common.{◌≡◌, ℕ, ◌+◌, ◌-◌, ◌%◌, ◌^◌, ◌<◌, ◌≤◌, Bool, true, false, eqb, arith, le-ltb, lt-ltb, le-leb}
 use borrow.Author.Tests.{lt-leb}
 use Rattle.tokens.specs.Table.{ends, lows, highs, doubles, table, row_of}
 use Rattle.tokens.specs.Code.{code_of}

@@ -1,7 +1,6 @@
 -- A program number by its slot: what the slot says, and the laws of a number that is entered or given another value by it. Assumes nothing.
 use Rattle.std.proofs.Common.{◌≡◌, ℕ, zero, suc, ◌+◌, ◌-◌, ◌<◌, ◌≤◌, Bool, true, false, List, ◌∷◌, length, get_or, sym, refl, ap, ◌∙◌}
-use Rattle.std.proofs.Common.{subst, arith, get_or-set_other, get_or-set_same, ltb-false, ltb-true}
-use Rattle.cells.specs.Choice.{pick}
+use Rattle.std.proofs.Common.{arith, get_or-set_other, get_or-set_same, ltb-false, ltb-true}
 use Rattle.tokens.specs.Table.{is_program, programs_most, first_program}
 use Rattle.tokens.specs.Family.{assign, call}
 use Rattle.tokens.specs.Body.{number_in}

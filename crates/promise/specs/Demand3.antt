@@ -12,7 +12,7 @@
 -- asks that the three are called with the same ROM, that opening was not refused, and that the run is lent memory of the sizes that opening
 -- had. How it is proved: Laws/Standing.antt says how the state stands before each token, and Laws/Running.antt that it always does. Assumes
 -- nothing.
-use Rattle.std.specs.Prelude.{ℕ, ◌+◌, ◌≤◌, ◌≡◌, ◌↔◌, List, [], length}
+use Rattle.std.specs.Prelude.{ℕ, ◌+◌, ◌≤◌, ◌≡◌, ◌↔◌, List, length}
 use Rattle.rom.specs.Sizes.{marks_size}
 use Rattle.rom.specs.Header.{header_of}
 use Rattle.screen.specs.Rules.{Assignment}

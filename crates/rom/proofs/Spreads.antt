@@ -1,11 +1,10 @@
 -- Bytes that lie apart, laid and summed one at a time. Assumes nothing.
 use Rattle.std.proofs.Common.{◌≡◌, ℕ, zero, suc, ◌+◌, ◌-◌, ◌*◌, ◌%◌, ◌^◌, ◌<◌, ◌≤◌, min, ◌≢◌, List, [], ◌∷◌, ◌++◌, length, get_or, take}
-use Rattle.std.proofs.Common.{drop, set, sym, refl, ap, ◌∙◌, ⊎_elim, eq-or-lt_of_le, arith, length-drop, length-set, length-take}
+use Rattle.std.proofs.Common.{drop, set, sym, refl, ap, ◌∙◌, ⊎_elim, eq-or-lt_of_le, arith, length-drop, length-set}
 use Rattle.std.proofs.Common.{get_or-drop, get_or-set_other, take-suc, get_or-set_same, ext_get_or}
 use native.Mathlib.Decide.{dec_le}
-use lib.ListN.{get_or-eq_default}
 use Rattle.rom.specs.Sizes.{first_place}
-use Rattle.rom.specs.Sum.{total, program_of, sum_of}
+use Rattle.rom.specs.Sum.{total, sum_of}
 use Rattle.rom.specs.Spread.{distance_of, view_of, laid_on}
 use Rattle.rom.specs.Joints.Sum.{apart_sum}
 use Rattle.rom.specs.Joints.Spread.{InRom, LaidBy}

@@ -9,14 +9,9 @@ use Rattle.tokens.specs.Code.{code_of}
 use Rattle.tokens.specs.Decode.{behind_of, operand_of, token_if_whole, decode_of}
 use Rattle.tokens.specs.Name.{name_of}
 use Rattle.tokens.specs.Reader.{piece_of, walk_from}
-use Rattle.tree.specs.Held.{held_from, same_bytes, live_among}
-use Rattle.tree.specs.Node.{fresh_tree}
-use Rattle.tree.specs.Path.{value_in, own_value_of}
-use Rattle.tree.specs.Whole.{whole_tree}
-use Rattle.tree.specs.declared.tree.Tree.{Tree}
 use Rattle.lines.specs.Digits.{decimal_from, hex_word, hex_of}
 use Rattle.lines.specs.Printed.{all_printed, quoted, is_text}
-use Rattle.lines.specs.Lines.{read_line, own_lines}
+use Rattle.lines.specs.Lines.{read_line}
 use Rattle.lines.specs.Numbers.{has_words, words_of, opening, naming, moving, running, other}
 use Rattle.lines.specs.TokenLines.{place_text, all_shown, line_text, piece_text}
 use Rattle.lines.specs.Tally.{tally_from}

@@ -5,7 +5,7 @@ use native.Mathlib.Omega.{arith}
 use Rattle.std.proofs.Math.Bool.{true, false}
 use Rattle.cells.specs.Choice.{pick}
 use Rattle.rom.specs.Header.{wide_of}
-use Rattle.tokens.specs.Reader.{Stretch, end_of, piece_of, walk_from, walk_of}
+use Rattle.tokens.specs.Reader.{end_of, piece_of, walk_from}
 use Rattle.tokens.specs.Laws.Reader.{lies_as, past, walk_at, walk_is, walk_holds}
 use Rattle.tokens.specs.declared.decoding.Token.{Token}
 use Rattle.tokens.specs.declared.reader.Piece.TheVariants.{End, Raw, Listed}

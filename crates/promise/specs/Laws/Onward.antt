@@ -24,7 +24,7 @@ use Rattle.promise.specs.Laws.Standing.{Defined, Carried, AtHome, Calling, CallC
 use Rattle.promise.specs.Laws.Before.{defined_token, leads_moves}
 use Rattle.promise.specs.Laws.Carrying.{carried_on}
 use Rattle.promise.specs.Laws.Room.{body_of, Outer, fixed_outer}
-use Rattle.promise.specs.Laws.Refusing.{called, called_colon, is_body_here, behind, on, frame_room}
+use Rattle.promise.specs.Laws.Refusing.{called, called_colon, is_body_here, behind, frame_room}
 use Rattle.promise.specs.Trail.{OpenCall, open_call, without}
 
 -- ---- where a token leads that neither ends nor branches nor is a b(:)

@@ -10,7 +10,7 @@ use Rattle.cells.specs.Laws.Facts.{holds, fails, is_true, is_false, both_hold, n
 use Rattle.rom.specs.Sizes.{data_most, return_most, frames_most, numbers_most, nodes_most}
 use Rattle.rom.specs.Header.{length_of}
 use Rattle.rom.specs.declared.branch.Aim.TheVariants.{Inside, Outside}
-use Rattle.tokens.specs.Family.{plain, always, choice, pick_up, roll_up, maybe, leave, define, kind, assign, call, new_device}
+use Rattle.tokens.specs.Family.{plain, always, choice, pick_up, roll_up, maybe, leave, define, assign, call, new_device}
 use Rattle.tokens.specs.Family.{finish_device}
 use Rattle.tokens.specs.Code.{code_of, family_in, takes_in, gives_in, return_takes_in, return_gives_in}
 use Rattle.tokens.specs.Body.{number_in, unknown_of, body_of}

@@ -1,10 +1,10 @@
 -- The same FCode bytes behind start1: all but the first byte is the same, and the header's verdict. Assumes nothing.
-use Rattle.std.specs.Prelude.{◌≡◌, ℕ, zero, suc, ◌+◌, ◌-◌, ◌<◌, ◌≤◌, Bool, true, false, not, ◌||◌, List, length, ◌==◌, nat_lt, slice_index}
-use Rattle.std.proofs.Common.{arith, add-one, sym, ap, ◌∙◌, length-drop, get_or-drop, le-ltb, ltb-false}
+use Rattle.std.specs.Prelude.{◌≡◌, ℕ, zero, suc, ◌+◌, ◌≤◌, Bool, true, false, not, List, length, ◌==◌, nat_lt, slice_index}
+use Rattle.std.proofs.Common.{arith, sym, ap, ◌∙◌, length-drop, get_or-drop, le-ltb, ltb-false}
 use Rattle.std.proofs.Math.Path.{refl}
 use Rattle.cells.specs.Choice.{pick}
 use Rattle.cells.specs.Laws.Facts.{neither_is, or_is}
-use Rattle.rom.specs.Sizes.{rom_least, rom_most}
+use Rattle.rom.specs.Sizes.{rom_least}
 use Rattle.rom.specs.Bytes.{byte_of}
 use Rattle.rom.specs.Spread.{is_spread, fcode_most, unspread_of}
 use Rattle.rom.specs.Sum.{sum_of}

@@ -1,6 +1,6 @@
 -- Laws of the program numbers' code: seeking goes on from entry to entry, a table by number is filled entry by entry, and one number more
 -- changes one place of it. Assumes nothing.
-use Rattle.std.specs.Prelude.{ℕ, zero, suc, ◌+◌, ◌-◌, ◌<◌, ◌≤◌, ◌≡◌, refl, Bool, true, false, List, [], ◌∷◌, length, get_or, set, replicate}
+use Rattle.std.specs.Prelude.{ℕ, zero, suc, ◌+◌, ◌-◌, ◌<◌, ◌≤◌, ◌≡◌, refl, Bool, true, false, List, ◌∷◌, length, get_or, set, replicate}
 use Rattle.std.specs.Prelude.{ltb, leb, eqb}
 use Rattle.std.proofs.Common.{sym, ◌∙◌, ap, arith, get_or-set_same, get_or-set_other, lt-ltb, le-ltb, le-leb, eq-eqb, ne_eqb, eqb-true}
 use Rattle.std.proofs.Common.{leb-true, ltb-true}

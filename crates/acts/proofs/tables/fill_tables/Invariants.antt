@@ -1,4 +1,4 @@
-use Rattle.std.proofs.Common.{◌≡◌, ℕ, ◌-◌, ◌≤◌, Bool, List}
+use Rattle.std.proofs.Common.{◌≡◌, ℕ, ◌≤◌, Bool, List}
 use Rattle.state.specs.Numbers.{numbers_on, kind_at}
 use Rattle.state.specs.declared.state.Numbers.{Numbers}
 use Rattle.state.specs.Joints.Tables.{slots_past, table_past}

@@ -1,4 +1,4 @@
-use Rattle.std.proofs.Common.{◌-◌, refl, sym, ◌∙◌, rules}
+use Rattle.std.proofs.Common.{refl, sym, ◌∙◌, rules}
 use Rattle.cells.specs.Laws.Facts.{not_off, not_on}
 use Rattle.lines.specs.Laws.Texts.{printed_more, printed_stops, printed_end}
 use Rattle.lines.proofs.printed.all_printed.Goals as goal

@@ -1,4 +1,4 @@
-use Rattle.std.proofs.Common.{◌-◌, ◌≤◌, refl, sym, ◌∙◌, arith}
+use Rattle.std.proofs.Common.{◌≤◌, refl, sym, ◌∙◌, arith}
 use Rattle.tokens.specs.Reader.{end_of}
 use Rattle.tokens.specs.Laws.Reader.{piece_end}
 use Rattle.lines.specs.Laws.Tally.{raw_ahead, token_ahead, tally_end, tally_raw, tally_token}

@@ -1,4 +1,4 @@
-use Rattle.std.proofs.Common.{◌+◌, ◌-◌, [], ◌∷◌, get_or, drop, rules}
+use Rattle.std.proofs.Common.{◌+◌, [], ◌∷◌, get_or, drop, rules}
 use Rattle.lines.specs.Laws.Texts.{drop_more, drop_none}
 use Rattle.lines.specs.Laws.Wrote.{ahead_all, ahead_on, ahead_none}
 use Rattle.lines.proofs.words.say.Goals as goal

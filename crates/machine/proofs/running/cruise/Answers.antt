@@ -1,4 +1,4 @@
-use Rattle.std.proofs.Common.{◌-◌, rules, refl, ap, ◌∙◌, arith}
+use Rattle.std.proofs.Common.{rules, refl, ap, ◌∙◌, arith}
 use Rattle.machine.proofs.Turns.{fit, hot_fit, hot_goes, hot_left, hot_refused, turned_to, tree_whole, begun, came, ends_spent, turn_ends}
 use Rattle.machine.proofs.Turns.{turn_rooted, turn_goes}
 use Rattle.state.specs.Joints.Apart.{arrays, joined, answer_of}

@@ -1,4 +1,4 @@
-use Rattle.std.proofs.Common.{◌-◌, ◌≤◌, ◌≡◌, length}
+use Rattle.std.proofs.Common.{◌≤◌, ◌≡◌, length}
 use Rattle.memory.specs.Writing.{moved_of}
 use Rattle.memory.proofs.writing.move_up.Given as goal
 

@@ -1,4 +1,4 @@
-use Rattle.std.proofs.Common.{◌+◌, ◌-◌, ◌∙◌, get_or, rules}
+use Rattle.std.proofs.Common.{◌+◌, ◌∙◌, get_or, rules}
 use Rattle.reckon.proofs.Deep.{turns, turned, turn_starts}
 use Rattle.reckon.proofs.reckon.turn.Goals as goal
 

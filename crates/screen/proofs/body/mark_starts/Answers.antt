@@ -1,4 +1,4 @@
-use Rattle.std.proofs.Common.{◌-◌, refl, sym, ◌∙◌, length-set, arith}
+use Rattle.std.proofs.Common.{refl, sym, ◌∙◌, length-set, arith}
 use Rattle.cells.specs.Laws.Facts.{not_on, not_off}
 use Rattle.screen.specs.Laws.Code.Body.{off_on, quick_ahead, stood_ahead, marking_first, marking_past, marking_stops, marking_quick}
 use Rattle.screen.specs.Laws.Code.Body.{marking_ends, marking_goes}

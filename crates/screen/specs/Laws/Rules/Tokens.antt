@@ -13,7 +13,7 @@ use Rattle.tokens.specs.Family.{finish, always, choice, widen, leave, define, as
 use Rattle.tokens.specs.Row.{offset, head, named_head, inside, outside}
 use Rattle.tokens.specs.Table.{ends, lows, highs, doubles, table, is_program, row_of}
 use Rattle.tokens.specs.Code.{code_of, family_in, out_of_place_in, form_in, gives_in, return_takes_in, return_gives_in}
-use Rattle.tokens.specs.Decode.{behind_number, number_of, behind_of, operands, operand_of, formed, is_kind, decode_of}
+use Rattle.tokens.specs.Decode.{behind_number, number_of, behind_of, operands, operand_of, is_kind, decode_of}
 use Rattle.tokens.specs.Place.{misplaced_of, read_of}
 use Rattle.tokens.specs.Laws.Rows.{code_fact}
 use Rattle.tokens.specs.Laws.Tokens.{find_is}

@@ -1,4 +1,4 @@
-use Rattle.std.proofs.Common.{◌-◌, true, le-leb, rules}
+use Rattle.std.proofs.Common.{le-leb, rules}
 use borrow.Author.Tests.{lt-leb}
 use Rattle.state.specs.Whole.{frame_whole, calls_whole}
 use Rattle.state.proofs.Wholes.{one_fails, one_more, none_yet, all_hold}

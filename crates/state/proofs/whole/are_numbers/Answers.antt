@@ -1,4 +1,4 @@
-use Rattle.std.proofs.Common.{◌-◌, true, [], le-leb, rules}
+use Rattle.std.proofs.Common.{[], le-leb, rules}
 use borrow.Author.Tests.{lt-leb}
 use Rattle.state.specs.Numbers.{numbers_on}
 use Rattle.state.specs.Whole.{entry_whole, numbers_whole}

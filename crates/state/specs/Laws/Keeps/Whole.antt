@@ -1,5 +1,5 @@
 -- What refusals 6, 1, 7 and 4 say of a state that they let pass, taken apart into facts and put together again. Assumes nothing.
-use Rattle.std.specs.Prelude.{ℕ, ◌-◌, ◌<◌, ◌≤◌, ◌≡◌, refl, Bool, true, false, not, ◌&&◌, length, get_or, T, ltb, leb, eqb}
+use Rattle.std.specs.Prelude.{ℕ, ◌<◌, ◌≤◌, ◌≡◌, refl, Bool, true, false, not, ◌&&◌, length, get_or, T, ltb, leb, eqb}
 use Rattle.std.proofs.Common.{arith, ◌∙◌, le→leb, lt→ltb, eq-eqb, le-ltb, lt-ltb, le-leb}
 use Rattle.cells.specs.Choice.{pick}
 use Rattle.cells.specs.Laws.Tests.{tests, pick_is}
