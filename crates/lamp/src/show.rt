@@ -14,7 +14,7 @@ use rom::{check_header, wide_start};
 use std::io;
 use tree::{Tree, same_bytes};
 
-// No line of the token list is longer (`line-short`, lines/specs/Laws/Tokens.antt).
+// No line of the token list is longer (`line_short`, lines/specs/Laws/Tokens.antt).
 const LINE_MOST: usize = 1024;
 
 // Behind this a text is printed before it goes on, so that each line has room.

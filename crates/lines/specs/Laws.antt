@@ -17,7 +17,7 @@ pub mod Tally
 -- What the proofs need of a path, part by part, and how long a node's lines can be.
 pub mod Explain
 -- Laws of the token list: the parts of an operand lie in order; the lines show the bytes of the program, every byte once and in order;
--- written one by one they are the list; and none is longer than `lineMost`.
+-- written one by one they are the list; and none is longer than `line_most`.
 pub mod Tokens
 -- The lines, run: digits at their ends, the listing of document 01's scale board, and two token lists.
 pub mod Examples

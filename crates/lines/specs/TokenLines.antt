@@ -178,7 +178,7 @@ unfoldable pub lines_from : ℕ → List ℕ → Bool → ℕ → List ℕ
 lines_from zero fcode wide p = []
 lines_from (suc k) fcode wide p = piece_text fcode wide p ++ lines_from k fcode (wide_behind fcode wide p) (next_of fcode wide p)
 
--- room for any line: none is longer (`line-short`, Laws/Tokens.antt)
+-- room for any line: none is longer (`line_short`, Laws/Tokens.antt)
 abbrev pub line_most : ℕ
 line_most = 1024
 

@@ -56,7 +56,7 @@ list_with verdict after rom marks work store budget text =
     (judged_as verdict after rom work store budget text))
 
 -- What a listing is: one by a verdict, and marks, that the screen's promise allows. It allows one verdict and one content of the marks, and
--- so there is one listing (`one-listing`, Laws/Listing.antt).
+-- so there is one listing (`one_listing`, Laws/Listing.antt).
 abbrev pub Lists : List ℕ → List ℕ → List ℕ → List ℕ → ℕ → List ℕ → Listed → Type 0
 Lists rom marks work store budget text l =
     (verdict : Verdict) × (after : List ℕ) × Promised rom marks verdict after

@@ -11,7 +11,7 @@
 --
 -- It is said of what the contracts of `check_header`, `screen`, `open`, `step`, `run` and of the calls from C promise, and so it holds
 -- of whatever code meets them. `Alike` and `AlikeTo` are in rom/specs/Alike.antt. Every ROM with a good header is alike to what is
--- left of it without the bytes past its length (`cut-alike`, rom/specs/Laws/Past.antt). Assumes nothing.
+-- left of it without the bytes past its length (`cut_alike`, rom/specs/Laws/Past.antt). Assumes nothing.
 use Rattle.std.specs.Prelude.{ℕ, ◌≡◌, List}
 use Rattle.rom.specs.Header.{header_of}
 use Rattle.rom.specs.Alike.{AlikeTo, Alike}

@@ -3,7 +3,7 @@
 -- bytes 8 to length-1, modulo 65,536. .. Tests run in the order 6, 1, 2, 3, 4, 5." No buffer is lent to the header test, so that 6 does not
 -- arise in it. Request (vii) of document 02 adds 0xF2 (start2) and 0xF3 (start4), with 16-bit offsets too, and all bytes here are FCode
 -- bytes: "Refusal 4 compares the bytes needed, which is the last one's place plus one. A ROM too short for its spread header gives 1, after
--- 2." What this asks of the ROM as it is lent, in that order, is a law (`lent-header`, Laws/Lent.antt). Assumes nothing.
+-- 2." What this asks of the ROM as it is lent, in that order, is a law (`lent_header_lem`, Laws/Lent.antt). Assumes nothing.
 use Rattle.std.specs.Prelude.{ℕ, Bool, not, ◌||◌, List, length, ◌==◌, nat_lt}
 use Rattle.cells.specs.Choice.{pick}
 use Rattle.rom.specs.Sizes.{rom_least}

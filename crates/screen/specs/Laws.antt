@@ -10,7 +10,5 @@ pub mod Code
 pub mod Walk
 -- Where the model passes a ROM there is an assignment of heights.
 pub mod Accept
--- Where there is an assignment of heights the model passes the ROM, and its marks are that assignment's.
-pub mod Exact
 -- What the enums of this crate say is what the definitions compute.
 pub mod Numbered

@@ -1,5 +1,5 @@
 -- Lookups and the node table of a state: "Lookups test 6, 7, 29, 30", and of the table "32 rows or refusal 6, unused rows zero; 6, then 7,
--- write none". 7 is here all that damages a state, `damagedOf`; the tree's own calls (tree/specs/Path.antt, tree/specs/Rows.antt) know the
+-- write none". 7 is here all that damages a state, `damaged_of`; the tree's own calls (tree/specs/Path.antt, tree/specs/Rows.antt) know the
 -- tree alone. Assumes nothing.
 use Rattle.std.specs.Prelude.{ℕ, Bool, not, ◌&&◌, List, [], length, eqb}
 use Rattle.cells.specs.Choice.{pick}

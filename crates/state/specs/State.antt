@@ -1,5 +1,5 @@
 -- A state by its fields, and a state with one part of it another. antt has no record update, so a state's fields are listed here and
--- nowhere else: every other state is made through `state_of`, and open calls through `callsOn`. Assumes nothing.
+-- nowhere else: every other state is made through `state_of`, and open calls through `calls_on`. Assumes nothing.
 use Rattle.std.specs.Prelude.{ℕ, ◌-◌, Bool, true, List, get_or, ltb}
 use Rattle.cells.specs.Choice.{pick}
 use Rattle.state.specs.Stacks.{Stacks, stacks}

@@ -1,7 +1,7 @@
 -- Refusal 7, "damaged state: a height, work place, count (nodes: 2 to 32), property length or program number outside its limit, a ROM place
 -- (return and body places too) outside 8..length, a frame's base above the next one's (the last: above the return height), the active or a
 -- record's node absent, node 0 active, a parent not older than its node (the root's is 0), or live property bytes above 16,384". What lies
--- past a count is not judged. The tree's part is `wholeTree`. Beside the active node the first is judged, the one that the program started
+-- past a count is not judged. The tree's part is `whole_tree`. Beside the active node the first is judged, the one that the program started
 -- at and where finish-device is refused: a first node that is absent, or the root, is damage. Assumes nothing.
 use Rattle.std.specs.Prelude.{ℕ, ◌+◌, Bool, true, not, ◌&&◌, get_or, ltb, leb, eqb}
 use Rattle.cells.specs.Choice.{pick}

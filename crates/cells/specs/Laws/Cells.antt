@@ -44,7 +44,7 @@ le_z_lt_z (negsuc a) (negsuc b) = leb_ltb b a
 pub signed_le : (a b : ℕ) → a < 2 ^ 32 → b < 2 ^ 32 → le_z (signed a) (signed b) ≡ nat_le (rank_of a) (rank_of b)
 signed_le a b f g = le_z_lt_z (signed a) (signed b) ∙ ap not (signed_lt b a g f) ∙ sym (leb_ltb (rank_of a) (rank_of b))
 
--- for the reader of `withinOf`: a range that does not run over the end of the cells is as it reads; one that does goes from min
+-- for the reader of `within_of`: a range that does not run over the end of the cells is as it reads; one that does goes from min
 -- up to that end, and from 0 up to max
 pub within_plain : (n min max : ℕ) → n < 2 ^ 32 → max < 2 ^ 32 → min ≤ max → within_of n min max ≡ flag (nat_le min n && nat_lt n max)
 within_plain n min max f g h = ap flag (by (nat_le min n) refl)

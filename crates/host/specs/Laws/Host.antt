@@ -1,7 +1,7 @@
 -- Any two results that `fcode_screen` may hand back and leave are equal: the contract is a relation and no equation. Assumes nothing.
 use Rattle.std.specs.Prelude.{ℕ, ◌≡◌, List}
 use Rattle.std.proofs.Common.{sym, ap, ◌∙◌}
-use Rattle.screen.specs.Laws.Exact.Exactly.{one_result}
+use Rattle.screen.proofs.Exact.Exactly.{one_result}
 use Rattle.host.specs.Host.{HostScreened}
 use Rattle.screen.specs.Promise.{verdict_number}
 

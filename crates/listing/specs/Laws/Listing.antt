@@ -17,7 +17,7 @@ use Rattle.state.specs.declared.answer.Ran.{Ran}
 use Rattle.state.specs.declared.answer.Stepped.{Stepped}
 use Rattle.screen.specs.Laws.Found.Screen.{screened_of}
 use Rattle.screen.specs.Promise.{Promised, passes}
-use Rattle.screen.specs.Laws.Exact.Exactly.{promise_kept, one_result}
+use Rattle.screen.proofs.Exact.Exactly.{promise_kept, one_result}
 use Rattle.screen.specs.declared.screening.Verdict.{Verdict}
 use Rattle.screen.specs.declared.screening.Verdict.TheVariants.{Passes, Refused}
 use Rattle.lines.specs.Lines.{refused_line, run_text}

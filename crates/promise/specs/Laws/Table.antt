@@ -49,7 +49,7 @@ pub record Case : Type 0 where
   pub steps : ℕ
   pub leaves : List ℕ
 
-abbrev case : List ℕ → Verdict → ℕ → Answer → ℕ → List ℕ → Case
+abbrev pub case : List ℕ → Verdict → ℕ → Answer → ℕ → List ℕ → Case
 case rom verdict budget answer steps leaves =
     record { rom = rom; verdict = verdict; budget = budget; answer = answer; steps = steps; leaves = leaves }
 
@@ -92,7 +92,7 @@ ends_so c o =
     && (eqb o.count c.steps && same_bytes (take o.state.stack.height o.state.stack.cells) c.leaves)
 
 -- marks, work memory and store as they are lent
-abbrev lent : ℕ → List ℕ
+abbrev pub lent : ℕ → List ℕ
 lent size = replicate size 0xAA
 
 abbrev pub lent_marks : List ℕ
@@ -103,12 +103,6 @@ lent_work = lent work_size
 
 abbrev pub lent_store : List ℕ
 lent_store = lent store_size
-
-pub work_size_lem : length lent_work ≡ work_size
-work_size_lem = length-replicate {A = ℕ} work_size 0xAA
-
-pub store_size_lem : length lent_store ≡ store_size
-store_size_lem = length-replicate {A = ℕ} store_size 0xAA
 
 -- the screen says of the ROM what the case says
 abbrev pub screens : Case → Bool
@@ -127,43 +121,3 @@ agrees c = screens c && runs c
 abbrev pub every : (Case → Bool) → List Case → Bool
 every f [] = true
 every f (c ∷ cs) = f c && every f cs
-
--- tokens alone are far quicker to compute than a run, which asks everything of its state again before each token
-abbrev tokens_agree : Case → Bool
-tokens_agree c = same_verdict (verdict_on lent_marks (screen_of c.rom)).verdict c.verdict && ends_so c
-    (tokens_from c.budget 0 (opened c.rom))
-
-abbrev OpensAs : List Case → Type 0
-OpensAs [] = Unit {0}
-OpensAs (c ∷ cs) = (header_of c.rom ≡ 0) × OpensAs cs
-
-same_agree : (c : Case) → header_of c.rom ≡ 0 → agrees c ≡ tokens_agree c
-unfolding same_answer judged_of
-same_agree c e =
-    rw (
-      ← screen_judged c.rom lent_marks (length-replicate {A = ℕ} marks_size 0xAA) e,
-      open_good c.rom lent_work lent_store work_size_lem store_size_lem e,
-      run_opened c.budget c.rom e,
-    )
-
-same_every : (cs : List Case) → OpensAs cs → every agrees cs ≡ every tokens_agree cs
-same_every [] o = refl
-same_every (c ∷ cs) o = rw (same_agree c o.0, same_every cs o.1)
-
-all_open : OpensAs cases
-unfolding header_of sum_of
-all_open = (refl, (refl, (refl, (refl, (refl, (refl, (refl, (refl, (refl, tt)))))))))
-
-all_tokens : every tokens_agree cases ≡ true
-unfolding ashift_of sum_of aim_of ends lows highs doubles table row_of code_of behind_of operand_of token_if_whole decode_of misplaced_of
-    read_of
-    same_bytes left_of plain_of refusal_of effects act_of done_of token_turn tokens_from same_answer same_verdict unknown_of effect_of
-    screen_of last_of
-    rounds_of round_of apart_of advance_of define_of colon_of starts_of body_walked body_shifted tallied passes_of shift_of walk_all
-    walk_steps walk_step
-    visited_on puts_of put_visit visit_of token_visit sound_of fits_of sum_at packed_sum unpacked_sum cell_with heights_in mark_in
-    moved_cell
-all_tokens = refl
-
-pub claim : every agrees cases ≡ true
-claim = same_every cases all_open ∙ all_tokens

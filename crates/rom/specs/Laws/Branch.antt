@@ -44,7 +44,7 @@ module _ (rom : List ℕ) (size : ℕ) (wide : Bool) (at : ℕ) where
       some (Inside k) e = ap Inside (sym e)
       some Outside e = absurd (n e)
 
--- for the code's own steps: the place that an offset of `range` values leads to, the upper half of them negative, which is `destinationOf`
+-- for the code's own steps: the place that an offset of `range` values leads to, the upper half of them negative, which is `destination_of`
 -- for either width
 abbrev pub shifted : ℕ → ℕ → ℕ → ℤ
 shifted at range bits = pos at +ℤ pick (nat_lt bits (range / 2)) (pos bits) (negsuc (range - 1 - bits))

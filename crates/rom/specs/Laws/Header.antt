@@ -21,9 +21,12 @@ pub record Header (rom : List ℕ) : Type 0 where
   pub least : 9 ≤ length_of rom
   pub most : length_of rom ≤ length rom
 
-pub header_facts : (rom : List ℕ) → header_of rom ≡ 0 → Header rom
-unfolding header_of
-header_facts rom e =
+-- by the tests in their order, the sum's the last
+pub facts_by : (rom : List ℕ) (sums : ℕ)
+    → pick (wrong_rom rom) 1
+    (pick (not (start_of rom)) 2 (pick (not (format_of rom)) 3 (pick (wrong_length rom (length_of rom)) 4 sums))) ≡ 0
+    → Header rom
+facts_by rom sums e =
     let p = unasked (wrong_rom rom) 1 _ (λ z. omega arith) e in
     let q = unasked (not (start_of rom)) 2 _ (λ z. omega arith) p.1 in
     let r = unasked (not (format_of rom)) 3 _ (λ z. omega arith) q.1 in
@@ -33,6 +36,10 @@ header_facts rom e =
     let f : length rom ≤ fcode_most rom = omega (arith, tests) in
     let m = most_most rom in
     record { rom_from = omega (arith, tests); fits = f; rom_to = omega arith; least = omega (arith, tests); most = omega (arith, tests) }
+
+pub header_facts : (rom : List ℕ) → header_of rom ≡ 0 → Header rom
+unfolding header_of
+header_facts rom e = facts_by rom _ e
 
 -- the ROM as it is lent tells start and first width too
 pub lent_start : (rom : List ℕ) → start_of rom ≡ start_of (fcode_of rom)

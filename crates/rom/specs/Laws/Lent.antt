@@ -56,18 +56,22 @@ in_order false false true true rest f g = refl
 in_order false false true false rest f g = refl
 in_order false false false short rest f g = rw (g refl)
 
--- a start that is not known is not spread
-known_spread : (rom : List ℕ) → start_of rom ≡ false → nat_lt (length (fcode_of rom)) rom_least ≡ nat_lt (length rom) rom_least
-known_spread rom e =
+-- a start that is not known is neither start2 nor start4
+not_spread : (rom : List ℕ) → start_of rom ≡ false → ((byte_of rom 0 == 0xF2) ≡ false) × ((byte_of rom 0 == 0xF3) ≡ false)
+not_spread rom e =
     one (byte_of rom 0 == 0xFD) (byte_of rom 0 == 0xF1) (byte_of rom 0 == 0xF2) (byte_of rom 0 == 0xF3) refl refl e
   where
     one : (a b c d : Bool) → (byte_of rom 0 == 0xF2) ≡ c → (byte_of rom 0 == 0xF3) ≡ d → (a || (b || (c || d))) ≡ false
-        → nat_lt (length (fcode_of rom)) rom_least ≡ nat_lt (length rom) rom_least
+        → ((byte_of rom 0 == 0xF2) ≡ false) × ((byte_of rom 0 == 0xF3) ≡ false)
     one true b c d f g e = absurd (true≢false e)
     one false true c d f g e = absurd (true≢false e)
     one false false true d f g e = absurd (true≢false e)
     one false false false true f g e = absurd (true≢false e)
-    one false false false false f g e = rw (f, g)
+    one false false false false f g e = (f, g)
+
+-- a start that is not known is not spread
+known_spread : (rom : List ℕ) → start_of rom ≡ false → nat_lt (length (fcode_of rom)) rom_least ≡ nat_lt (length rom) rom_least
+known_spread rom e = let (f, g) = not_spread rom e in rw (f, g)
 
 pub lent_header_lem : (rom : List ℕ) → header_of (fcode_of rom) ≡ lent_header rom
 unfolding header_of lent_header
@@ -78,4 +82,4 @@ lent_header_lem rom =
     let l = view_fewer (spread_of rom) rom in
     let s = ltb-true (length rom) rom_least t in
     lt-ltb (length (fcode_of rom)) rom_least (omega arith))
-    (known_spread rom))
+    (λ u. let (f, g) = not_spread rom u in rw (f, g)))

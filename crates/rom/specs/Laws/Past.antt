@@ -13,7 +13,7 @@ use Rattle.rom.specs.Branch.{offset_of, aim_of}
 use Rattle.rom.specs.Sum.{program_of, sum_of}
 use Rattle.rom.specs.Spread.{fcode_most}
 use Rattle.rom.specs.Header.{wide_of, length_of, header_of}
-use Rattle.rom.specs.Laws.Header.{Header, header_facts}
+use Rattle.rom.specs.Laws.Header.{Header, facts_by}
 use Rattle.rom.specs.Alike.{SameBelow, AlikeTo, Alike}
 
 -- the bytes from one place up to another are the same
@@ -97,18 +97,31 @@ alike_below l a =
       within = (omega arith, omega arith);
     }
 
+-- the header's bytes tell the length
+length_told : (rom other : List ℕ) → SameBelow rom_least rom other → length_of rom ≡ length_of other
+length_told rom other h = same_word32 0 rom_least rom other (same_all rom_least rom other h) 4 (omega arith) (omega arith)
+
 module _ {rom other : List ℕ} (a : Alike rom other) where
   pub same_length : length_of rom ≡ length_of other
-  same_length = same_word32 0 rom_least rom other (same_all rom_least rom other a.header) 4 (omega arith) (omega arith)
+  same_length = length_told rom other a.header
 
   pub same_wide : wide_of rom ≡ wide_of other
   same_wide = rw (a.header 0 (omega arith))
 
   pub alike_back : Alike other rom
   alike_back =
+      let p = a.program in
       record {
         header = λ k l. sym (a.header k l);
-        program = subst (λ n. AlikeTo n other rom) same_length (alike_to_back a.program);
+        program =
+            subst (λ n. AlikeTo n other rom) (length_told rom other a.header)
+            (record {
+              same = λ k l. sym (p.same k l);
+              start = sym p.start;
+              least = (p.least.1, p.least.0);
+              most = (p.most.1, p.most.0);
+              within = (p.within.1, p.within.0);
+            });
       }
 
   -- neither is refused with 1, or with 4 for a length above the ROM, and the rest is told by bytes that are the same
@@ -116,7 +129,8 @@ module _ {rom other : List ℕ} (a : Alike rom other) where
   unfolding header_of
   same_header =
       let p = a.program in
-      let n : length_of other ≤ length other = subst (λ n. n ≤ length other) same_length p.within.1 in
+      let e = length_told rom other a.header in
+      let n : length_of other ≤ length other = subst (λ n. n ≤ length other) e p.within.1 in
       rw (
         le-ltb (length rom) rom_least p.least.0,
         le-ltb (fcode_most rom) (length rom) p.most.0,
@@ -125,7 +139,7 @@ module _ {rom other : List ℕ} (a : Alike rom other) where
         le-ltb (fcode_most other) (length other) p.most.1,
         le-ltb (length other) (length_of other) n,
         same_sum 0 (length_of rom) rom other (same_all (length_of rom) rom other p.same) p.within.0 p.within.1 (omega arith),
-        same_length,
+        e,
         a.header 0 (omega arith),
         a.header 1 (omega arith),
         same_word16 0 rom_least rom other (same_all rom_least rom other a.header) 2 (omega arith) (omega arith),
@@ -149,7 +163,8 @@ cut_to size rom h l f =
     below k l = sym (get_or-take size rom k 0 l)
 
 pub cut_alike : (rom : List ℕ) → header_of rom ≡ 0 → Alike rom (take (length_of rom) rom)
+unfolding header_of
 cut_alike rom e =
-    let h : Header rom = header_facts rom e in
+    let h : Header rom = facts_by rom _ e in
     let p = cut_to (length_of rom) rom (omega arith) h.most h.fits in
     record { header = λ k l. p.same k (omega arith); program = p }

@@ -6,7 +6,5 @@ pub mod Reach
 pub mod Tokens
 -- Where a token leads, what it does to heights, and when its number is known: what the list and Effect.antt say, whatever finds heights.
 pub mod Ways
--- What is in force at a place is one thing, by the rules alone: nothing here knows how heights are found.
-pub mod InForce
 -- Of two ROMs that differ past their length alone the same tokens can be reached, and heights of the one are heights of the other.
 pub mod Past

@@ -2,7 +2,7 @@
 -- is, once what is lent has its size. Both come from one law: they answer what the tree's calls do of the tree that a whole state has, and
 -- a damaged one has none. Assumes nothing.
 use Rattle.std.specs.Prelude.{ℕ, Bool, not, ◌&&◌, List, [], ◌≡◌, length}
-use Rattle.std.proofs.Common.{arith, sym, ◌∙◌}
+use Rattle.std.proofs.Common.{ap, arith, sym, ◌∙◌}
 use Rattle.std.proofs.Math.Bool.{true, false}
 use Rattle.std.proofs.Math.Path.{refl}
 use Rattle.std.proofs.Math.Dec.{eqb}
@@ -16,9 +16,10 @@ use Rattle.tree.specs.Path.{find_node_of, find_property_of, property_value_of}
 use Rattle.tree.specs.Rows.{table_refusal, rows_refusal, rows_then}
 use Rattle.tree.specs.Laws.Layout.{either}
 use Rattle.tree.specs.declared.tree.Tree.{Tree}
+use Rattle.tree.specs.declared.lookup.NodeSought.{NodeSought}
 use Rattle.tree.specs.declared.lookup.NodeSought.TheVariants.{Refused}
 use Rattle.tree.specs.declared.lookup.ValueSought.TheVariants.{Refused as Unfound}
-use Rattle.state.specs.Whole.{heights_whole, calls_whole, numbers_whole, nodes_whole, whole_of}
+use Rattle.state.specs.Whole.{heights_whole, calls_whole, numbers_whole, nodes_whole, whole_of, damaged_of}
 use Rattle.state.specs.Lookup.{find_node_in, find_property_in, property_value_in, table_refusal_in, rows_refusal_in}
 use Rattle.state.specs.Joints.Lookup.{tree_or_none}
 use Rattle.state.specs.declared.state.State.{State}
@@ -34,6 +35,14 @@ tree_whole st w =
     let rest = and_second (heights_whole st) (frames && (numbers && (tree && nodes))) w in
     and_first tree nodes (and_second numbers (tree && nodes) (and_second frames (numbers && (tree && nodes)) rest))
 
+-- the tests of a damaged state, in their order, whatever stands behind them
+abbrev tested : State → List ℕ → NodeSought → NodeSought
+tested st store rest = pick (not (eqb (length store) store_size)) (Refused 6) (pick (damaged_of st) (Refused 7) rest)
+
+tested_damaged : (st : State) (store : List ℕ) (rest : NodeSought) → length store ≡ store_size → whole_of st ≡ false
+    → tested st store rest ≡ Refused 7
+tested_damaged st store rest e w = rw (eq-eqb (length store) store_size e, w)
+
 module _ (st : State) (store path : List ℕ) where
   -- of a whole state a lookup answers what the tree's own does
   pub node_whole : whole_of st ≡ true → find_node_in st store path ≡ find_node_of st.tree store path
@@ -43,7 +52,7 @@ module _ (st : State) (store path : List ℕ) where
   -- of a damaged one 7
   pub node_damaged : length store ≡ store_size → whole_of st ≡ false → find_node_in st store path ≡ Refused 7
   unfolding find_node_in
-  node_damaged e w = rw (eq-eqb (length store) store_size e, w)
+  node_damaged e w = tested_damaged st store _ e w
 
   -- and 6 before either
   pub node_sizeless : eqb (length store) store_size ≡ false → find_node_in st store path ≡ Refused 6
@@ -56,16 +65,20 @@ module _ (st : State) (store path : List ℕ) where
     property_whole w = rw (node_whole w, find_property_in)
 
     pub property_damaged : length store ≡ store_size → whole_of st ≡ false → find_property_in st store path name ≡ Unfound 7
-    unfolding find_property_in
-    property_damaged e w = rw (node_damaged e w, find_property_in)
+    unfolding find_node_in find_property_in
+    property_damaged e w =
+        let n : find_node_in st store path ≡ Refused 7 = tested_damaged st store _ e w in
+        rw (n, find_property_in)
 
     pub value_whole : whole_of st ≡ true → property_value_in st store path name ≡ property_value_of st.tree store path name
     unfolding property_value_in property_value_of
     value_whole w = rw (node_whole w, property_value_in)
 
     pub value_damaged : length store ≡ store_size → whole_of st ≡ false → property_value_in st store path name ≡ []
-    unfolding property_value_in
-    value_damaged e w = rw (node_damaged e w, property_value_in)
+    unfolding find_node_in property_value_in
+    value_damaged e w =
+        let n : find_node_in st store path ≡ Refused 7 = tested_damaged st store _ e w in
+        rw (n, property_value_in)
 
 -- the node table, of two columns and of rows
 module _ (st : State) where
@@ -92,33 +105,69 @@ none_node : (store path : List ℕ) → find_node_of no_tree store path ≡ pick
 unfolding find_node_of whole_tree
 none_node store path = refl
 
+tree_shown : (st : State) → whole_of st ≡ true → tree_or_none st ≡ st.tree
+tree_shown st w = rw w
+
+tree_none : (st : State) → whole_of st ≡ false → tree_or_none st ≡ no_tree
+tree_none st w = rw w
+
 module _ (st : State) (store path : List ℕ) where
   -- a damaged state refuses every path
+  tests_refused : whole_of st ≡ false → (sized : Bool) → eqb (length store) store_size ≡ sized → (rest : NodeSought)
+      → (find_node_of no_tree store path ≡ Refused (pick sized 7 6)) × (tested st store rest ≡ Refused (pick sized 7 6))
+  tests_refused w true e rest = (rw (none_node store path, e), rw (e, w))
+  tests_refused w false e rest = (rw (none_node store path, e), rw e)
+
   refused : whole_of st ≡ false → (sized : Bool) → eqb (length store) store_size ≡ sized
       → (find_node_of no_tree store path ≡ Refused (pick sized 7 6)) × (find_node_in st store path ≡ Refused (pick sized 7 6))
   unfolding find_node_in
-  refused w true e = (rw (none_node store path, e), rw (e, w))
-  refused w false e = (rw (none_node store path, e), rw e)
+  refused w sized e = tests_refused w sized e _
 
   pub node_shown : find_node_of (tree_or_none st) store path ≡ find_node_in st store path
+  unfolding find_node_in
   node_shown =
-      either (whole_of st) (λ w. rw w (sym (node_whole st store path w)))
-      (λ w. let r = refused w (eqb (length store) store_size) refl in rw w (r.0 ∙ sym r.1))
+      either (whole_of st) (λ w. ap (λ t. find_node_of t store path) (tree_shown st w) ∙ sym (node_whole st store path w))
+      (λ w.
+      let r = tests_refused w (eqb (length store) store_size) refl _ in
+      ap (λ t. find_node_of t store path) (tree_none st w) ∙ r.0 ∙ sym r.1)
 
   module _ (name : List ℕ) where
     property_none : whole_of st ≡ false → find_property_of no_tree store path name ≡ find_property_in st store path name
-    unfolding find_property_of find_property_in
-    property_none w = let r = refused w (eqb (length store) store_size) refl in rw (r.0, find_property_of, r.1, find_property_in)
+    unfolding find_node_in find_property_of find_property_in
+    property_none w =
+        let r = tests_refused w (eqb (length store) store_size) refl _ in
+        let n : find_node_in st store path ≡ Refused (pick (eqb (length store) store_size) 7 6) = r.1 in
+        rw (r.0, find_property_of, n, find_property_in)
 
     pub property_shown : find_property_of (tree_or_none st) store path name ≡ find_property_in st store path name
-    property_shown = either (whole_of st) (λ w. rw w (sym (property_whole st store path name w))) (λ w. rw w (property_none w))
+    unfolding find_node_in find_property_of find_property_in
+    property_shown =
+        either (whole_of st)
+        (λ w. ap (λ t. find_property_of t store path name) (tree_shown st w) ∙ sym (property_whole st store path name w))
+        (λ w.
+        let r = tests_refused w (eqb (length store) store_size) refl _ in
+        let n : find_node_in st store path ≡ Refused (pick (eqb (length store) store_size) 7 6) = r.1 in
+        let p : find_property_of no_tree store path name ≡ find_property_in st store path name =
+            rw (r.0, find_property_of, n, find_property_in) in
+        ap (λ t. find_property_of t store path name) (tree_none st w) ∙ p)
 
     value_none : whole_of st ≡ false → property_value_of no_tree store path name ≡ property_value_in st store path name
-    unfolding property_value_of property_value_in
-    value_none w = let r = refused w (eqb (length store) store_size) refl in rw (r.0, property_value_of, r.1, property_value_in)
+    unfolding find_node_in property_value_of property_value_in
+    value_none w =
+        let r = tests_refused w (eqb (length store) store_size) refl _ in
+        let n : find_node_in st store path ≡ Refused (pick (eqb (length store) store_size) 7 6) = r.1 in
+        rw (r.0, property_value_of, n, property_value_in)
 
     pub value_shown : property_value_of (tree_or_none st) store path name ≡ property_value_in st store path name
-    value_shown = either (whole_of st) (λ w. rw w (sym (value_whole st store path name w))) (λ w. rw w (value_none w))
+    unfolding find_node_in property_value_of property_value_in
+    value_shown =
+        either (whole_of st) (λ w. ap (λ t. property_value_of t store path name) (tree_shown st w) ∙ sym (value_whole st store path name w))
+        (λ w.
+        let r = tests_refused w (eqb (length store) store_size) refl _ in
+        let n : find_node_in st store path ≡ Refused (pick (eqb (length store) store_size) 7 6) = r.1 in
+        let p : property_value_of no_tree store path name ≡ property_value_in st store path name =
+            rw (r.0, property_value_of, n, property_value_in) in
+        ap (λ t. property_value_of t store path name) (tree_none st w) ∙ p)
 
 module _ (st : State) where
   table_none : (parents counts : List ℕ) → whole_of st ≡ false → table_refusal no_tree parents counts ≡ table_refusal_in st parents counts

@@ -31,7 +31,7 @@ use Rattle.state.specs.declared.state.State.{State}
 use Rattle.state.specs.declared.answer.Answer.{Answer}
 use Rattle.state.specs.declared.answer.Answer.TheVariants.{Going, Finished, Refused, Spent}
 
--- the same of tokens alone, where nothing is asked beforehand: what a run does from an opened state on (`run-opened`)
+-- the same of tokens alone, where nothing is asked beforehand: what a run does from an opened state on (`run_opened`)
 unfoldable pub tokens_from : ℕ → ℕ → Scene → RunResult
 tokens_from zero n s = ended (Spent n) n s
 tokens_from (suc k) n s = run_on (token_turn s).answer n (then s (token_turn s)) (λ to. tokens_from k (n + 1) to)

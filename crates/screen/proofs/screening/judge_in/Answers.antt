@@ -3,7 +3,7 @@ use Rattle.rom.specs.Spread.{fcode_of}
 use Rattle.tokens.specs.Laws.Past.{SamePrograms}
 use Rattle.screen.specs.Laws.Code.Screen.{cleared_short, cleared_same, cleared_walk, judge_passes, judge_refuses}
 use Rattle.screen.specs.Laws.Code.Spread.{program_same}
-use Rattle.screen.specs.Laws.Exact.Exactly.{judged_same}
+use Rattle.screen.proofs.Exact.Exactly.{judged_same}
 use Rattle.screen.proofs.screening.judge_in.Goals as goal
 
 pub lay_spread-requires : goal.lay_spread-requires

@@ -8,7 +8,7 @@ use Rattle.screen.specs.Promise.{Promised}
 use Rattle.screen.specs.Laws.Found.Model.{room_of}
 use Rattle.screen.specs.Laws.Found.Screen.{screened, judged_of}
 use Rattle.screen.specs.Laws.Code.Screen.{Judged, judged_with, screen_size, screen_header, screen_judged}
-use Rattle.screen.specs.Laws.Exact.Exactly.{promise_by}
+use Rattle.screen.proofs.Exact.Exactly.{promise_by}
 use Rattle.screen.specs.declared.screening.Verdict.{Verdict}
 use Rattle.screen.proofs.screening.screen.Goals as goal
 

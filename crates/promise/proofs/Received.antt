@@ -13,7 +13,7 @@ use Rattle.screen.specs.declared.screening.Verdict.TheVariants.{Refused}
 use Rattle.lines.specs.Lines.{refused_line, pass_line, run_text}
 use Rattle.listing.specs.Listing.{wrong_buffer, run_words}
 use Rattle.promise.specs.Shown.{run_here, Shown, wrong_buffer_lem, refused_rom, screen_pass}
-use Rattle.promise.specs.Laws.Shown.{right_buffers, person_sees}
+use Rattle.promise.proofs.Shown.{right_buffers, person_sees}
 use Rattle.promise.specs.Received.{Zero, ThirtyOne, written, StartsWith, Listable, FirstLineIs, FirstLine, Received}
 
 -- the numbers of the header are none of the screen's own

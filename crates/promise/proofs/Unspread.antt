@@ -23,7 +23,7 @@ use Rattle.state.specs.Step.{token_turn}
 use Rattle.state.specs.Laws.Past.{SameRange, Sees, SeesHere, SameRead, SeesAlong, same_range, same_string, same_step, same_run_along}
 use Rattle.state.specs.Laws.Past.{same_open, token_length}
 use Rattle.state.specs.declared.state.State.{State}
-use Rattle.screen.specs.Laws.Exact.Exactly.{one_result}
+use Rattle.screen.proofs.Exact.Exactly.{one_result}
 use Rattle.screen.specs.Laws.Rules.Past.{promised_there}
 use Rattle.promise.specs.Unspread.{
   lies_in_rom,

@@ -24,8 +24,8 @@ use Rattle.screen.specs.Laws.Walk.Boards.{advanced}
 use Rattle.screen.specs.Laws.Walk.Chains.{here, chain_of, first_ready, chain_kept}
 use Rattle.screen.specs.Laws.Accept.Cover.{start}
 use Rattle.screen.specs.Laws.Accept.Accept.{accept}
-use Rattle.screen.specs.Laws.Exact.Exact.{exact}
-use Rattle.screen.specs.Laws.Exact.Agree.{last_is, Reached, only_reached}
+use Rattle.screen.proofs.Exact.Exact.{exact}
+use Rattle.screen.proofs.Exact.Agree.{last_is, Reached, only_reached}
 use Rattle.screen.specs.declared.screening.Verdict.{Verdict}
 use Rattle.screen.specs.declared.screening.Verdict.TheVariants.{Refused}
 use Rattle.screen.specs.Laws.Found.Cell.{cell_with, mark_in, heights, TokenHeights, same_heights, cell_mark, mark_none}

@@ -3,8 +3,8 @@
 -- No way leads around, or twice through, a reachable defining token, CC, 11F or 127 outside bodies: it gets past such a token's place by
 -- falling through, and then carries it out or overlaps it, or by a branch, and then the place is in the branch's span; and back to it by a
 -- branch alone. So one step outside bodies changes which of these tokens lie before the place by no more than the one that it carries out
--- (`step-passes`), every way to a place has carried out all that lie before it, each once and in their order (`reach-passed`), and the
--- same is in force at the end of each (`one-fixed`). What is reachable in a body is a token start of it, with what is in force at its b(:)
+-- (`step_passes`), every way to a place has carried out all that lie before it, each once and in their order (`reach_passed`), and the
+-- same is in force at the end of each (`one_fixed`). What is reachable in a body is a token start of it, with what is in force at its b(:)
 -- (`in_body`). Assumes nothing.
 use Rattle.std.specs.Prelude.{ℕ, suc, ◌≤◌, ◌<◌, min, max, ◌≡◌, refl, Bool, true, false, not, List, T}
 use Rattle.std.proofs.Common.{arith, sym, ◌∙◌, subst, T_not}

@@ -6,17 +6,19 @@ use Rattle.std.proofs.Math.Path.{subst}
 use Rattle.cells.specs.Laws.Facts.{holds, and_first, and_second}
 use Rattle.screen.specs.Laws.Found.Screen.{screened_of}
 use Rattle.screen.specs.Promise.{Promised}
-use Rattle.screen.specs.Laws.Exact.Exactly.{promise_kept}
+use Rattle.screen.proofs.Exact.Exactly.{promise_kept}
 use Rattle.screen.specs.declared.screening.Verdict.{Verdict}
 use Rattle.screen.specs.declared.screening.Verdict.TheVariants.{Passes, Refused as Rejects}
 use Rattle.state.specs.Open.{open_of}
 use Rattle.listing.specs.Listing.{started_of}
 use Rattle.state.specs.declared.answer.Answer.{Answer}
 use Rattle.state.specs.declared.answer.Answer.TheVariants.{Going, Finished, Refused, Spent}
-use Rattle.promise.specs.Laws.Table.{Case, cases, same_answer, same_verdict, ends_so, screens, runs, agrees, every, claim}
-use Rattle.promise.specs.Laws.Table.{lent_marks, lent_work, lent_store, work_size_lem, store_size_lem}
+use Rattle.promise.specs.Laws.Table.{Case, cases, same_answer, same_verdict, ends_so, screens, runs, agrees, every}
+use Rattle.promise.specs.Laws.Table.{lent_marks, lent_work, lent_store}
+use Rattle.promise.proofs.Table.{claim}
+use Rattle.promise.proofs.Table.{work_size_lem, store_size_lem}
 use Rattle.promise.specs.Demand3.{SeenRun}
-use Rattle.promise.specs.Laws.Shown.{seen, seen_ran}
+use Rattle.promise.proofs.Shown.{seen, seen_ran}
 
 -- a case of a list
 pub data AmongRows (c : Case) : List Case → Type 0 where

@@ -22,7 +22,7 @@ use Rattle.screen.specs.Laws.Accept.Roots.{at_reach, body_reach}
 use Rattle.screen.specs.Laws.Accept.Cover.{start, Follows, ready, rooted}
 use Rattle.screen.specs.Laws.Accept.Spots.{outside, out_cell, Inside, inside, body_of}
 use Rattle.screen.specs.Laws.Accept.Cells.{Cells, body_cells, at_entry}
-use Rattle.screen.specs.Laws.Exact.Exact.{at_heights, body_heights, body_sum}
+use Rattle.screen.proofs.Exact.Exact.{at_heights, body_heights, body_sum}
 use Rattle.screen.specs.Laws.Found.Cell.{cell_with, is_met, heights, entry_cell, TokenHeights, same_heights, moved_cell, entered}
 use Rattle.screen.specs.Laws.Found.Cell.{body_most}
 

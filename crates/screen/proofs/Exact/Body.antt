@@ -19,7 +19,7 @@ use Rattle.screen.specs.Laws.Rules.Reach.{ExtendsBy, extends_by, start_within, o
 use Rattle.screen.specs.Rules.{Assignment, Most}
 use Rattle.screen.specs.Laws.Rules.Tokens.{after_same, fixes_outside}
 use Rattle.screen.specs.Laws.Rules.Tokens.{end_is as last_is}
-use Rattle.screen.specs.Laws.Rules.InForce.{one_fixed, start_on}
+use Rattle.screen.proofs.Rules.InForce.{one_fixed, start_on}
 use Rattle.screen.specs.Laws.Rules.Ways.{define_fixes}
 use Rattle.screen.specs.Laws.Walk.Visits.{Meets, visit_fits, fits_visit}
 use Rattle.screen.specs.Laws.Walk.Walking.{At, Fails, Walked}
@@ -31,7 +31,7 @@ use Rattle.screen.specs.Laws.Found.Model.{heights_after}
 use Rattle.screen.specs.Laws.Walk.Rounds.{ran_above, ran, far_of, Ran}
 use Rattle.screen.specs.Laws.Accept.Roots.{way_leads, far_met}
 use Rattle.screen.specs.Laws.Accept.Cover.{leads_way, leads_itself, ready, rooted}
-use Rattle.screen.specs.Laws.Exact.Round.{not_good, limits, Agrees, known_held, effect_same, stay_below}
+use Rattle.screen.proofs.Exact.Round.{not_good, limits, Agrees, known_held, effect_same, stay_below}
 use Rattle.screen.specs.declared.walking.Text.{Text as Scope}
 use Rattle.screen.specs.Laws.Found.Model.{Tally}
 use Rattle.screen.specs.Laws.Found.Cell.{height_in_lem, back_in_lem, is_met_lem, cell_with, height_in, back_in, is_met, heights, entry_cell}

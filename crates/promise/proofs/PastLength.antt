@@ -11,7 +11,7 @@ use Rattle.state.specs.Scene.{Turn}
 use Rattle.state.specs.Open.{open_refusal, open_of}
 use Rattle.state.specs.Run.{RunResult}
 use Rattle.state.specs.Laws.Past.{same_open_refusal, same_open, alike_read, alike_sees, same_step, same_run}
-use Rattle.screen.specs.Laws.Exact.Exactly.{one_result}
+use Rattle.screen.proofs.Exact.Exactly.{one_result}
 use Rattle.screen.specs.Laws.Rules.Past.{heights_there, same_heights, promised_there}
 use Rattle.screen.specs.declared.screening.Verdict.{Verdict}
 use Rattle.screen.specs.declared.screening.Verdict.TheVariants.{Passes, Refused}

@@ -20,7 +20,7 @@ use Rattle.listing.specs.Listing.{wrong_buffer, run_words, judged_as, list_with}
 use Rattle.host.specs.Host.{host_run_of}
 use Rattle.promise.specs.Trail.{Allowed, finished, spent, refused}
 use Rattle.promise.specs.Demand3.{Opened, SeenRun}
-use Rattle.promise.specs.Laws.Demand3.{demand_3, counted, passed}
+use Rattle.promise.proofs.Demand3.{demand_3, counted, passed}
 use Rattle.promise.specs.Shown.{Closing, run_here, ShownIn, PersonSees, HostSees, done, budget_spent, by_data, wrong_buffer_lem}
 use Rattle.promise.specs.Shown.{refused_rom, screen_pass}
 

@@ -19,7 +19,7 @@ use Rattle.screen.specs.Effect.{is_a, fixes, is_colon, names, effect_of, called}
 use Rattle.screen.specs.Reach.{Setting, token_at, Named, Claim, Holds, Reach, Met}
 use Rattle.screen.specs.Laws.Rules.Reach.{extends_ahead}
 use Rattle.screen.specs.Rules.{Assignment, own_frame}
-use Rattle.screen.specs.Laws.Rules.InForce.{fixed_read, fixing, reach_first, next_met, step_of, step_passes}
+use Rattle.screen.proofs.Rules.InForce.{fixed_read, fixing, reach_first, next_met, step_of, step_passes}
 use Rattle.screen.specs.Laws.Rules.Tokens.{after_same, leave_inside, heads}
 use Rattle.screen.specs.Laws.Rules.Ways.{effect_call, effect_own, unknown_call, call_known, assign_known, unnamed_known, GivesOn}
 use Rattle.screen.specs.Laws.Rules.Ways.{gives_leads, define_fixes, colon_fixes}

@@ -17,8 +17,8 @@ use Rattle.state.specs.declared.state.State.{State}
 use Rattle.state.specs.declared.answer.Answer.{Answer}
 use Rattle.state.specs.declared.answer.Answer.TheVariants.{Going, Finished, Refused, Spent}
 use Rattle.promise.specs.Trail.{Allowed, finished, spent, refused, start, RunEnds, finishes, stops, runs_out, OpenCall}
-use Rattle.promise.specs.Laws.Steps.{Fine}
-use Rattle.promise.specs.Laws.Running.{trail_arrived, trail_ends, ends_trail, stands_high, steps_so}
+use Rattle.promise.proofs.Steps.{Fine}
+use Rattle.promise.proofs.Running.{trail_arrived, trail_ends, ends_trail, stands_high, steps_so}
 use Rattle.promise.specs.Demand3.{Exactly, Opened, SeenRun, Demand3, TrailOf, Counted, HeightsByMarks, Came, Resumed, AllowedStep}
 use Rattle.promise.specs.Demand3.{Stepwise, first, again, goes, ends, refuses}
 

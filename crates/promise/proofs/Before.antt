@@ -1,5 +1,5 @@
 -- Which reachable definitions lie wholly before a place: one step outside bodies changes that by no more than the one that it carries out
--- (`leads-moves`), for no way leads around, or twice through, what is met exactly once (InForce.antt). A definition at a place is one token
+-- (`leads_moves`), for no way leads around, or twice through, what is met exactly once (InForce.antt). A definition at a place is one token
 -- and ends at one place, and what is reachable in a body stands in its b(:). All of it is by the rules alone. Assumes nothing.
 use Rattle.std.specs.Prelude.{ℕ, suc, ◌≤◌, ◌<◌, ◌≡◌, refl, Bool, List, ◌≢◌, T}
 use Rattle.std.proofs.Common.{arith, sym, ap, ◌∙◌, subst, T_not}
@@ -10,9 +10,9 @@ use Rattle.screen.specs.Reach.{Setting, leads, Holds, Reach, Met, Starts}
 use Rattle.screen.specs.Laws.Rules.Reach.{ExtendsBy, short, long, extends_by, start_within, one_end, extends_ahead}
 use Rattle.screen.specs.Rules.{Assignment}
 use Rattle.screen.specs.Laws.Rules.Ways.{define_fixes}
-use Rattle.promise.specs.Laws.Standing.{Defined}
-use Rattle.screen.specs.Laws.Rules.InForce.{Fixed, fixed_of, fixed_read, Fixing, fixing, Passes, next_met, step_of, step_passes, one_fixed}
-use Rattle.screen.specs.Laws.Rules.InForce.{InBody, in_body}
+use Rattle.promise.proofs.Standing.{Defined}
+use Rattle.screen.proofs.Rules.InForce.{Fixed, fixed_of, fixed_read, Fixing, fixing, Passes, next_met, step_of, step_passes, one_fixed}
+use Rattle.screen.proofs.Rules.InForce.{InBody, in_body}
 
 -- those that lie wholly before q are those that lie wholly before p, and the one at p itself
 pub record MovesHome (rom : List ℕ) (p q : ℕ) : Type 0 where

@@ -39,8 +39,8 @@ use Rattle.screen.specs.Laws.Walk.Chains.{Steps, here, via, then, climbs}
 use Rattle.screen.specs.Laws.Found.Room.{has_room, clear, zeros}
 use Rattle.screen.specs.Laws.Accept.Roots.{Rooted, extends_start, leads_start, body_reads}
 use Rattle.screen.specs.Laws.Accept.Cover.{start, Follows, ready, rooted}
-use Rattle.screen.specs.Laws.Exact.Round.{not_good, limits, Floor, Agrees, at_here, round_good_lem, round_ran}
-use Rattle.screen.specs.Laws.Exact.Body.{far_token, body_fine, at_inside, body_no_fails, sum_is, tally_passes}
+use Rattle.screen.proofs.Exact.Round.{not_good, limits, Floor, Agrees, at_here, round_good_lem, round_ran}
+use Rattle.screen.proofs.Exact.Body.{far_token, body_fine, at_inside, body_no_fails, sum_is, tally_passes}
 use Rattle.screen.specs.declared.effect.Effect.{Effect}
 use Rattle.screen.specs.Laws.Found.Model.{Tally}
 use Rattle.screen.specs.Laws.Found.Cell.{height_in_lem, back_in_lem, cell_with, height_in, back_in, heights, entry_cell, entered}
