@@ -1,6 +1,6 @@
 #!/bin/sh
-# Builds the static library of crate host_c, links tests/host.c to it, and runs that. The library is for x86-64: on another processor the test
-# is cross-compiled and runs under the kit's emulator.
+# Builds the static library of crate host_c, links tests/host.c to it, and runs that. The library is for x86-64: on another processor the
+# test is cross-compiled and runs under the kit's emulator.
 set -eu
 cd "$(dirname "$0")/.."
 compiler=x86_64-linux-gnu-gcc
