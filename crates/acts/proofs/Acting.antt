@@ -1,11 +1,11 @@
 -- A token that was seen at the place of a state and is not hot: what its family asks for, which token it is, and that there is no other
 -- family. Assumes nothing.
-use Rattle.std.proofs.Common.{◌≡◌, ℕ, ◌+◌, ◌-◌, ◌≤◌, Bool, true, false, not, ◌&&◌, ◌||◌, T, eqb, List, [], ◌∷◌, sym, refl, ap, ◌∙◌, subst, arith, eqb→eq, ltb-true}
-use Rattle.cells.specs.Choice.{find}
+use Rattle.std.proofs.Common.{◌≡◌, ℕ, ◌+◌, ◌-◌, ◌≤◌, Bool, true, false, not, ◌&&◌, ◌||◌, T, eqb, List, [], ◌∷◌, sym, refl, ap, ◌∙◌, subst}
+use Rattle.std.proofs.Common.{arith, eqb→eq, ltb-true}
 use Rattle.cells.specs.Laws.Tests.{find_none, Rest}
 use Rattle.cells.specs.Laws.Facts.{is_true, both_hold, follows}
 use Rattle.rom.specs.Bytes.{byte_of}
-use Rattle.tokens.specs.Row.{everywhere, none, string, number, head, named_head}
+use Rattle.tokens.specs.Row.{everywhere, none, string}
 use Rattle.tokens.specs.Table.{ends, lows, highs, doubles, table, is_program}
 use Rattle.tokens.specs.Family.{text, leave, define, assign, property, titled}
 use Rattle.tokens.specs.Code.{code_of, family_in, out_of_place_in, form_in}

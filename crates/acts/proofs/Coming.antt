@@ -14,7 +14,7 @@ use Rattle.tokens.specs.declared.decoding.Operand.TheVariants.{Nothing}
 use Rattle.tokens.specs.declared.glance.Glance.{Glance}
 use Rattle.tree.specs.declared.in_place.Tail.{Tail}
 use Rattle.tree.specs.Joints.Apart.{Tallied}
-use Rattle.state.specs.Scene.{Turn, scene, turn}
+use Rattle.state.specs.Scene.{scene, turn}
 use Rattle.state.specs.Step.{done_of}
 use Rattle.state.specs.Step.{token_turn as turn_of}
 use Rattle.state.specs.Joints.Apart.{Arrays, joined, answer_of}

@@ -1,6 +1,6 @@
 -- What explain says of a ROM, line by line, for people: the header's fields, the tree with paths and with values as they are read. Header
 -- and program are FCode bytes; a file's size counts the gaps of a spread too. Document 01 leaves the lines open. Assumes nothing.
-use Rattle.std.specs.Prelude.{ℕ, zero, suc, Bool, true, false, not, ◌&&◌, ◌||◌, List, [], ◌∷◌, ◌++◌, length, ltb, leb, eqb}
+use Rattle.std.specs.Prelude.{ℕ, zero, suc, Bool, true, false, not, ◌&&◌, ◌||◌, List, [], ◌++◌, length, ltb, leb, eqb}
 use Rattle.cells.specs.Choice.{pick}
 use Rattle.rom.specs.Words.{letters_of}
 use Rattle.rom.specs.Sizes.{rom_least, rom_most, nodes_most, store_size}

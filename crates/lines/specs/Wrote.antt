@@ -1,7 +1,7 @@
 -- What a call leaves that writes bytes into a text from a place on, and how such calls go one behind the other. What lies past the text's
 -- end is left out, so that such a call asks nothing of its caller, and a line may be written without a word on how long it is. Assumes
 -- nothing.
-use Rattle.std.specs.Prelude.{ℕ, ◌+◌, min, max, List, [], ◌≡◌, length}
+use Rattle.std.specs.Prelude.{ℕ, ◌+◌, min, max, List, ◌≡◌, length}
 use Rattle.memory.specs.Writing.{written_of}
 
 -- the place behind so many bytes from a place on, in a text of a size: the text's end where they pass it, and no step where they begin

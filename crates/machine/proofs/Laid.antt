@@ -1,8 +1,8 @@
 -- The FCode bytes of a spread ROM laid out as far as a run asks for them: the run is the same. Assumes nothing.
-use Prim.Native.Nat.{ℕ, ◌≤◌, ◌<◌, min, max}
+use Prim.Native.Nat.{ℕ, ◌≤◌, min, max}
 use native.Mathlib.Omega.{arith}
 use native.Mathlib.Decide.{dec_le}
-use mathlib.Core.Path.{◌≡◌, refl, sym, ◌∙◌, ap, subst}
+use mathlib.Core.Path.{◌≡◌, refl, sym, ◌∙◌, ap}
 use mathlib.Core.Bool.{Bool, true, false}
 use mathlib.Core.Logic.{◌⊎◌, inl, inr}
 use mathlib.Core.List.{List, ◌++◌}
@@ -11,20 +11,18 @@ use lib.ListN.{length, take, drop, replicate, length-replicate}
 use lib.Seq.{take_at, take_all, length-take-le}
 use borrow.Author.Tests.{ltb-false}
 use Rattle.cells.specs.Laws.Facts.{neither_is}
-use Rattle.rom.specs.Sizes.{rom_least, rom_most}
-use Rattle.rom.specs.Alike.{AlikeTo}
+use Rattle.rom.specs.Sizes.{rom_least}
 use Rattle.rom.specs.Header.{wrong_rom}
 use Rattle.rom.specs.Spread.{view_of, fcode_most, laid_on}
 use Rattle.rom.specs.Laws.Spread.{laid_length, laid_all, half_most}
 use Rattle.rom.specs.Laws.Past.{alike_below, cut_to}
 use Rattle.rom.specs.declared.spread.Spread.{Spread}
-use Rattle.state.specs.Scene.{Scene, scene}
+use Rattle.state.specs.Scene.{scene}
 use Rattle.state.specs.Step.{wrong_sizes, ready_of}
 use Rattle.state.specs.Run.{run_of}
 use Rattle.state.specs.Laws.Keeps.Whole.{not_going}
 use Rattle.state.specs.Laws.Past.{same_run}
 use Rattle.state.specs.declared.state.State.{State}
-use Rattle.state.specs.declared.answer.Answer.{Answer}
 use Rattle.state.specs.declared.answer.Answer.TheVariants.{Refused}
 use Rattle.machine.specs.Joints.Rooms.{large_room, RoomFor, SpreadIs, Laying}
 use Rattle.machine.proofs.Turns.{run_known}
@@ -67,7 +65,8 @@ module _ (spread : Spread) (rom work store room : List ℕ) (st : State) (n : �
 
 -- ---- a ROM of a wrong size is refused as one of no bytes is
 module _ (fcode other work store : List ℕ) (st : State) (w : wrong_rom fcode ≡ true) (v : wrong_rom other ≡ true) (budget : ℕ) where
-  refused_by : (b : Bool) → wrong_sizes work store ≡ b → run_of budget (scene other work store st) ≡ run_of budget (scene fcode work store st)
+  refused_by : (b : Bool) → wrong_sizes work store ≡ b → run_of budget (scene other work store st) ≡ run_of budget
+      (scene fcode work store st)
   unfolding ready_of
   refused_by true e =
       run_known budget 0 (scene other work store st) (Refused 6) (rw e) (not_going 6)

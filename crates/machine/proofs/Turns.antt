@@ -10,8 +10,7 @@ use lib.Dec.{eqb}
 use Rattle.cells.specs.Choice.{pick}
 use Rattle.tree.specs.Whole.{whole_tree}
 use Rattle.tree.specs.Laws.Kept.{whole_is as whole_tree_lem}
-use Rattle.tree.specs.declared.tree.Tree.{Tree}
-use Rattle.state.specs.Scene.{Scene, Turn, scene, turn, handed_back, refuse}
+use Rattle.state.specs.Scene.{Scene, Turn, scene, turn, handed_back}
 use Rattle.state.specs.Step.{ready_of, token_turn, known_turn, step_of}
 use Rattle.state.specs.State.{base_of}
 use Rattle.state.specs.Run.{RunResult, ended, then, run_on, unless, run_from, told_ran}

@@ -12,7 +12,7 @@
 -- asks that the three are called with the same ROM, that opening was not refused, and that the run is lent memory of the sizes that opening
 -- had. How it is proved: Laws/Standing.antt says how the state stands before each token, and Laws/Running.antt that it always does. Assumes
 -- nothing.
-use Rattle.std.specs.Prelude.{ℕ, ◌+◌, ◌≤◌, ◌≡◌, ◌↔◌, List, [], length}
+use Rattle.std.specs.Prelude.{ℕ, ◌+◌, ◌≤◌, ◌≡◌, ◌↔◌, List, length}
 use Rattle.rom.specs.Sizes.{marks_size}
 use Rattle.rom.specs.Header.{header_of}
 use Rattle.screen.specs.Rules.{Assignment}
@@ -31,7 +31,8 @@ use Rattle.promise.specs.Trail.{DependsOnData, Allowed, Trail, RunEnds, HeightIs
 
 -- whatever `screen(rom, marks)` answers for a ROM with a good header and a mark buffer of its size: the contract in screen/src/screening.rt
 abbrev pub Exactly : Type 0
-Exactly = (rom before after : List ℕ) (verdict : Verdict) → length before ≡ marks_size → header_of rom ≡ 0 → Promised rom before verdict after
+Exactly = (rom before after : List ℕ) (verdict : Verdict) → length before ≡ marks_size → header_of rom ≡ 0
+    → Promised rom before verdict after
     → (verdict ≡ Passes) ↔ Assignment rom
 
 -- What a caller saw who screened a ROM and opened it: each call with what its contract says of it.

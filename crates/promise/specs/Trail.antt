@@ -6,7 +6,6 @@ use Rattle.state.specs.Scene.{Scene, scene}
 use Rattle.state.specs.Step.{token_turn}
 use Rattle.state.specs.Run.{RunResult, ended, then}
 use Rattle.state.specs.Open.{fresh_state}
-use Rattle.tokens.specs.Family.{call}
 use Rattle.state.specs.declared.state.State.{State}
 use Rattle.state.specs.declared.answer.Answer.{Answer}
 use Rattle.state.specs.declared.answer.Answer.TheVariants.{Going, Finished, Refused, Spent}

@@ -17,7 +17,7 @@ use Rattle.tokens.specs.Decode.{token_of as token_made}
 use Rattle.tokens.specs.declared.decoding.Operand.{Operand}
 use Rattle.tokens.specs.declared.decoding.Operand.TheVariants.{Branch}
 use Rattle.tokens.specs.Laws.Rows.{plain_codes, plain_coded}
-use Rattle.state.specs.Stacks.{stacks, plain_of, back_trouble, picked_of, rolled_of, doubled_of}
+use Rattle.state.specs.Stacks.{plain_of, back_trouble, picked_of, rolled_of, doubled_of}
 use Rattle.state.specs.State.{stacks_of, moved, moved_to, base_of}
 use Rattle.state.specs.Scene.{Scene, Turn, refuse, goes, cell_of}
 use Rattle.state.specs.Refusals.{refusal_of}

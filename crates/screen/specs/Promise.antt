@@ -1,6 +1,6 @@
 -- The screen's promise: which answer, and which marks, for every ROM and every mark buffer; it passes a ROM exactly where an assignment
 -- exists. Assumes nothing.
-use Rattle.std.specs.Prelude.{ℕ, zero, suc, ◌≡◌, List, ◌≢◌, length, get_or, replicate}
+use Rattle.std.specs.Prelude.{ℕ, suc, ◌≡◌, List, ◌≢◌, length, get_or, replicate}
 use Rattle.rom.specs.Sizes.{marks_size}
 use Rattle.rom.specs.Header.{header_of}
 use Rattle.screen.specs.Reach.{Setting, Reach}

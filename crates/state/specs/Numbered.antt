@@ -2,7 +2,6 @@
 -- Assumes nothing.
 use Rattle.std.specs.Prelude.{[], ◌∷◌}
 use Rattle.cells.specs.Numbered.{Numbered, gives, refuses}
-use Rattle.state.specs.Effects.{values}
 use Rattle.state.specs.declared.answer.Answer.{Answer}
 use Rattle.state.specs.declared.answer.Answer.TheVariants.{Going, Finished, Refused, Spent}
 use Rattle.state.specs.declared.apart.Told.{Told}

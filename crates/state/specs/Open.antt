@@ -1,7 +1,7 @@
 -- Opening: "Tests run in the order 6, 1, 2, 3, 4, 5. Opening then zeroes work memory and store and starts unfinished at place 8 with the
 -- start's offset width, stacks, frames and numbers empty and work place 0; node 0 is the root, node 1 its child and active; both have no
 -- properties. Refused opening writes nothing and hands back an all-zero state." A ROM is its FCode bytes here. Assumes nothing.
-use Rattle.std.specs.Prelude.{ℕ, Bool, true, false, List, length, replicate, eqb}
+use Rattle.std.specs.Prelude.{ℕ, Bool, true, false, List, replicate, eqb}
 use Rattle.cells.specs.Choice.{pick}
 use Rattle.rom.specs.Sizes.{first_place, data_most, return_most, frames_most, numbers_most, work_size, store_size}
 use Rattle.rom.specs.Header.{header_of, length_of, wide_of}

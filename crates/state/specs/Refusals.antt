@@ -1,7 +1,7 @@
 -- Why a token is refused that may stand where it stands: document 01's "Numbers handed back" from 12 on, one condition a number, and the
 -- one order of them: "12, 13, 14, 19, 16, 15, 17, 20, and 21 to 27 by number"; a body is read after its head's own tests. 10, 18 and 11
 -- come before, as the token is read. Assumes nothing.
-use Rattle.std.specs.Prelude.{ℕ, ◌+◌, ◌-◌, ◌*◌, ◌/◌, ◌%◌, ◌^◌, Bool, true, false, not, ◌&&◌, ◌||◌, List, [], ◌∷◌, length, ltb, leb, eqb}
+use Rattle.std.specs.Prelude.{ℕ, ◌+◌, ◌-◌, ◌*◌, ◌/◌, ◌%◌, ◌^◌, Bool, true, false, not, ◌&&◌, ◌||◌, List, [], ◌∷◌, ltb, leb, eqb}
 use Rattle.cells.specs.Choice.{pick, find}
 use Rattle.rom.specs.Sizes.{data_most, frames_most, numbers_most, work_size}
 use Rattle.rom.specs.declared.branch.Aim.{Aim}

@@ -3,7 +3,6 @@ use Rattle.std.proofs.Common.{sym, ◌∙◌, rules}
 use Rattle.host.proofs.Runs.{host_refused, host_ran_lem}
 use Rattle.host.proofs.fcode_run.Goals as goal
 
--- src/lib.rt:45:9
 pub returns-then-why-ne0 : goal.returns-then-why-ne0
 returns-then-why-ne0 c =
     let a = c.args in
@@ -12,7 +11,6 @@ returns-then-why-ne0 c =
     c.number_of-why.ensures
     (search rules)
 
--- src/lib.rt:35:1
 pub returns : goal.returns
 returns c =
     let a = c.args in

@@ -3,7 +3,7 @@ use Prim.Native.Nat.{ℕ, zero, suc, ◌+◌, ◌*◌, ◌-◌, ◌≤◌}
 use Rattle.std.specs.Prelude.{true, not, ◌&&◌, ◌||◌, ◌≡◌, length, drop, eqb, leb}
 use mathlib.Core.List.{List, [], ◌∷◌, ◌++◌}
 use Rattle.std.proofs.Math.Path.{refl}
-use Rattle.std.proofs.Common.{ap, ◌∙◌, length-append, length-take, leb→le, eq-eqb, ne_eqb}
+use Rattle.std.proofs.Common.{◌∙◌, length-append, length-take, leb→le, eq-eqb, ne_eqb}
 use native.Mathlib.Omega.{arith}
 use Rattle.cells.specs.Laws.Facts.{is_true, both_hold, neither, not-not, when_true, when_false}
 use Rattle.cells.specs.Laws.Tests.{when_is, pick_is, neqb→ne}

@@ -5,7 +5,7 @@ use native.Mathlib.Omega.{arith}
 use Rattle.std.proofs.Math.Bool.{true, false}
 use Rattle.cells.specs.Choice.{pick}
 use Rattle.rom.specs.Header.{wide_of}
-use Rattle.tokens.specs.Reader.{Stretch, end_of, piece_of, walk_from, walk_of}
+use Rattle.tokens.specs.Reader.{end_of, piece_of, walk_from}
 use Rattle.tokens.specs.Laws.Reader.{lies_as, past, walk_at, walk_is, walk_holds}
 use Rattle.tokens.specs.declared.decoding.Token.{Token}
 use Rattle.tokens.specs.declared.reader.Piece.TheVariants.{End, Raw, Listed}
@@ -51,7 +51,8 @@ module _ (fcode : List ℕ) where
       (λ w v q s t ss e b f on so l. on (token_more so) l)
       k wide p
     where
-      first : (so : Tally) (q next : ℕ) → LiesIn (end_of fcode) so → q ≤ next → next ≤ end_of fcode → LiesIn (end_of fcode) (raw_more so q next)
+      first : (so : Tally) (q next : ℕ) → LiesIn (end_of fcode) so → q ≤ next → next ≤ end_of fcode
+          → LiesIn (end_of fcode) (raw_more so q next)
       first so q next l a b =
           pick_both (eqb so.raws 0)
         where

@@ -1,6 +1,6 @@
 -- A step, as document 01 numbers it: it says the refusal that is computed for it, or 0, and nothing besides; and so does a token. No token
 -- that is read is refused but for what is computed of it. Assumes nothing.
-use Rattle.std.specs.Prelude.{ℕ, Bool, true, false, List, [], ◌∷◌, ◌≡◌, refl, T, eqb}
+use Rattle.std.specs.Prelude.{ℕ, Bool, true, false, [], ◌∷◌, ◌≡◌, refl, T, eqb}
 use Rattle.std.proofs.Common.{sym, ap, ◌∙◌, eqb-true}
 use Rattle.cells.specs.Choice.{pick}
 use Rattle.cells.specs.Numbered.{gives, refuses}

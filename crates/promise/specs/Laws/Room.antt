@@ -12,7 +12,7 @@ use Rattle.cells.specs.Laws.Facts.{fails}
 use Rattle.tokens.specs.Family.{finish, leave}
 use Rattle.screen.specs.Effect.{is_a, fixes, is_colon, effect_of}
 use Rattle.screen.specs.Laws.Rules.Tokens.{fixes_outside, leave_inside}
-use Rattle.screen.specs.Reach.{Setting, in_body, reads, Holds, Reach, Met, Body}
+use Rattle.screen.specs.Reach.{Setting, in_body, Holds, Reach, Met, Body}
 use Rattle.screen.specs.Laws.Rules.Reach.{ExtendsBy, extends_by}
 use Rattle.screen.specs.Rules.{Assignment}
 use Rattle.screen.specs.Laws.Rules.Ways.{effect_call}

@@ -1,11 +1,11 @@
 -- A spread ROM is judged and run as the same FCode bytes behind start1 are, proved. Assumes nothing.
-use Rattle.std.specs.Prelude.{ℕ, zero, suc, ◌+◌, ◌≤◌, ◌≡◌, Bool, true, ◌||◌, length, eqb}
+use Rattle.std.specs.Prelude.{ℕ, zero, suc, ◌≤◌, ◌≡◌, Bool, true, ◌||◌, length, eqb}
 use Rattle.std.proofs.Common.{arith, sym, ◌∙◌, true≢false, eq-eqb}
 use Rattle.std.proofs.Math.Path.{refl, ap}
 use Rattle.std.proofs.Math.Bool.{false}
 use mathlib.Core.List.{List, []}
 use Rattle.cells.specs.Laws.Facts.{when_true, neither_is, or_is}
-use Rattle.rom.specs.Spread.{spread_of, is_spread, view_of, fcode_of, unspread_of}
+use Rattle.rom.specs.Spread.{spread_of, is_spread, fcode_of, unspread_of}
 use Rattle.rom.specs.Laws.Spread.{same_start}
 use Rattle.rom.specs.Laws.Unspread.{unspread_same, unspread_length, unspread_least, unspread_most}
 use Rattle.tokens.specs.Code.{family_in}
@@ -13,18 +13,16 @@ use Rattle.tokens.specs.Family.{fetch, store as storing, encode_string, property
 use Rattle.tokens.specs.Laws.Past.{SamePrograms}
 use Rattle.tokens.specs.Laws.Unspread.{unspread_tokens, unspread_programs}
 use Rattle.tokens.specs.declared.decoding.Token.{Token}
-use Rattle.memory.specs.Window.{rom_base, range_of, no_part, bad_string, held_by, resolve_of}
+use Rattle.memory.specs.Window.{rom_base, range_of, no_part, held_by, resolve_of}
 use Rattle.memory.specs.Cells.{outside_work}
 use Rattle.memory.specs.declared.window.Window.{Window}
 use Rattle.memory.specs.declared.window.Window.TheVariants.{Rom, Work, Nowhere}
 use Rattle.state.specs.Scene.{Scene, scene, cell_of}
 use Rattle.state.specs.Refusals.{asked, cell_size, bad, bad_text, no_window}
 use Rattle.state.specs.Step.{token_turn}
-use Rattle.state.specs.Run.{then}
 use Rattle.state.specs.Laws.Past.{SameRange, Sees, SeesHere, SameRead, SeesAlong, same_range, same_string, same_step, same_run_along}
 use Rattle.state.specs.Laws.Past.{same_open, token_length}
 use Rattle.state.specs.declared.state.State.{State}
-use Rattle.state.specs.declared.answer.Answer.TheVariants.{Going}
 use Rattle.screen.specs.Laws.Exact.Exactly.{one_result}
 use Rattle.screen.specs.Laws.Rules.Past.{promised_there}
 use Rattle.promise.specs.Unspread.{

@@ -1,5 +1,5 @@
 -- What a good header says of the ROM and of its program length. Assumes nothing.
-use Rattle.std.specs.Prelude.{◌≡◌, ℕ, ◌≤◌, Bool, true, false, not, ◌||◌, T, List, length, ◌≢◌, nat_lt}
+use Rattle.std.specs.Prelude.{◌≡◌, ℕ, ◌≤◌, Bool, true, false, not, T, List, length, ◌≢◌, nat_lt}
 use Rattle.std.proofs.Common.{arith}
 use Rattle.cells.specs.Choice.{pick}
 use Rattle.cells.specs.Laws.Tests.{tests}

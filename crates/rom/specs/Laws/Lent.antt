@@ -1,15 +1,15 @@
 -- The header test as request (vii) of document 02 has it, of the ROM as it is lent: "Refusal 4 compares the bytes needed, which is the last
 -- one's place plus one. A ROM too short for its spread header gives 1, after 2." Gaps count among the ROM's 8 to 65,536 bytes. It is the
 -- header test of the ROM's FCode bytes. Assumes nothing.
-use Rattle.std.specs.Prelude.{◌≡◌, ℕ, ◌+◌, ◌-◌, ◌*◌, ◌<◌, ◌≤◌, Bool, true, false, not, ◌||◌, List, length, ◌==◌, nat_lt, refl}
-use Rattle.std.proofs.Common.{arith, sym, ap, ◌∙◌, true≢false, lt-ltb, le-ltb, ltb-true, ltb-false}
+use Rattle.std.specs.Prelude.{◌≡◌, ℕ, ◌+◌, ◌-◌, ◌*◌, ◌≤◌, Bool, true, false, not, ◌||◌, List, length, ◌==◌, nat_lt, refl}
+use Rattle.std.proofs.Common.{arith, sym, ap, ◌∙◌, true≢false, lt-ltb, le-ltb, ltb-true}
 use Rattle.std.proofs.Math.Decide.{dec_le}
 use Rattle.cells.specs.Choice.{pick}
 use Rattle.rom.specs.Sizes.{rom_least, rom_most}
 use Rattle.rom.specs.Bytes.{byte_of}
-use Rattle.rom.specs.Spread.{distance_of, spread_of, fcode_of, fcode_most}
+use Rattle.rom.specs.Spread.{distance_of, spread_of, fcode_of}
 use Rattle.rom.specs.Sum.{sum_of}
-use Rattle.rom.specs.Header.{start_of, format_of, checksum_of, length_of, wrong_rom, wrong_length, header_of}
+use Rattle.rom.specs.Header.{start_of, format_of, checksum_of, length_of, wrong_length, header_of}
 use Rattle.rom.specs.Laws.Spread.{view_within, view_past, view_fewer, over_told}
 use Rattle.rom.specs.Laws.Header.{lent_start}
 

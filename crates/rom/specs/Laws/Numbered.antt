@@ -1,5 +1,5 @@
 -- What the enums of this crate say is what the definitions compute. Assumes nothing.
-use Rattle.std.specs.Prelude.{◌≡◌, ℕ, Bool, false, ◌&&◌, List, [], ℤ, pos, negsuc, nat_le, nat_lt, refl}
+use Rattle.std.specs.Prelude.{◌≡◌, ℕ, Bool, false, ◌&&◌, List, ℤ, pos, negsuc, nat_le, nat_lt, refl}
 use Rattle.cells.specs.Choice.{pick}
 use Rattle.rom.specs.Sizes.{first_place}
 use Rattle.rom.specs.Branch.{destination_of, landing, aim_of}

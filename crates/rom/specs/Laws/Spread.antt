@@ -1,6 +1,6 @@
 -- "FCode byte k sits at ROM byte k times the spread", and how many FCode bytes a ROM has. Assumes nothing.
 use Rattle.std.specs.Prelude.{◌≡◌, ℕ, zero, suc, ◌+◌, ◌-◌, ◌*◌, ◌/◌, ◌<◌, ◌≤◌, List, [], ◌∷◌, length, take, ◌≢◌, nat_lt, slice_index, refl}
-use Rattle.std.proofs.Common.{arith, lt-ltb, le-ltb, sym, ap, ◌∙◌, subst, ext_get_or, get_or-take, length-take-le}
+use Rattle.std.proofs.Common.{arith, lt-ltb, le-ltb, sym, ap, ◌∙◌, ext_get_or, get_or-take, length-take-le}
 use Rattle.std.proofs.Math.Decide.{dec_le}
 use Rattle.rom.specs.Sizes.{rom_most}
 use Rattle.rom.specs.Bytes.{byte_of}

@@ -1,6 +1,5 @@
 -- What the enums of this crate say is what the definitions compute. Assumes nothing.
-use Rattle.std.specs.Prelude.{ℕ, List, [], ◌≢◌, ◌≡◌, refl, length}
-use Rattle.std.proofs.Math.Option.{none}
+use Rattle.std.specs.Prelude.{ℕ, List, ◌≢◌, ◌≡◌, refl, length}
 use Rattle.rom.specs.Sizes.{marks_size}
 use Rattle.rom.specs.Header.{header_of}
 use Rattle.screen.specs.Rules.{Assignment}

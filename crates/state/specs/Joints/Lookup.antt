@@ -1,5 +1,4 @@
 -- The tree that a lookup of a state goes by. Assumes nothing.
-use Rattle.std.specs.Prelude.{[]}
 use Rattle.cells.specs.Choice.{pick}
 use Rattle.tree.specs.Node.{no_tree}
 use Rattle.tree.specs.declared.tree.Tree.{Tree}

@@ -1,9 +1,9 @@
 -- A token on the stacks alone, refused or carried out, as the code in place goes. Assumes nothing.
-use Rattle.std.specs.Prelude.{ℕ, zero, ◌+◌, ◌-◌, Bool, [], ltb, eqb}
+use Rattle.std.specs.Prelude.{ℕ, ◌+◌, ◌-◌, Bool, ltb, eqb}
 use Rattle.cells.specs.Choice.{pick}
 use Rattle.rom.specs.Sizes.{data_most}
 use Rattle.tokens.specs.Code.{code_of, takes_in, gives_in}
-use Rattle.state.specs.Stacks.{Stacks, stacks, top_of, plain_of, back_trouble, too_deep, picked_of, rolled_of, doubled_of}
+use Rattle.state.specs.Stacks.{Stacks, top_of, plain_of, back_trouble, too_deep, picked_of, rolled_of, doubled_of}
 
 -- refusals 14, 15, "data stack too low; too high"
 abbrev pub too_low : ℕ → ℕ → Bool

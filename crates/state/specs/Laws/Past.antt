@@ -49,7 +49,7 @@ use Rattle.state.specs.Refusals.{
 use Rattle.state.specs.Refusals.{title_of, named_here, value_here, titled_here, misnamed, no_room_for, store_full}
 use Rattle.state.specs.Refusals.{first_of, refusal_of}
 use Rattle.state.specs.Effects.{Effect, onward, calls, fetches, behind_body, with_number, colons, values, variables, defines}
-use Rattle.state.specs.Effects.{encoded_of, encodes_string, keeps_of, effects, nothing, act_of}
+use Rattle.state.specs.Effects.{encoded_of, keeps_of, effects, nothing, act_of}
 use Rattle.state.specs.Step.{wrong_sizes, ready_of, done_of, read_turn, token_turn, known_turn, step_of}
 use Rattle.state.specs.Open.{empty_state, zero_state, fresh_state, open_refusal, open_of}
 use Rattle.state.specs.Run.{RunResult, ended, then, run_on, unless, run_from}

@@ -1,5 +1,5 @@
 -- What the enums of this crate say is what the definitions compute. Assumes nothing.
-use Rattle.std.specs.Prelude.{ℕ, Bool, true, false, List, [], ◌≡◌, refl}
+use Rattle.std.specs.Prelude.{ℕ, Bool, true, false, List, ◌≡◌, refl}
 use Rattle.cells.specs.Choice.{pick}
 use Rattle.tokens.specs.Decode.{decode_of}
 use Rattle.tokens.specs.Place.{misplaced_of, judged, read_of}

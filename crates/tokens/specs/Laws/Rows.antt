@@ -1,5 +1,5 @@
 -- What the token list says of a number whose code is known: each is one test over the whole list, which antt computes. Assumes nothing.
-use Rattle.std.specs.Prelude.{ℕ, ◌≡◌, Bool, true, false, not, ◌&&◌, ◌||◌, List, [], ◌∷◌, length, T, eqb}
+use Rattle.std.specs.Prelude.{ℕ, ◌≡◌, Bool, true, not, ◌&&◌, ◌||◌, List, [], ◌∷◌, length, T, eqb}
 use Rattle.std.proofs.Math.Dec.{eqb_refl, eqb→eq}
 use Rattle.std.proofs.Common.{ne_eqb}
 use Rattle.cells.specs.Choice.{find, among}

@@ -1,5 +1,5 @@
 -- The same FCode bytes behind start1 have the same tokens, at the first byte too: no start is in the token list. Assumes nothing.
-use Rattle.std.specs.Prelude.{ℕ, ◌≤◌, ◌≡◌, refl, Bool, true, false, ◌||◌, List, ltb, eqb}
+use Rattle.std.specs.Prelude.{ℕ, ◌≡◌, refl, Bool, true, false, ◌||◌, List, ltb, eqb}
 use Rattle.std.proofs.Common.{arith, sym, ◌∙◌, subst, true≢false, eqb-true}
 use Rattle.std.proofs.Math.Decide.{dec_le}
 use Rattle.cells.specs.Choice.{pick}

@@ -1,4 +1,4 @@
-use Rattle.std.proofs.Common.{◌≡◌, ℕ, ◌+◌, ◌-◌, refl, ◌∙◌, subst, arith, rules}
+use Rattle.std.proofs.Common.{◌≡◌, ℕ, ◌+◌, refl, ◌∙◌, subst, arith, rules}
 use Rattle.state.specs.Numbers.{numbers_on, kind_at}
 use Rattle.state.specs.Laws.Seeking.{table_none, table_down, kinds_all}
 use Rattle.acts.proofs.tables.fill_tables.Invariants.{Past}

@@ -1,4 +1,4 @@
-use Rattle.std.proofs.Common.{◌+◌, ◌-◌, get_or, drop, rules}
+use Rattle.std.proofs.Common.{◌+◌, get_or, drop, rules}
 use Rattle.lines.specs.Digits.{hex_pair, hex_of}
 use Rattle.lines.specs.Laws.Texts.{hex_more, hex_none}
 use Rattle.lines.specs.Laws.Wrote.{ahead_all, ahead_on, ahead_none}

@@ -11,4 +11,5 @@ returns-then-place-program_end c = rw (← c.program_end.ensures, lt-leb _ _ c.i
 
 pub returns : goal.returns
 unfolding end_line letters_of
-returns c = rw (← c.program_end.ensures, le-leb _ _ c.if-place-program_end.false) (wrote_then c.place_digits-at.ensures (wrote_then c.say-at.ensures c.letter.ensures))
+returns c = rw (← c.program_end.ensures, le-leb _ _ c.if-place-program_end.false)
+    (wrote_then c.place_digits-at.ensures (wrote_then c.say-at.ensures c.letter.ensures))

@@ -4,4 +4,5 @@ use Rattle.lines.proofs.explain.field_lines.Goals as goal
 
 pub returns : goal.returns
 unfolding field_lines
-returns c = wrote_then c.start_line-at.ensures (wrote_then c.format_line-at.ensures (wrote_then c.length_line-at.ensures c.sum_line.ensures))
+returns c = wrote_then c.start_line-at.ensures (wrote_then c.format_line-at.ensures
+    (wrote_then c.length_line-at.ensures c.sum_line.ensures))

@@ -10,8 +10,10 @@ returns-then-size-gt-ROM_MOST c = rw (lt-ltb _ _ c.if-size-gt-ROM_MOST.true) (wr
 
 pub returns-then-fcode-lt-ROM_LEAST : goal.returns-then-fcode-lt-ROM_LEAST
 unfolding header_lines letters_of
-returns-then-fcode-lt-ROM_LEAST c = rw (le-ltb _ _ c.if-size-gt-ROM_MOST.false, lt-ltb _ _ c.if-fcode-lt-ROM_LEAST.true) (wrote_then c.size_line-at.ensures wrote_none)
+returns-then-fcode-lt-ROM_LEAST c = rw (le-ltb _ _ c.if-size-gt-ROM_MOST.false, lt-ltb _ _ c.if-fcode-lt-ROM_LEAST.true)
+    (wrote_then c.size_line-at.ensures wrote_none)
 
 pub returns : goal.returns
 unfolding header_lines letters_of
-returns c = rw (le-ltb _ _ c.if-size-gt-ROM_MOST.false, le-ltb _ _ c.if-fcode-lt-ROM_LEAST.false) (wrote_then c.size_line-at.ensures c.field_lines.ensures)
+returns c = rw (le-ltb _ _ c.if-size-gt-ROM_MOST.false, le-ltb _ _ c.if-fcode-lt-ROM_LEAST.false)
+    (wrote_then c.size_line-at.ensures c.field_lines.ensures)

@@ -12,12 +12,25 @@ returns-then-byte-eq241 c = rw (ne_eqb _ _ c.if-byte-eq253.false, eq-eqb _ _ c.i
 
 pub returns-then-byte-eq242 : goal.returns-then-byte-eq242
 unfolding letters_of
-returns-then-byte-eq242 c = rw (ne_eqb _ _ c.if-byte-eq253.false, ne_eqb _ _ c.if-byte-eq241.false, eq-eqb _ _ c.if-byte-eq242.true) c.say-then-byte-eq242.ensures
+returns-then-byte-eq242 c = rw (ne_eqb _ _ c.if-byte-eq253.false, ne_eqb _ _ c.if-byte-eq241.false, eq-eqb _ _ c.if-byte-eq242.true)
+    c.say-then-byte-eq242.ensures
 
 pub returns-then-byte-eq243 : goal.returns-then-byte-eq243
 unfolding letters_of
-returns-then-byte-eq243 c = rw (ne_eqb _ _ c.if-byte-eq253.false, ne_eqb _ _ c.if-byte-eq241.false, ne_eqb _ _ c.if-byte-eq242.false, eq-eqb _ _ c.if-byte-eq243.true) c.say-then-byte-eq243.ensures
+returns-then-byte-eq243 c = rw (
+  ne_eqb _ _ c.if-byte-eq253.false,
+  ne_eqb _ _ c.if-byte-eq241.false,
+  ne_eqb _ _ c.if-byte-eq242.false,
+  eq-eqb
+      _ _ c.if-byte-eq243.true,
+) c.say-then-byte-eq243.ensures
 
 pub returns : goal.returns
 unfolding letters_of
-returns c = rw (ne_eqb _ _ c.if-byte-eq253.false, ne_eqb _ _ c.if-byte-eq241.false, ne_eqb _ _ c.if-byte-eq242.false, ne_eqb _ _ c.if-byte-eq243.false) c.say-2.ensures
+returns c = rw (
+  ne_eqb _ _ c.if-byte-eq253.false,
+  ne_eqb _ _ c.if-byte-eq241.false,
+  ne_eqb _ _ c.if-byte-eq242.false,
+  ne_eqb _ _
+      c.if-byte-eq243.false,
+) c.say-2.ensures

@@ -6,7 +6,8 @@ use Rattle.lines.proofs.explain.tally_lines.Goals as goal
 
 pub returns-then-tally-eq0 : goal.returns-then-tally-eq0
 unfolding tally_lines letters_of
-returns-then-tally-eq0 c = rw (eq-eqb _ _ c.if-tally-eq0.true) (wrote_then c.say-at.ensures (wrote_then c.decimal-at.ensures (wrote_then c.say-at-then-tally-eq0.ensures c.letter.ensures)))
+returns-then-tally-eq0 c = rw (eq-eqb _ _ c.if-tally-eq0.true)
+    (wrote_then c.say-at.ensures (wrote_then c.decimal-at.ensures (wrote_then c.say-at-then-tally-eq0.ensures c.letter.ensures)))
 
 pub outside_lines-requires : goal.outside_lines-requires
 unfolding tally_lines letters_of

@@ -1,4 +1,4 @@
-use Rattle.std.proofs.Common.{◌+◌, ◌-◌, [], ◌∷◌, get_or, drop, rules}
+use Rattle.std.proofs.Common.{◌+◌, [], ◌∷◌, get_or, drop, rules}
 use Rattle.lines.specs.Laws.Fields.{each_more, each_none}
 use Rattle.lines.specs.Fields.{plain_field, plain_byte}
 use Rattle.lines.specs.Laws.Wrote.{ahead_all, ahead_on, ahead_none}

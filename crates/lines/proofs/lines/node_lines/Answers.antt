@@ -18,8 +18,16 @@ own_lines-end-requires c = (search rules, search rules)
 
 pub loop-k-preserved : goal.loop-k-preserved
 loop-k-preserved c =
-    let ahead : let a = c.args in let t = a.tree in let ps = held_of t a.store.now in Ahead a.text.now a.at (node_lines t ps t.nodes 0) c.loop-k.text c.loop-k.end (node_line c.loop-k.k (parent_of t c.loop-k.k) ++ (own_lines false ps c.loop-k.k ++ node_lines t ps (t.nodes - (c.loop-k.k + 1)) (c.loop-k.k + 1))) = let a = c.args in let t = a.tree in rw (nodes_more t (held_of t a.store.now) (t.nodes - c.loop-k.k) c.loop-k.k t.nodes (search rules) refl) at c.loop-k.invariant.1 in
-    let own_ahead : let a = c.args in let t = a.tree in let ps = held_of t a.store.now in Ahead a.text.now a.at (node_lines t ps t.nodes 0) c.node_line-own.new.text c.node_line-own.result (own_lines false ps c.loop-k.k ++ node_lines t ps (t.nodes - (c.loop-k.k + 1)) (c.loop-k.k + 1)) = let k = c.loop-k.k in let a = c.args in let t = a.tree in let ps = held_of t a.store.now in ahead_on (node_line k (parent_of t k)) (own_lines false ps k ++ node_lines t ps (t.nodes - (k + 1)) (k + 1)) (ahead) c.node_line-own.ensures in
+    let ahead : let a = c.args in let t = a.tree in let ps = held_of t a.store.now in Ahead a.text.now a.at (node_lines t ps t.nodes 0)
+    c.loop-k.text c.loop-k.end (node_line c.loop-k.k (parent_of t c.loop-k.k) ++
+    (own_lines false ps c.loop-k.k ++ node_lines t ps (t.nodes - (c.loop-k.k + 1)) (c.loop-k.k + 1))) = let a = c.args in let t = a.tree
+    in rw (nodes_more t (held_of t a.store.now) (t.nodes - c.loop-k.k) c.loop-k.k t.nodes (search rules) refl) at c.loop-k.invariant.1
+    in
+    let own_ahead : let a = c.args in let t = a.tree in let ps = held_of t a.store.now in Ahead a.text.now a.at (node_lines t ps t.nodes 0)
+    c.node_line-own.new.text c.node_line-own.result (own_lines false ps c.loop-k.k ++ node_lines t ps (t.nodes - (c.loop-k.k + 1))
+    (c.loop-k.k + 1)) = let k = c.loop-k.k in let a = c.args in let t = a.tree in let ps = held_of t a.store.now in ahead_on
+    (node_line k (parent_of t k)) (own_lines false ps k ++ node_lines t ps (t.nodes - (k + 1)) (k + 1)) (ahead) c.node_line-own.ensures
+    in
     let k = c.loop-k.k in
     let a = c.args in
     let t = a.tree in

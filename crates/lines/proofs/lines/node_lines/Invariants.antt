@@ -7,7 +7,8 @@ use Rattle.lines.proofs.lines.node_lines.Given as goal
 abbrev pub invariant-loop-k : goal.invariant-loop-k
 invariant-loop-k l =
     (l.k ≤ l.tree.nodes)
-    × Ahead l.initial.text l.at (node_lines l.tree (held_of l.tree l.store) l.tree.nodes 0) l.text l.end (node_lines l.tree (held_of l.tree l.store) (l.tree.nodes - l.k) l.k)
+    × Ahead l.initial.text l.at (node_lines l.tree (held_of l.tree l.store) l.tree.nodes 0) l.text l.end
+    (node_lines l.tree (held_of l.tree l.store) (l.tree.nodes - l.k) l.k)
 
 abbrev pub decreases-loop-k : goal.decreases-loop-k
 decreases-loop-k l = l.tree.nodes - l.k

@@ -14,27 +14,37 @@ loop-i-init c =
 
 pub overflow_add-value : goal.overflow_add-value
 overflow_add-value c =
-    let within : let a = c.args in c.loop-i.name + name_size a.tree c.loop-i.i + value_size a.tree c.loop-i.i + live_from a.tree (a.tree.held - (c.loop-i.i + 1)) (c.loop-i.i + 1) ≡ live_of a.tree = let a = c.args in let e = live_more a.tree.name_sizes a.tree.value_sizes (a.tree.held - c.loop-i.i) c.loop-i.i a.tree.held (search rules) refl in omega arith in
+    let within : let a = c.args in c.loop-i.name + name_size a.tree c.loop-i.i + value_size a.tree c.loop-i.i + live_from a.tree
+    (a.tree.held - (c.loop-i.i + 1)) (c.loop-i.i + 1) ≡ live_of a.tree = let a = c.args in let e = live_more a.tree.name_sizes
+    a.tree.value_sizes (a.tree.held - c.loop-i.i) c.loop-i.i a.tree.held (search rules) refl in omega arith in
     let w = within in search rules
 
 pub overflow_add-next : goal.overflow_add-next
 overflow_add-next c =
-    let within : let a = c.args in c.loop-i.name + name_size a.tree c.loop-i.i + value_size a.tree c.loop-i.i + live_from a.tree (a.tree.held - (c.loop-i.i + 1)) (c.loop-i.i + 1) ≡ live_of a.tree = let a = c.args in let e = live_more a.tree.name_sizes a.tree.value_sizes (a.tree.held - c.loop-i.i) c.loop-i.i a.tree.held (search rules) refl in omega arith in
+    let within : let a = c.args in c.loop-i.name + name_size a.tree c.loop-i.i + value_size a.tree c.loop-i.i + live_from a.tree
+    (a.tree.held - (c.loop-i.i + 1)) (c.loop-i.i + 1) ≡ live_of a.tree = let a = c.args in let e = live_more a.tree.name_sizes
+    a.tree.value_sizes (a.tree.held - c.loop-i.i) c.loop-i.i a.tree.held (search rules) refl in omega arith in
     let w = within in search rules
 
 pub slice_bounds-own_line-end : goal.slice_bounds-own_line-end
 slice_bounds-own_line-end c =
-    let within : let a = c.args in c.loop-i.name + name_size a.tree c.loop-i.i + value_size a.tree c.loop-i.i + live_from a.tree (a.tree.held - (c.loop-i.i + 1)) (c.loop-i.i + 1) ≡ live_of a.tree = let a = c.args in let e = live_more a.tree.name_sizes a.tree.value_sizes (a.tree.held - c.loop-i.i) c.loop-i.i a.tree.held (search rules) refl in omega arith in
+    let within : let a = c.args in c.loop-i.name + name_size a.tree c.loop-i.i + value_size a.tree c.loop-i.i + live_from a.tree
+    (a.tree.held - (c.loop-i.i + 1)) (c.loop-i.i + 1) ≡ live_of a.tree = let a = c.args in let e = live_more a.tree.name_sizes
+    a.tree.value_sizes (a.tree.held - c.loop-i.i) c.loop-i.i a.tree.held (search rules) refl in omega arith in
     let w = within in search rules
 
 pub slice_bounds-own_line-end-in-loop-i : goal.slice_bounds-own_line-end-in-loop-i
 slice_bounds-own_line-end-in-loop-i c =
-    let within : let a = c.args in c.loop-i.name + name_size a.tree c.loop-i.i + value_size a.tree c.loop-i.i + live_from a.tree (a.tree.held - (c.loop-i.i + 1)) (c.loop-i.i + 1) ≡ live_of a.tree = let a = c.args in let e = live_more a.tree.name_sizes a.tree.value_sizes (a.tree.held - c.loop-i.i) c.loop-i.i a.tree.held (search rules) refl in omega arith in
+    let within : let a = c.args in c.loop-i.name + name_size a.tree c.loop-i.i + value_size a.tree c.loop-i.i + live_from a.tree
+    (a.tree.held - (c.loop-i.i + 1)) (c.loop-i.i + 1) ≡ live_of a.tree = let a = c.args in let e = live_more a.tree.name_sizes
+    a.tree.value_sizes (a.tree.held - c.loop-i.i) c.loop-i.i a.tree.held (search rules) refl in omega arith in
     let w = within in search rules
 
 pub loop-i-preserved : goal.loop-i-preserved
 loop-i-preserved c =
-    let within : let a = c.args in c.loop-i.name + name_size a.tree c.loop-i.i + value_size a.tree c.loop-i.i + live_from a.tree (a.tree.held - (c.loop-i.i + 1)) (c.loop-i.i + 1) ≡ live_of a.tree = let a = c.args in let e = live_more a.tree.name_sizes a.tree.value_sizes (a.tree.held - c.loop-i.i) c.loop-i.i a.tree.held (search rules) refl in omega arith in
+    let within : let a = c.args in c.loop-i.name + name_size a.tree c.loop-i.i + value_size a.tree c.loop-i.i + live_from a.tree
+    (a.tree.held - (c.loop-i.i + 1)) (c.loop-i.i + 1) ≡ live_of a.tree = let a = c.args in let e = live_more a.tree.name_sizes
+    a.tree.value_sizes (a.tree.held - c.loop-i.i) c.loop-i.i a.tree.held (search rules) refl in omega arith in
     let a = c.args in
     let s = a.store.now in
     let n = name_size a.tree c.loop-i.i in

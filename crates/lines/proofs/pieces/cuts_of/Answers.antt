@@ -14,4 +14,9 @@ pub returns-in_default : goal.returns-in_default
 returns-in_default c =
     let args = c.args in
     let f = args.form in
-    rw (ne_eqb f 2 c.in_default.in_default-own.rest.0.0.1, ne_eqb f 5 c.in_default.in_default-own.rest.0.1, ne_eqb f 6 c.in_default.in_default-own.rest.1)
+    rw (
+      ne_eqb f 2 c.in_default.in_default-own.rest.0.0.1,
+      ne_eqb f 5 c.in_default.in_default-own.rest.0.1,
+      ne_eqb f 6
+          c.in_default.in_default-own.rest.1,
+    )

@@ -9,4 +9,5 @@ pub returns-in_default : goal.returns-in_default
 returns-in_default c =
     let args = c.args in
     let f = args.form in
-    rw (ne_eqb f 2 (λ e. c.in_default.in_default-own.rest.1 (inl e)), ne_eqb f 6 (λ e. c.in_default.in_default-own.rest.1 (inr e))) wrote_none
+    rw (ne_eqb f 2 (λ e. c.in_default.in_default-own.rest.1 (inl e)), ne_eqb f 6 (λ e. c.in_default.in_default-own.rest.1 (inr e)))
+    wrote_none

@@ -11,4 +11,5 @@ returns-then-not-all_printed c = rw (sym c.all_printed.ensures ∙ not_off _ c.i
 
 pub returns : goal.returns
 unfolding quoted letters_of
-returns c = rw (sym c.all_printed.ensures ∙ not_on _ c.if-not-all_printed.false-raw) (wrote_then c.say-at.ensures (wrote_then c.say-at-2.ensures c.letter.ensures))
+returns c = rw (sym c.all_printed.ensures ∙ not_on _ c.if-not-all_printed.false-raw)
+    (wrote_then c.say-at.ensures (wrote_then c.say-at-2.ensures c.letter.ensures))

@@ -1,4 +1,4 @@
-use Rattle.std.proofs.Common.{◌+◌, ◌-◌, [], ◌∷◌, get_or, drop, rules}
+use Rattle.std.proofs.Common.{◌+◌, [], ◌∷◌, get_or, drop, rules}
 use Rattle.lines.specs.Laws.Texts.{drop_more, drop_none}
 use Rattle.lines.specs.Laws.Wrote.{ahead_all, ahead_on, ahead_none}
 use Rattle.lines.proofs.words.say.Goals as goal
@@ -11,7 +11,8 @@ loop-k-preserved c =
     let args = c.args in
     let words = args.words.now in (
       search rules,
-      ahead_on (get_or words c.loop-k.k 0 ∷ []) (drop (c.loop-k.k + 1) words) (rw (drop_more words c.loop-k.k (search rules)) at c.loop-k.invariant.1)
+      ahead_on (get_or words c.loop-k.k 0 ∷ []) (drop (c.loop-k.k + 1) words)
+          (rw (drop_more words c.loop-k.k (search rules)) at c.loop-k.invariant.1)
           c.letter-end.ensures,
     )
 

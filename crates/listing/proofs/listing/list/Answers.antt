@@ -1,5 +1,6 @@
 use Rattle.rom.specs.Spread.{fcode_of}
-use Rattle.listing.specs.Laws.Listing.{wrong_text_lem, wrong_buffer_lem, wrong_marks, wrong_work, wrong_store, refused, passed, judged_as_lem, passed_header, and_inside}
+use Rattle.listing.specs.Laws.Listing.{wrong_text_lem, wrong_buffer_lem, wrong_marks, wrong_work, wrong_store, refused, passed}
+use Rattle.listing.specs.Laws.Listing.{judged_as_lem, passed_header, and_inside}
 use Rattle.listing.proofs.listing.list.Goals as goal
 
 pub returns-then-text-ne-TEXT_SIZE : goal.returns-then-text-ne-TEXT_SIZE
@@ -25,7 +26,8 @@ returns-then-work-ne-WORK_SIZE c =
     let told =
     and_inside (fcode_of a.rom.now) a.marks.now a.work.now a.store.now a.budget a.text.now
     (wrong_buffer_lem (fcode_of a.rom.now) a.marks.now a.work.now a.store.now a.budget a.text.now c.if-text-ne-TEXT_SIZE.false
-    (wrong_work a.marks.now a.work.now a.store.now c.if-marks-ne-MARKS_SIZE.false c.if-work-ne-WORK_SIZE.true) _ _ c.refused_text-then-work-ne-WORK_SIZE.ensures) in
+    (wrong_work a.marks.now a.work.now a.store.now c.if-marks-ne-MARKS_SIZE.false c.if-work-ne-WORK_SIZE.true) _ _
+    c.refused_text-then-work-ne-WORK_SIZE.ensures) in
     record { lists = told.0; upper_bound = told.1 }
 
 pub returns-then-store-ne-STORE_SIZE : goal.returns-then-store-ne-STORE_SIZE
@@ -34,7 +36,8 @@ returns-then-store-ne-STORE_SIZE c =
     let told =
     and_inside (fcode_of a.rom.now) a.marks.now a.work.now a.store.now a.budget a.text.now
     (wrong_buffer_lem (fcode_of a.rom.now) a.marks.now a.work.now a.store.now a.budget a.text.now c.if-text-ne-TEXT_SIZE.false
-    (wrong_store a.marks.now a.work.now a.store.now c.if-marks-ne-MARKS_SIZE.false c.if-work-ne-WORK_SIZE.false c.if-store-ne-STORE_SIZE.true) _ _ c.refused_text-then-store-ne-STORE_SIZE.ensures) in
+    (wrong_store a.marks.now a.work.now a.store.now c.if-marks-ne-MARKS_SIZE.false c.if-work-ne-WORK_SIZE.false
+    c.if-store-ne-STORE_SIZE.true) _ _ c.refused_text-then-store-ne-STORE_SIZE.ensures) in
     record { lists = told.0; upper_bound = told.1 }
 
 pub list_run-requires : goal.list_run-requires
@@ -52,7 +55,8 @@ returns-in-Passes c =
     let p = judged_as_lem (fcode_of a.rom.now) a.marks.now _ c.screen.ensures c.in-Passes.is in
     let told =
     and_inside (fcode_of a.rom.now) a.marks.now a.work.now a.store.now a.budget a.text.now
-    (passed (fcode_of a.rom.now) a.marks.now a.work.now a.store.now a.budget a.text.now c.if-text-ne-TEXT_SIZE.false c.if-marks-ne-MARKS_SIZE.false
+    (passed (fcode_of a.rom.now) a.marks.now a.work.now a.store.now a.budget a.text.now c.if-text-ne-TEXT_SIZE.false
+    c.if-marks-ne-MARKS_SIZE.false
     c.if-work-ne-WORK_SIZE.false c.if-store-ne-STORE_SIZE.false _ p _ _ _ _ c.list_run.ensures) in
     record { lists = told.0; upper_bound = told.1 }
 
@@ -62,6 +66,7 @@ returns-in-Refused c =
     let p = judged_as_lem (fcode_of a.rom.now) a.marks.now _ c.screen.ensures c.in-Refused.is in
     let told =
     and_inside (fcode_of a.rom.now) a.marks.now a.work.now a.store.now a.budget a.text.now
-    (refused (fcode_of a.rom.now) a.marks.now a.work.now a.store.now a.budget a.text.now c.if-text-ne-TEXT_SIZE.false c.if-marks-ne-MARKS_SIZE.false
+    (refused (fcode_of a.rom.now) a.marks.now a.work.now a.store.now a.budget a.text.now c.if-text-ne-TEXT_SIZE.false
+    c.if-marks-ne-MARKS_SIZE.false
     c.if-work-ne-WORK_SIZE.false c.if-store-ne-STORE_SIZE.false _ _ p _ _ c.refused_text-in-Refused.ensures) in
     record { lists = told.0; upper_bound = told.1 }

@@ -1,5 +1,6 @@
-use Rattle.std.proofs.Common.{◌-◌, rules, refl, ap, ◌∙◌, arith}
-use Rattle.machine.proofs.Turns.{fit, hot_fit, hot_goes, hot_left, hot_refused, turned_to, tree_whole, begun, came, ends_spent, turn_ends, turn_rooted, turn_goes}
+use Rattle.std.proofs.Common.{rules, refl, ap, ◌∙◌, arith}
+use Rattle.machine.proofs.Turns.{fit, hot_fit, hot_goes, hot_left, hot_refused, turned_to, tree_whole, begun, came, ends_spent, turn_ends}
+use Rattle.machine.proofs.Turns.{turn_rooted, turn_goes}
 use Rattle.state.specs.Joints.Apart.{arrays, joined, answer_of}
 use Rattle.state.specs.Laws.Keeps.Whole.{ready_facts}
 use Rattle.state.specs.Scene.{scene}
@@ -70,7 +71,8 @@ pub fast-t-requires : goal.fast-t-requires
 fast-t-requires c =
     let x = c.args in
     hot_fit (scene x.rom.now c.loop-n.work c.loop-n.store
-    (joined (arrays c.loop-n.cells c.loop-n.back c.loop-n.places c.loop-n.wides c.loop-n.bases c.loop-n.names c.loop-n.kinds c.loop-n.values c.loop-n.ways c.loop-n.parents
+    (joined (arrays c.loop-n.cells c.loop-n.back c.loop-n.places c.loop-n.wides c.loop-n.bases c.loop-n.names c.loop-n.kinds c.loop-n.values
+    c.loop-n.ways c.loop-n.parents
     c.loop-n.owners c.loop-n.titles c.loop-n.sizes) c.loop-n.core)) c.loop-n.invariant.1.0
 
 pub overflow_add-n : goal.overflow_add-n
@@ -87,8 +89,10 @@ loop-n-preserved-in-On c =
       (omega arith, c.loop-n.invariant.0.1, c.loop-n.invariant.0.2),
       (let x = c.args in
           hot_goes x.budget c.loop-n.n _ (scene x.rom.now c.loop-n.work c.loop-n.store
-          (joined (arrays c.loop-n.cells c.loop-n.back c.loop-n.places c.loop-n.wides c.loop-n.bases c.loop-n.names c.loop-n.kinds c.loop-n.values c.loop-n.ways c.loop-n.parents
-          c.loop-n.owners c.loop-n.titles c.loop-n.sizes) c.loop-n.core)) c.loop-n.invariant.1 c.loop-n-test.true c.fast-t.result _ _ c.fast-t.ensures
+          (joined (arrays c.loop-n.cells c.loop-n.back c.loop-n.places c.loop-n.wides c.loop-n.bases c.loop-n.names c.loop-n.kinds
+          c.loop-n.values c.loop-n.ways c.loop-n.parents
+          c.loop-n.owners c.loop-n.titles c.loop-n.sizes) c.loop-n.core)) c.loop-n.invariant.1 c.loop-n-test.true c.fast-t.result _ _
+          c.fast-t.ensures
           c.in-On.is),
       c.loop-n.invariant.2,
     )
@@ -104,14 +108,17 @@ returns-in-Not c =
     let x = c.args in
     rw c.halted.ensures (hot_refused x.budget c.loop-n.n _
     (scene x.rom.now c.loop-n.work c.loop-n.store
-    (joined (arrays c.loop-n.cells c.loop-n.back c.loop-n.places c.loop-n.wides c.loop-n.bases c.loop-n.names c.loop-n.kinds c.loop-n.values c.loop-n.ways c.loop-n.parents
-    c.loop-n.owners c.loop-n.titles c.loop-n.sizes) c.loop-n.core)) c.loop-n.invariant.1 c.loop-n-test.true c.fast-t.result _ _ c.fast-t.ensures _ c.in-Not.is)
+    (joined (arrays c.loop-n.cells c.loop-n.back c.loop-n.places c.loop-n.wides c.loop-n.bases c.loop-n.names c.loop-n.kinds c.loop-n.values
+    c.loop-n.ways c.loop-n.parents
+    c.loop-n.owners c.loop-n.titles c.loop-n.sizes) c.loop-n.core)) c.loop-n.invariant.1 c.loop-n-test.true c.fast-t.result _ _
+    c.fast-t.ensures _ c.in-Not.is)
 
 pub cold_token-r-requires : goal.cold_token-r-requires
 cold_token-r-requires c =
     let x = c.args in
     let h = hot_left x.budget c.loop-n.n _ (scene x.rom.now c.loop-n.work c.loop-n.store
-    (joined (arrays c.loop-n.cells c.loop-n.back c.loop-n.places c.loop-n.wides c.loop-n.bases c.loop-n.names c.loop-n.kinds c.loop-n.values c.loop-n.ways c.loop-n.parents
+    (joined (arrays c.loop-n.cells c.loop-n.back c.loop-n.places c.loop-n.wides c.loop-n.bases c.loop-n.names c.loop-n.kinds c.loop-n.values
+    c.loop-n.ways c.loop-n.parents
     c.loop-n.owners c.loop-n.titles c.loop-n.sizes) c.loop-n.core)) c.loop-n.invariant.1
     c.loop-n-test.true c.fast-t.result _ _ c.fast-t.ensures
     c.in-Cold.is in
@@ -133,11 +140,14 @@ pub returns-then-core-eq0 : goal.returns-then-core-eq0
 returns-then-core-eq0 c =
     let x = c.args in
     let h = hot_left x.budget c.loop-n.n _ (scene x.rom.now c.loop-n.work c.loop-n.store
-    (joined (arrays c.loop-n.cells c.loop-n.back c.loop-n.places c.loop-n.wides c.loop-n.bases c.loop-n.names c.loop-n.kinds c.loop-n.values c.loop-n.ways c.loop-n.parents
-    c.loop-n.owners c.loop-n.titles c.loop-n.sizes) c.loop-n.core)) c.loop-n.invariant.1 c.loop-n-test.true c.fast-t.result _ _ c.fast-t.ensures c.in-Cold.is
+    (joined (arrays c.loop-n.cells c.loop-n.back c.loop-n.places c.loop-n.wides c.loop-n.bases c.loop-n.names c.loop-n.kinds c.loop-n.values
+    c.loop-n.ways c.loop-n.parents
+    c.loop-n.owners c.loop-n.titles c.loop-n.sizes) c.loop-n.core)) c.loop-n.invariant.1 c.loop-n-test.true c.fast-t.result _ _
+    c.fast-t.ensures c.in-Cold.is
     in let i = h.0 in
     rw c.halted-then-core-eq0.ensures (turn_rooted _ _ _ _ i c.loop-n-test.true _
-    (came _ (turned_to c.loop-n.core c.fast-t.result) _ _ _ _ _ _ _ _ _ _ _ _ _ _ _ _ i.0 c.cold_token-r.ensures.0 refl refl refl refl refl refl refl
+    (came _ (turned_to c.loop-n.core c.fast-t.result) _ _ _ _ _ _ _ _ _ _ _ _ _ _ _ _ i.0 c.cold_token-r.ensures.0 refl refl refl refl refl
+    refl refl
     refl refl refl refl refl refl) (ap answer_of c.in-On-told.is) c.if-core-eq0.true)
 
 pub loop-n-smaller : goal.loop-n-smaller
@@ -149,11 +159,14 @@ loop-n-preserved c =
       (omega arith, c.cold_token-r.auto.work ∙ c.loop-n.invariant.0.1, c.cold_token-r.auto.store ∙ c.loop-n.invariant.0.2),
       (let x = c.args in
           let h = hot_left x.budget c.loop-n.n _ (scene x.rom.now c.loop-n.work c.loop-n.store
-          (joined (arrays c.loop-n.cells c.loop-n.back c.loop-n.places c.loop-n.wides c.loop-n.bases c.loop-n.names c.loop-n.kinds c.loop-n.values c.loop-n.ways c.loop-n.parents
-          c.loop-n.owners c.loop-n.titles c.loop-n.sizes) c.loop-n.core)) c.loop-n.invariant.1 c.loop-n-test.true c.fast-t.result _ _ c.fast-t.ensures
+          (joined (arrays c.loop-n.cells c.loop-n.back c.loop-n.places c.loop-n.wides c.loop-n.bases c.loop-n.names c.loop-n.kinds
+          c.loop-n.values c.loop-n.ways c.loop-n.parents
+          c.loop-n.owners c.loop-n.titles c.loop-n.sizes) c.loop-n.core)) c.loop-n.invariant.1 c.loop-n-test.true c.fast-t.result _ _
+          c.fast-t.ensures
           c.in-Cold.is in let i = h.0 in
           turn_goes _ _ _ _ i c.loop-n-test.true _
-          (came _ (turned_to c.loop-n.core c.fast-t.result) _ _ _ _ _ _ _ _ _ _ _ _ _ _ _ _ i.0 c.cold_token-r.ensures.0 refl refl refl refl refl refl
+          (came _ (turned_to c.loop-n.core c.fast-t.result) _ _ _ _ _ _ _ _ _ _ _ _ _ _ _ _ i.0 c.cold_token-r.ensures.0 refl refl refl refl
+          refl refl
           refl refl refl refl refl refl refl) (ap answer_of c.in-On-told.is) c.if-core-eq0.false),
       c.cold_token-r.ensures.1,
     )
@@ -173,11 +186,14 @@ pub returns-in-Over : goal.returns-in-Over
 returns-in-Over c =
     let x = c.args in
     let h = hot_left x.budget c.loop-n.n _ (scene x.rom.now c.loop-n.work c.loop-n.store
-    (joined (arrays c.loop-n.cells c.loop-n.back c.loop-n.places c.loop-n.wides c.loop-n.bases c.loop-n.names c.loop-n.kinds c.loop-n.values c.loop-n.ways c.loop-n.parents
-    c.loop-n.owners c.loop-n.titles c.loop-n.sizes) c.loop-n.core)) c.loop-n.invariant.1 c.loop-n-test.true c.fast-t.result _ _ c.fast-t.ensures c.in-Cold.is
+    (joined (arrays c.loop-n.cells c.loop-n.back c.loop-n.places c.loop-n.wides c.loop-n.bases c.loop-n.names c.loop-n.kinds c.loop-n.values
+    c.loop-n.ways c.loop-n.parents
+    c.loop-n.owners c.loop-n.titles c.loop-n.sizes) c.loop-n.core)) c.loop-n.invariant.1 c.loop-n-test.true c.fast-t.result _ _
+    c.fast-t.ensures c.in-Cold.is
     in let i = h.0 in
     rw c.halted-in-Over.ensures (turn_ends _ _ _ _ i c.loop-n-test.true _
-    (came _ (turned_to c.loop-n.core c.fast-t.result) _ _ _ _ _ _ _ _ _ _ _ _ _ _ _ _ i.0 c.cold_token-r.ensures.0 refl refl refl refl refl refl refl
+    (came _ (turned_to c.loop-n.core c.fast-t.result) _ _ _ _ _ _ _ _ _ _ _ _ _ _ _ _ i.0 c.cold_token-r.ensures.0 refl refl refl refl refl
+    refl refl
     refl refl refl refl refl refl) Finished (ap answer_of c.in-Over.is))
 
 pub shape_of-work-in-Not-told : goal.shape_of-work-in-Not-told
@@ -190,11 +206,14 @@ pub returns-in-Not-told : goal.returns-in-Not-told
 returns-in-Not-told c =
     let x = c.args in
     let h = hot_left x.budget c.loop-n.n _ (scene x.rom.now c.loop-n.work c.loop-n.store
-    (joined (arrays c.loop-n.cells c.loop-n.back c.loop-n.places c.loop-n.wides c.loop-n.bases c.loop-n.names c.loop-n.kinds c.loop-n.values c.loop-n.ways c.loop-n.parents
-    c.loop-n.owners c.loop-n.titles c.loop-n.sizes) c.loop-n.core)) c.loop-n.invariant.1 c.loop-n-test.true c.fast-t.result _ _ c.fast-t.ensures c.in-Cold.is
+    (joined (arrays c.loop-n.cells c.loop-n.back c.loop-n.places c.loop-n.wides c.loop-n.bases c.loop-n.names c.loop-n.kinds c.loop-n.values
+    c.loop-n.ways c.loop-n.parents
+    c.loop-n.owners c.loop-n.titles c.loop-n.sizes) c.loop-n.core)) c.loop-n.invariant.1 c.loop-n-test.true c.fast-t.result _ _
+    c.fast-t.ensures c.in-Cold.is
     in let i = h.0 in
     rw c.halted-in-Not-told.ensures (turn_ends _ _ _ _ i c.loop-n-test.true _
-    (came _ (turned_to c.loop-n.core c.fast-t.result) _ _ _ _ _ _ _ _ _ _ _ _ _ _ _ _ i.0 c.cold_token-r.ensures.0 refl refl refl refl refl refl refl
+    (came _ (turned_to c.loop-n.core c.fast-t.result) _ _ _ _ _ _ _ _ _ _ _ _ _ _ _ _ i.0 c.cold_token-r.ensures.0 refl refl refl refl refl
+    refl refl
     refl refl refl refl refl refl) (Refused _) (ap answer_of c.in-Not-told.is))
 
 pub shape_of-work : goal.shape_of-work

@@ -12,8 +12,10 @@ invariant-loop-n l =
     ((l.n ≤ l.budget) × (length l.work ≡ length l.initial.work) × (length l.store ≡ length l.initial.store))
     × (Going-on l.budget
     (run_from l.budget 0 (scene l.rom l.initial.work l.initial.store
-    (joined (arrays l.initial.cells l.initial.back l.initial.places l.initial.wides l.initial.bases l.initial.names l.initial.kinds l.initial.values l.initial.ways l.initial.parents l.initial.owners l.initial.titles l.initial.sizes) l.initial.core))) l.n
-    (scene l.rom l.work l.store (joined (arrays l.cells l.back l.places l.wides l.bases l.names l.kinds l.values l.ways l.parents l.owners l.titles l.sizes) l.core)))
+    (joined (arrays l.initial.cells l.initial.back l.initial.places l.initial.wides l.initial.bases l.initial.names l.initial.kinds
+    l.initial.values l.initial.ways l.initial.parents l.initial.owners l.initial.titles l.initial.sizes) l.initial.core))) l.n
+    (scene l.rom l.work l.store (joined (arrays l.cells l.back l.places l.wides l.bases l.names l.kinds l.values l.ways l.parents l.owners
+    l.titles l.sizes) l.core)))
     × ActsKept l.slots l.known l.names l.kinds l.store l.titles l.sizes l.core l.tail
 
 abbrev pub decreases-loop-n : goal.decreases-loop-n

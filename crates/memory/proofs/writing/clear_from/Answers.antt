@@ -1,4 +1,4 @@
-use Rattle.std.proofs.Common.{◌-◌, refl, sym, ◌∙◌, rules}
+use Rattle.std.proofs.Common.{refl, sym, ◌∙◌, rules}
 use Rattle.memory.proofs.Moves.{cleared_more, cleared_all}
 use Rattle.memory.proofs.writing.clear_from.Goals as goal
 

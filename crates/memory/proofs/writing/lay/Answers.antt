@@ -1,4 +1,4 @@
-use Rattle.std.proofs.Common.{◌+◌, ◌-◌, refl, sym, ◌∙◌, add-zero, rules}
+use Rattle.std.proofs.Common.{◌+◌, refl, sym, ◌∙◌, add-zero, rules}
 use Rattle.memory.proofs.Moves.{laid_more, laid_all}
 use Rattle.memory.proofs.writing.lay.Goals as goal
 

@@ -1,4 +1,4 @@
-use Rattle.std.proofs.Common.{◌-◌, refl, sym, ◌∙◌, rules}
+use Rattle.std.proofs.Common.{refl, sym, ◌∙◌, rules}
 use Rattle.memory.proofs.Moves.{moved_last, moved_none}
 use Rattle.memory.proofs.writing.move_up.Goals as goal
 

@@ -1,4 +1,4 @@
-use Rattle.std.proofs.Common.{◌+◌, ◌-◌, ◌∙◌, get_or, rules}
+use Rattle.std.proofs.Common.{◌+◌, ◌∙◌, get_or, rules}
 use Rattle.reckon.proofs.Deep.{turns, turned, turn_starts}
 use Rattle.reckon.proofs.reckon.turn.Goals as goal
 
@@ -15,5 +15,8 @@ loop-i-preserved c =
 
 pub returns : goal.returns
 returns c =
-    let s = c.args in
-    (search rules, turned c.loop-i.stack c.loop-i.i (s.start + s.count) (get_or s.stack.now s.start 0) (search rules) ∙ c.loop-i.invariant.1)
+    let s = c.args in (
+      search rules,
+      turned c.loop-i.stack c.loop-i.i (s.start + s.count) (get_or s.stack.now s.start 0) (search rules)
+          ∙ c.loop-i.invariant.1,
+    )

@@ -1,4 +1,4 @@
-use Rattle.std.proofs.Common.{◌≡◌, ◌-◌, arith, rules}
+use Rattle.std.proofs.Common.{◌≡◌, arith, rules}
 use Rattle.rom.proofs.Spreads.{none_laid, one_laid}
 use Rattle.rom.proofs.spread.lay_by.Goals as goal
 

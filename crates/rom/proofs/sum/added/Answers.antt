@@ -1,4 +1,4 @@
-use Rattle.std.proofs.Common.{◌-◌, rules}
+use Rattle.std.proofs.Common.{rules}
 use Rattle.rom.proofs.Totals.{one_more}
 use Rattle.rom.proofs.sum.added.Goals as goal
 

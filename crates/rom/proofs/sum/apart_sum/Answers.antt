@@ -1,4 +1,4 @@
-use Rattle.std.proofs.Common.{◌≡◌, ◌-◌, refl, arith, rules}
+use Rattle.std.proofs.Common.{◌≡◌, refl, arith, rules}
 use Rattle.rom.specs.Joints.Sum.{apart_sum}
 use Rattle.rom.proofs.Spreads.{one_apart}
 use Rattle.rom.proofs.sum.apart_sum.Goals as goal

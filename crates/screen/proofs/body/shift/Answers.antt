@@ -1,4 +1,4 @@
-use Rattle.std.proofs.Common.{◌-◌, refl, length-set, arith}
+use Rattle.std.proofs.Common.{refl, length-set, arith}
 use Rattle.screen.specs.Laws.Code.Body.{shifting_first, shifting_done, shifting_turn}
 use Rattle.screen.proofs.body.shift.Goals as goal
 

@@ -1,4 +1,4 @@
-use Rattle.std.proofs.Common.{◌-◌, refl, length, length-set, arith}
+use Rattle.std.proofs.Common.{refl, length, length-set, arith}
 use Rattle.screen.specs.Laws.Code.Screen.{filled_none, filled_more, filled_zeros}
 use Rattle.screen.proofs.screening.clear_marks.Goals as goal
 

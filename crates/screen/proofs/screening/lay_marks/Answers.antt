@@ -1,6 +1,5 @@
-use Rattle.std.proofs.Common.{◌-◌, refl, ◌∙◌, length-set, arith}
+use Rattle.std.proofs.Common.{refl, ◌∙◌, length-set, arith}
 use Rattle.screen.specs.Laws.Code.Screen.{filled_none, filled_more, filled_laid, mark_behind}
-use Rattle.screen.specs.Laws.Found.Cell.{mark_in}
 use Rattle.screen.proofs.screening.lay_marks.Goals as goal
 
 pub loop-i-init : goal.loop-i-init

@@ -3,12 +3,11 @@ use Rattle.std.specs.Prelude.{ℕ, ◌≤◌, refl, List}
 use Rattle.std.proofs.Common.{arith, ap, ◌∙◌}
 use Rattle.rom.specs.Header.{length_of, wide_of}
 use Rattle.rom.specs.Sizes.{rom_most}
-use Rattle.screen.specs.Effect.{allowed}
-use Rattle.screen.specs.Reach.{there, setting}
+use Rattle.screen.specs.Reach.{setting}
 use Rattle.screen.specs.Rules.{Assignment}
 use Rattle.screen.specs.Laws.Found.Model.{Board}
 use Rattle.screen.specs.Laws.Walk.Walking.{At}
-use Rattle.screen.specs.Laws.Walk.Rounds.{ran, Chain, ends}
+use Rattle.screen.specs.Laws.Walk.Rounds.{Chain}
 use Rattle.screen.specs.Laws.Walk.Chains.{here, first_ready}
 use Rattle.screen.specs.Laws.Accept.Cover.{start}
 use Rattle.screen.specs.Laws.Accept.Spots.{chain_ran, Out, out_cell}

@@ -10,9 +10,9 @@ use Rattle.screen.specs.Effect.{allowed, fixes, astray, effect_of}
 use Rattle.screen.specs.Reach.{Setting, token_at, Claim, Holds, Met}
 use Rattle.screen.specs.Laws.Walk.Visits.{Meets}
 use Rattle.screen.specs.Laws.Found.Model.{Board, body_text, heights_after}
-use Rattle.screen.specs.Laws.Walk.Rounds.{ran, far_of, left, Chain}
+use Rattle.screen.specs.Laws.Walk.Rounds.{far_of, left, Chain}
 use Rattle.screen.specs.Laws.Walk.Boards.{BodyRan}
-use Rattle.screen.specs.Laws.Walk.Chains.{then, climbs}
+use Rattle.screen.specs.Laws.Walk.Chains.{climbs}
 use Rattle.screen.specs.Laws.Accept.Roots.{known_real}
 use Rattle.screen.specs.Laws.Accept.Cover.{start, rooted, leads_itself}
 use Rattle.screen.specs.Laws.Accept.Spots.{effect_kept, Inside, body_of, body_fits, body_token, body_free, body_on, inside}
@@ -57,7 +57,8 @@ module _ (rom : List ℕ) (fits : length_of rom ≤ rom_most) {last : Board} (pa
     in_free = body_free rom fits passed i e
 
     in_flow : (q : ℕ) → Holds rom (Claim.leads s.wide p t q)
-        → (height_left last (suc d) q ≡ height_left last (suc d) p - (effect_of (sum_left last) t).takes + (effect_of (sum_left last) t).gives)
+        → (height_left last (suc d) q ≡ height_left last (suc d) p -
+        (effect_of (sum_left last) t).takes + (effect_of (sum_left last) t).gives)
         × (back_left last (suc d) q ≡ back_left last (suc d) p - (effect_of (sum_left last) t).return_takes + (effect_of
         (sum_left last) t).return_gives)
     in_flow q l =

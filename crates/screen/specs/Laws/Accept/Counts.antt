@@ -8,13 +8,13 @@ use Rattle.rom.specs.Sizes.{numbers_most, nodes_most, rom_most}
 use Rattle.tokens.specs.Family.{define, widen, finish, new_device, finish_device}
 use Rattle.tokens.specs.declared.decoding.Token.{Token}
 use Rattle.screen.specs.Effect.{is_a, fixes}
-use Rattle.screen.specs.Reach.{Setting, setting, nodes_after, numbers_after, Met}
+use Rattle.screen.specs.Reach.{Setting, nodes_after, numbers_after, Met}
 use Rattle.screen.specs.Laws.Rules.Ways.{define_fixes}
 use Rattle.screen.specs.Laws.Found.Model.{Board}
 use Rattle.screen.specs.Laws.Walk.Rounds.{Ready, Chain}
 use Rattle.screen.specs.Laws.Walk.Boards.{advanced}
 use Rattle.screen.specs.Laws.Walk.Chains.{Steps, here, via, first_ready}
-use Rattle.screen.specs.Laws.Accept.Cover.{start, Follows, ready}
+use Rattle.screen.specs.Laws.Accept.Cover.{start, Follows}
 use Rattle.screen.specs.Laws.Accept.Outside.{out_of, out_meets, passing}
 
 module _ (rom : List ℕ) (fits : length_of rom ≤ rom_most) {last : Board} (passed : Chain rom (start rom fits) last) where

@@ -1,5 +1,5 @@
 -- The rounds come to every reachable token outside bodies, each in its setting. Assumes nothing.
-use Rattle.std.specs.Prelude.{ℕ, ◌≤◌, ◌<◌, ◌≡◌, refl, Bool, true, false, not, List, ◌⊎◌, ◌≢◌, T, length, get_or}
+use Rattle.std.specs.Prelude.{ℕ, ◌≤◌, ◌<◌, ◌≡◌, refl, Bool, true, false, not, List, ◌⊎◌, ◌≢◌, T, get_or}
 use Rattle.std.proofs.Common.{sym, ap, ◌∙◌, subst, inl, inr, T_not}
 use Rattle.cells.specs.Laws.Tests.{pick_is}
 use Rattle.tokens.specs.Table.{is_program, programs_most}
@@ -18,7 +18,7 @@ use Rattle.screen.specs.Laws.Walk.Visits.{WayIn, Fits, visit_fits, in_way}
 use Rattle.screen.specs.Laws.Found.Model.{Board, visit_of, fixed_in, outside_text, slot, room_of, first_board}
 use Rattle.screen.specs.Laws.Walk.Walking.{Way, At}
 use Rattle.screen.specs.Laws.Walk.Advancing.{setting_of}
-use Rattle.screen.specs.Laws.Walk.Rounds.{far_of, OutAt, Ready, Ran, Next, on}
+use Rattle.screen.specs.Laws.Walk.Rounds.{far_of, OutAt, Ready, Ran, Next}
 use Rattle.screen.specs.Laws.Walk.Boards.{Advanced, advanced}
 use Rattle.screen.specs.Laws.Walk.Chains.{Steps, here, via, then, ready_steps, first_ready}
 use Rattle.screen.specs.Laws.Found.Room.{clear, zeros}
@@ -55,7 +55,8 @@ module _ (rom : List ℕ) (fits : length_of rom ≤ rom_most) where
   rooted_start = record { reach = Holds.first; real = λ n h. absurd (h (none n)) }
     where
       none : (n : ℕ) → kind_of start.kinds n ≡ 0
-      none n = pick_is (λ k. k ≡ 0) (is_program n) (get_or (clear programs_most) (slot n) 0) 0 (λ t. zeros programs_most (slot n)) (λ t. refl)
+      none n = pick_is (λ k. k ≡ 0) (is_program n) (get_or (clear programs_most) (slot n) 0) 0 (λ t. zeros programs_most (slot n))
+          (λ t. refl)
 
   rooted_steps : {b c : Board} → Ready rom b → Rooted rom fits b → Steps rom fits b c → Rooted rom fits c
   rooted_steps y o here = o

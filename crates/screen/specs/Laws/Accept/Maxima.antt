@@ -9,9 +9,8 @@ use Rattle.screen.specs.Effect.{is_a, effect_of}
 use Rattle.screen.specs.Reach.{Setting, Holds, Met, Body}
 use Rattle.screen.specs.Laws.Found.Model.{Board, sum_told}
 use Rattle.screen.specs.Laws.Walk.Tallying.{need_at, peak_at, back_at as return_at, frames_at}
-use Rattle.screen.specs.Laws.Walk.Rounds.{ran, left, Chain, ends}
+use Rattle.screen.specs.Laws.Walk.Rounds.{left, Chain}
 use Rattle.screen.specs.Laws.Walk.Boards.{BodyRan}
-use Rattle.screen.specs.Laws.Walk.Chains.{then}
 use Rattle.screen.specs.Laws.Accept.Cover.{start}
 use Rattle.screen.specs.Laws.Accept.Spots.{Inside, body_of, body_fits, inside}
 use Rattle.screen.specs.Laws.Accept.Cells.{Cells, body_cells, among, body_limits, at_entry, at_met}

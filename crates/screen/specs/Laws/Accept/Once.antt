@@ -9,11 +9,11 @@ use Rattle.tokens.specs.Body.{kind_of}
 use Rattle.tokens.specs.Definition.{new_number, kind_in}
 use Rattle.tokens.specs.declared.decoding.Token.{Token}
 use Rattle.screen.specs.Effect.{is_a, is_colon, value_sum}
-use Rattle.screen.specs.Reach.{Setting, after, Met}
+use Rattle.screen.specs.Reach.{Setting, Met}
 use Rattle.screen.specs.Laws.Rules.Tokens.{heads}
 use Rattle.screen.specs.Laws.Rules.Ways.{define_fixes}
 use Rattle.screen.specs.Laws.Found.Model.{Board}
-use Rattle.screen.specs.Laws.Walk.Rounds.{ran, far_of, Next, Chain}
+use Rattle.screen.specs.Laws.Walk.Rounds.{far_of, Next, Chain}
 use Rattle.screen.specs.Laws.Walk.Boards.{Advanced, advanced}
 use Rattle.screen.specs.Laws.Walk.Chains.{Steps, chain_kept, one_token, steps_kept, Order, order}
 use Rattle.screen.specs.Laws.Accept.Cover.{start, ready}

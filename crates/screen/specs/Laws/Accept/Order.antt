@@ -11,12 +11,12 @@ use Rattle.tokens.specs.declared.decoding.Operand.TheVariants.{Nothing, Literal,
 use Rattle.tokens.specs.declared.decoding.Token.{Token}
 use Rattle.tokens.specs.declared.read.Read.TheVariants.{Good}
 use Rattle.screen.specs.Effect.{is_a, is_colon, is_branch, astray, aims, both_ways, leads_of}
-use Rattle.screen.specs.Reach.{In, there, Setting, setting, token_at, Holds, Met, Body, Starts}
+use Rattle.screen.specs.Reach.{In, there, Setting, token_at, Holds, Met, Body, Starts}
 use Rattle.screen.specs.Laws.Rules.Tokens.{none_in, fixes_no_branch, one_family}
 use Rattle.screen.specs.Laws.Rules.Ways.{Ways, ways_of, colon_fixes}
 use Rattle.screen.specs.Laws.Found.Model.{Board}
 use Rattle.screen.specs.Laws.Walk.Advancing.{setting_of}
-use Rattle.screen.specs.Laws.Walk.Rounds.{ran, far_of, Ran, Next, Chain}
+use Rattle.screen.specs.Laws.Walk.Rounds.{far_of, Ran, Next, Chain}
 use Rattle.screen.specs.Laws.Walk.Boards.{advanced}
 use Rattle.screen.specs.Laws.Walk.Chains.{Steps, climbs, steps_kept, Order, order}
 use Rattle.screen.specs.Laws.Accept.Cover.{start, Follows, ready}

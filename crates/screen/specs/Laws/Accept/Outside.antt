@@ -8,8 +8,8 @@ use Rattle.tokens.specs.Family.{call, always, choice, leave, finish}
 use Rattle.tokens.specs.Definition.{takes_here}
 use Rattle.tokens.specs.declared.decoding.Token.{Token}
 use Rattle.tokens.specs.declared.read.Read.TheVariants.{Good}
-use Rattle.screen.specs.Effect.{is_a, allowed, fixes, leads_of, effect_of}
-use Rattle.screen.specs.Reach.{In, Setting, setting, after, token_at, Claim, Holds, Met}
+use Rattle.screen.specs.Effect.{is_a, fixes, leads_of, effect_of}
+use Rattle.screen.specs.Reach.{In, Setting, token_at, Claim, Holds, Met}
 use Rattle.screen.specs.Laws.Rules.Tokens.{fixes_is, stops_quiet}
 use Rattle.screen.specs.Laws.Rules.Ways.{effect_own}
 use Rattle.screen.specs.Laws.Walk.Visits.{Meets, Fits, visit_fits, visited}
@@ -21,7 +21,7 @@ use Rattle.screen.specs.Laws.Walk.Boards.{Advanced, advanced}
 use Rattle.screen.specs.Laws.Walk.Chains.{then, one_token}
 use Rattle.screen.specs.Laws.Accept.Roots.{known_real, start_only}
 use Rattle.screen.specs.Laws.Accept.Cover.{start, ready, rooted, round_end_lem, leads_itself, leads_way}
-use Rattle.screen.specs.Laws.Accept.Spots.{at_bound, chain_ran, behind, Out, outside, out_cell, effect_kept, inside}
+use Rattle.screen.specs.Laws.Accept.Spots.{at_bound, chain_ran, behind, Out, outside, out_cell, effect_kept}
 use Rattle.screen.specs.Laws.Accept.Heights.{height_left, back_left, sum_left, Spot}
 use Rattle.screen.specs.Laws.Found.Cell.{height_in_lem, back_in_lem, cell_with, height_in, back_in, heights, height_low, Bound}
 
@@ -141,7 +141,8 @@ module _ (rom : List ℕ) (fits : length_of rom ≤ rom_most) {last : Board} (pa
 
     out_flow : (q : ℕ) → Holds rom (Claim.leads s.wide p t q)
         → (height_left last 0 q ≡ height_left last 0 p - (effect_of (sum_left last) t).takes + (effect_of (sum_left last) t).gives)
-        × (back_left last 0 q ≡ back_left last 0 p - (effect_of (sum_left last) t).return_takes + (effect_of (sum_left last) t).return_gives)
+        × (back_left last 0 q ≡ back_left last 0 p - (effect_of (sum_left last) t).return_takes +
+        (effect_of (sum_left last) t).return_gives)
     out_flow q l = by (fixes t) refl
       where
         not_call : T (fixes t) → T (not (is_a call t))

@@ -19,7 +19,7 @@ use Rattle.screen.specs.Laws.Walk.Visits.{WayIn, Fits, visit_fits, way_in, fixes
 use Rattle.screen.specs.Laws.Found.Model.{Board, visit_of, outside_text, body_text}
 use Rattle.screen.specs.Laws.Walk.Walking.{Way, At}
 use Rattle.screen.specs.Laws.Walk.Advancing.{setting_of}
-use Rattle.screen.specs.Laws.Walk.Rounds.{far_of, left, OutAt, Ran, on}
+use Rattle.screen.specs.Laws.Walk.Rounds.{far_of, left, OutAt, Ran}
 use Rattle.screen.specs.Laws.Walk.Boards.{BodyRan, Advanced}
 use Rattle.screen.specs.Laws.Walk.Chains.{climbs}
 use Rattle.screen.specs.declared.walking.Text.{Text as Scope}

@@ -9,7 +9,7 @@ use Rattle.tokens.specs.Laws.Tokens.{next_ahead}
 use Rattle.tokens.specs.declared.decoding.Token.{Token}
 use Rattle.tokens.specs.declared.read.Read.TheVariants.{Good}
 use Rattle.screen.specs.Effect.{fixes, is_colon, is_branch, aims}
-use Rattle.screen.specs.Reach.{In, Setting, setting, after, token_at, Claim, Holds, Met}
+use Rattle.screen.specs.Reach.{In, Setting, token_at, Claim, Holds, Met}
 use Rattle.screen.specs.Laws.Rules.Reach.{ExtendsBy, extends_by}
 use Rattle.screen.specs.Laws.Rules.Tokens.{fixes_no_branch}
 use Rattle.screen.specs.Laws.Rules.Ways.{colon_fixes}

@@ -17,9 +17,9 @@ use Rattle.screen.specs.Laws.Walk.Visits.{Fits, visit_fits}
 use Rattle.screen.specs.Laws.Found.Model.{Board, cap_of, sum_at, visit_of, body_text}
 use Rattle.screen.specs.Laws.Walk.Walking.{At}
 use Rattle.screen.specs.Laws.Walk.Advancing.{setting_of}
-use Rattle.screen.specs.Laws.Walk.Rounds.{ran, far_of, left, OutAt, Ready, Ran, Next, on, Chain, ends, goes}
+use Rattle.screen.specs.Laws.Walk.Rounds.{far_of, left, OutAt, Ready, Ran, Next, Chain, ends, goes}
 use Rattle.screen.specs.Laws.Walk.Boards.{BodyRan, Advanced, advanced}
-use Rattle.screen.specs.Laws.Walk.Chains.{Steps, here, via, then, chain_kept, chain_seen, chain_steps, one_token}
+use Rattle.screen.specs.Laws.Walk.Chains.{Steps, here, via, chain_kept, chain_seen, chain_steps, one_token}
 use Rattle.screen.specs.Laws.Accept.Cover.{start, Follows, ready, Before, round_on, round_end_lem, leads_way, leads_itself, cover}
 use Rattle.screen.specs.declared.walking.Text.{Text as Scope}
 use Rattle.screen.specs.Laws.Found.Cell.{entry_cell, Bound}

@@ -5,10 +5,10 @@ use Rattle.rom.specs.Header.{length_of}
 use Rattle.rom.specs.Sizes.{rom_most}
 use Rattle.tokens.specs.declared.decoding.Token.{Token}
 use Rattle.tokens.specs.declared.read.Read.TheVariants.{Good}
-use Rattle.screen.specs.Reach.{Setting, setting, token_at, Reach}
+use Rattle.screen.specs.Reach.{Setting, token_at, Reach}
 use Rattle.screen.specs.Laws.Walk.Visits.{visit_fits}
 use Rattle.screen.specs.Laws.Found.Model.{Board, outside_text}
-use Rattle.screen.specs.Laws.Walk.Rounds.{ran, Chain}
+use Rattle.screen.specs.Laws.Walk.Rounds.{Chain}
 use Rattle.screen.specs.Laws.Accept.Cover.{start}
 use Rattle.screen.specs.Laws.Accept.Spots.{outside, body_fits, inside}
 

@@ -11,16 +11,15 @@ use Rattle.tokens.specs.Definition.{new_number, kind_in}
 use Rattle.tokens.specs.declared.decoding.Token.{Token}
 use Rattle.tokens.specs.declared.read.Read.TheVariants.{Good}
 use Rattle.screen.specs.Effect.{is_a, is_colon, effect_of}
-use Rattle.screen.specs.Reach.{Setting, setting, token_at, Met, Body}
+use Rattle.screen.specs.Reach.{Setting, token_at, Met, Body}
 use Rattle.screen.specs.Laws.Rules.Tokens.{fixed_wide}
 use Rattle.screen.specs.Laws.Rules.Ways.{colon_defines, colon_fixes}
-use Rattle.screen.specs.Laws.Walk.Visits.{visited}
 use Rattle.screen.specs.Laws.Found.Model.{Board, sum_told}
 use Rattle.screen.specs.Laws.Walk.Walking.{At}
 use Rattle.screen.specs.Laws.Walk.Tallying.{Among, need_at, peak_at, back_at as return_at, frames_at}
-use Rattle.screen.specs.Laws.Walk.Rounds.{ran, Chain}
-use Rattle.screen.specs.Laws.Walk.Chains.{then, chain_kept}
-use Rattle.screen.specs.Laws.Accept.Cover.{start, ready}
+use Rattle.screen.specs.Laws.Walk.Rounds.{Chain}
+use Rattle.screen.specs.Laws.Walk.Chains.{chain_kept}
+use Rattle.screen.specs.Laws.Accept.Cover.{start}
 use Rattle.screen.specs.Laws.Accept.Spots.{Inside, body_of, body_fits, body_token}
 use Rattle.screen.specs.Laws.Accept.Cells.{among, at_entry, at_met, inside_reach}
 use Rattle.screen.specs.Laws.Accept.Bodies.{in_cells, in_effect, height_inside, back_inside, cell_back, cell_height}

@@ -16,7 +16,7 @@ use Rattle.tokens.specs.declared.decoding.Token.{Token}
 use Rattle.tokens.specs.declared.read.Read.{Read}
 use Rattle.tokens.specs.declared.read.Read.TheVariants.{Refused, Good}
 use Rattle.screen.specs.Effect.{is_a, fixes, is_colon, names, effect_of, called}
-use Rattle.screen.specs.Reach.{Setting, after, token_at, Named, Claim, Holds, Reach, Met}
+use Rattle.screen.specs.Reach.{Setting, token_at, Named, Claim, Holds, Reach, Met}
 use Rattle.screen.specs.Laws.Rules.Reach.{extends_ahead}
 use Rattle.screen.specs.Rules.{Assignment, own_frame}
 use Rattle.screen.specs.Laws.Rules.InForce.{fixed_read, fixing, reach_first, next_met, step_of, step_passes}

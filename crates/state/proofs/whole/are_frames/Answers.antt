@@ -1,4 +1,4 @@
-use Rattle.std.proofs.Common.{◌-◌, true, le-leb, rules}
+use Rattle.std.proofs.Common.{le-leb, rules}
 use borrow.Author.Tests.{lt-leb}
 use Rattle.state.specs.Whole.{frame_whole, calls_whole}
 use Rattle.state.proofs.Wholes.{one_fails, one_more, none_yet, all_hold}
@@ -27,5 +27,6 @@ pub returns : goal.returns
 unfolding calls_whole
 returns c =
     let a = c.args in
-    rw (le-leb _ _ c.if-calls-gt-FRAMES_MOST.false) (all_hold a.calls.count _ (frame_whole a.length a.calls a.returns) c.loop-i.invariant.0 c.loop-i-test.false
+    rw (le-leb _ _ c.if-calls-gt-FRAMES_MOST.false) (all_hold a.calls.count _ (frame_whole a.length a.calls a.returns) c.loop-i.invariant.0
+    c.loop-i-test.false
     c.loop-i.invariant.1)

@@ -1,6 +1,6 @@
 -- What new-device, finish-device and a property's writing leave beside a whole tree, which is the tree's own law: the arrays' lengths, and
 -- that no node younger than the first has a parent older than it. Assumes nothing.
-use Rattle.std.specs.Prelude.{ℕ, ◌+◌, ◌-◌, ◌<◌, ◌≤◌, ◌≡◌, Bool, true, false, not, List, length, T, eqb}
+use Rattle.std.specs.Prelude.{ℕ, ◌+◌, ◌<◌, ◌≤◌, ◌≡◌, Bool, true, false, not, List, length, T, eqb}
 use Rattle.std.proofs.Common.{arith, ◌∙◌, get_or-set_same, get_or-set_other, eqb-true}
 use Rattle.std.proofs.Math.Path.{refl}
 use Rattle.std.proofs.Math.ListN.{length-set}

@@ -1,5 +1,5 @@
 -- What refusals 6, 1, 7 and 4 say of a state that they let pass, taken apart into facts and put together again. Assumes nothing.
-use Rattle.std.specs.Prelude.{ℕ, ◌-◌, ◌<◌, ◌≤◌, ◌≡◌, refl, Bool, true, false, not, ◌&&◌, length, get_or, T, ltb, leb, eqb}
+use Rattle.std.specs.Prelude.{ℕ, ◌<◌, ◌≤◌, ◌≡◌, refl, Bool, true, false, not, ◌&&◌, length, get_or, T, ltb, leb, eqb}
 use Rattle.std.proofs.Common.{arith, ◌∙◌, le→leb, lt→ltb, eq-eqb, le-ltb, lt-ltb, le-leb}
 use Rattle.cells.specs.Choice.{pick}
 use Rattle.cells.specs.Laws.Tests.{tests, pick_is}
@@ -14,7 +14,8 @@ use Rattle.tree.specs.Laws.Trees.{whole_facts as tree_facts}
 use Rattle.tree.specs.Laws.Kept.{whole_is as tree_whole}
 use Rattle.tree.specs.declared.tree.Tree.{Tree}
 use Rattle.state.specs.Numbers.{is_body}
-use Rattle.state.specs.Whole.{is_place, heights_whole, next_base, frame_whole, calls_whole, entry_whole, numbers_whole, below_root, whole_of}
+use Rattle.state.specs.Whole.{is_place, heights_whole, next_base, frame_whole, calls_whole, entry_whole, numbers_whole, below_root}
+use Rattle.state.specs.Whole.{whole_of}
 use Rattle.state.specs.Scene.{Scene, Turn}
 use Rattle.state.specs.Run.{then}
 use Rattle.state.specs.Laws.Sized.{Sized}

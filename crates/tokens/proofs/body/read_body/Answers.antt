@@ -1,4 +1,4 @@
-use Rattle.std.proofs.Common.{rules, ◌-◌, refl, sym, ◌∙◌, arith}
+use Rattle.std.proofs.Common.{rules, refl, sym, ◌∙◌, arith}
 use Rattle.tokens.proofs.Bodies.{passed_on, passed_not}
 use Rattle.tokens.proofs.body.read_body.Goals as goal
 
