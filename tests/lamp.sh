@@ -482,7 +482,8 @@ expect 2 "$latin"': passes, steps 7, name "scale"
 '"$coffee"': refused 5: the program'"'"'s bytes do not add up to the checksum
 '"$missing"': unreadable
 scale.rom: passes, steps 7, name "scale"
-4 dumps: 2 passed, 1 refused, 0 out of budget, 1 unreadable' "$missing: No such file or directory" scan "$latin" "$coffee" "$missing" scale.rom
+4 dumps: 2 passed, 1 refused, 0 out of budget, 1 unreadable' "$missing: No such file or directory" \
+    scan "$latin" "$coffee" "$missing" scale.rom
 # names that look like words and options
 cp "$room/scale.rom" "$room/scan"
 cp "$room/scale.rom" "$room/--csv"

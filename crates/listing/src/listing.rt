@@ -13,7 +13,8 @@ use rom::sizes::{MARKS_SIZE, STORE_SIZE, TEXT_SIZE, WORK_SIZE};
 use screen::{Verdict, screen};
 use state::{number_of, open};
 
-// Opens a ROM that passed, runs it, and writes what it left.
+// Opens a ROM that passed, runs it, and writes what it left. The states that it holds are in no frame while the ROM is screened.
+#[inline(never)]
 fn list_run(rom: &[u8], work: &mut [u8], store: &mut [u8], budget: u32, text: &mut [u8]) -> usize
     requires { (header_of (fcode_of rom.now) ≡ 0) × (length work.old ≡ work_size) × (length store.old ≡ store_size)
         × (length text.old ≡ text_size) }

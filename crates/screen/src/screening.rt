@@ -117,6 +117,7 @@ fn judge_in(
     Verdict::Refused(31)
 }
 
+#[inline(never)]
 fn judge_least(rom: &[u8], length: u32, marks: &mut [u8]) -> Verdict
     requires { Judged (fcode_of rom.now) length marks.old 256 }
     ensures { screened result marks.new ≡ judged_of (fcode_of rom.now) marks.old }
@@ -126,6 +127,7 @@ fn judge_least(rom: &[u8], length: u32, marks: &mut [u8]) -> Verdict
     judge_in(rom, length, marks, &mut seen, &mut work)
 }
 
+#[inline(never)]
 fn judge_small(rom: &[u8], length: u32, marks: &mut [u8]) -> Verdict
     requires { Judged (fcode_of rom.now) length marks.old 1024 }
     ensures { screened result marks.new ≡ judged_of (fcode_of rom.now) marks.old }
@@ -135,6 +137,7 @@ fn judge_small(rom: &[u8], length: u32, marks: &mut [u8]) -> Verdict
     judge_in(rom, length, marks, &mut seen, &mut work)
 }
 
+#[inline(never)]
 fn judge_middle(rom: &[u8], length: u32, marks: &mut [u8]) -> Verdict
     requires { Judged (fcode_of rom.now) length marks.old 4096 }
     ensures { screened result marks.new ≡ judged_of (fcode_of rom.now) marks.old }
@@ -144,6 +147,7 @@ fn judge_middle(rom: &[u8], length: u32, marks: &mut [u8]) -> Verdict
     judge_in(rom, length, marks, &mut seen, &mut work)
 }
 
+#[inline(never)]
 fn judge_large(rom: &[u8], length: u32, marks: &mut [u8]) -> Verdict
     requires { Judged (fcode_of rom.now) length marks.old 16384 }
     ensures { screened result marks.new ≡ judged_of (fcode_of rom.now) marks.old }
@@ -153,6 +157,7 @@ fn judge_large(rom: &[u8], length: u32, marks: &mut [u8]) -> Verdict
     judge_in(rom, length, marks, &mut seen, &mut work)
 }
 
+#[inline(never)]
 fn judge_most(rom: &[u8], length: u32, marks: &mut [u8]) -> Verdict
     requires { Judged (fcode_of rom.now) length marks.old rom_most }
     ensures { screened result marks.new ≡ judged_of (fcode_of rom.now) marks.old }
@@ -164,9 +169,8 @@ fn judge_most(rom: &[u8], length: u32, marks: &mut [u8]) -> Verdict
 
 // The screen: a ROM passes exactly where heights can be assigned to it, and the marks are then the data heights. One that is refused for
 // its heights leaves the marks all zero; a mark buffer of another size, or a bad header, leaves it as it was. A program is judged by the
-// smallest tables that have room for it, since they are cleared at each call. The tests of its length stand behind the others and not in a
-// function of their own: so the compiler takes the calls with the large tables for rare, and does not lay these into the frame that a small
-// ROM's call has (docs/DECISIONS.md, point 122; tests/host.c looks at the stack).
+// smallest tables that have room for it, since they are cleared at each call. What has tables is never copied into its caller, whose frame
+// they would be laid into whatever the ROM's size is (docs/DECISIONS.md, point 122; tests/host.c looks at the stack).
 pub fn screen(rom: &[u8], marks: &mut [u8]) -> Verdict
     ensures { Promised (fcode_of rom.now) marks.old result marks.new }
 {
