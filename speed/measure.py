@@ -14,7 +14,7 @@ BY_VECTORS = "glibc.cpu.x86_rep_movsb_threshold=1000000000:glibc.cpu.x86_rep_sto
 
 def archive(crate):
     """The archive of a crate's exported functions: the one that LIBRARY names, or the one that is proved and built."""
-    return pathlib.Path(os.environ.get("LIBRARY") or ROOT / "target" / "staticlib" / f"lib{crate}.a").absolute()
+    return pathlib.Path(os.environ.get("LIBRARY") or ROOT / "crates" / crate / "out" / f"lib{crate}.a").absolute()
 
 
 def machine(library):

@@ -1,6 +1,6 @@
 #!/bin/sh
-# Builds the static library of crate host, links tests/host.c to it, and runs that. The library is for x86-64: on another processor the test
-# is cross-compiled and runs under the kit's emulator.
+# Builds the static library of crate host_c, links tests/host.c to it, and runs that. The library is for x86-64: on another processor the
+# test is cross-compiled, and runs under qemu-x86_64 where that is on the PATH.
 set -eu
 cd "$(dirname "$0")/.."
 compiler=x86_64-linux-gnu-gcc
@@ -13,16 +13,19 @@ if ! command -v "$compiler" >/dev/null; then
 fi
 
 mkdir -p target
-rt staticlib host >target/host.log 2>&1 || { tail -n 5 target/host.log >&2; echo 'tests/host.sh: crate host is not proved' >&2; exit 1; }
-"$compiler" -std=c99 -O2 -Wall -Wextra -Werror -Iinclude -static -o target/host tests/host.c target/staticlib/libhost.a
+if ! (cd crates/host_c && rt lib) >target/host.log 2>&1; then
+    tail -n 5 target/host.log >&2
+    echo 'tests/host.sh: crate host_c is not proved' >&2
+    exit 1
+fi
+"$compiler" -std=c99 -O2 -Wall -Wextra -Werror -Iinclude -static -o target/host tests/host.c crates/host_c/out/libhost_c.a
 
 python3 tests/listings.py >target/listings.txt
 
 # a static program needs no loader, so that the emulator runs it as it is
-emulator=$(dirname "$(dirname "$(rt doc)")")/on/$(uname -m)/toolchain/bin/qemu-x86_64
-if [ -x "$emulator" ]; then
-    echo "tests/host.sh: on $(uname -m), cross-compiled and run under the kit's emulator"
-    "$emulator" target/host target/listings.txt
-else
-    target/host target/listings.txt
+emulator=
+if [ "$(uname -m)" != x86_64 ] && command -v qemu-x86_64 >/dev/null; then
+    echo "tests/host.sh: on $(uname -m), cross-compiled and run under qemu-x86_64"
+    emulator=qemu-x86_64
 fi
+$emulator target/host target/listings.txt
