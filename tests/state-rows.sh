@@ -1,7 +1,7 @@
 #!/bin/sh
 # Runs node_rows_in, the node table of a whole state in a lent slice of row structs, as tests/rows.sh runs the tree's node_rows, and like it
-# by a program that is not proved and stands in no crate. It lends the first rows of 33 that all hold 9, and says what node_rows_in answers and
-# what all 33 hold then. What it must say is worked out here, by hand.
+# by a program that is not proved and stands in no crate. It lends the first rows of 33 that all hold 9, and says what node_rows_in answers
+# and what all 33 hold then. What it must say is worked out here, by hand.
 set -eu
 cd "$(dirname "$0")/.."
 room=$(mktemp -d)
