@@ -5,6 +5,7 @@ is only proved.
 
     python3 tests/believed.py            the lines of each crate, and whether all stands where it should
     python3 tests/believed.py --check    the same, and that README.md has these lines
+    python3 tests/believed.py --write    the same, and README.md has these lines from then on
 
 It fails where
 - the `ensures` of a public function cites a module of Laws;
@@ -35,6 +36,8 @@ PROVED = re.compile(r"^(?:pub )?([^\s:({]+)(?: \{[^}]*\})? :", re.M)
 EXPORTED = re.compile(r"^pub use (\w+)::(?:\{([^}]*)\}|(\w+));", re.M)
 FUNCTION = re.compile(r'^pub (?:extern "C" )?fn (\w+)(.*?)^\{', re.M | re.S)
 CONTENTS = {"Lib", "Laws", "Joints"}
+# in README.md
+TABLE = re.compile(r"^\| crate \| to be believed .*\n(?:\|.*\n)*", re.M)
 
 
 def tier(module):
@@ -150,8 +153,12 @@ def main():
     contents(wrong)
     rows = "\n".join(table(found))
     print(rows)
-    if "--check" in sys.argv and rows not in (ROOT / "README.md").read_text():
+    page = ROOT / "README.md"
+    text = page.read_text()
+    if "--check" in sys.argv and rows not in text:
         wrong.append("README.md has another table of lines than this")
+    if "--write" in sys.argv:
+        page.write_text(TABLE.sub(lambda _: rows + "\n", text, count=1))
     for line in wrong:
         print(f"tests/believed.py: {line}")
     print(f"{count} public functions, {sum(len(names) for names in JOINTS.values())} of them joints; {len(wrong)} things wrong")
