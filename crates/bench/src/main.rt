@@ -1,6 +1,7 @@
 // Runs the header test and the decoder over ROMs in hex on standard input, a line each. Behind H a ROM's header is tested; behind T the
 // token at each place of its program is shown too, in both offset widths, and the body that would be read from there. Places count FCode
 // bytes: a token is decoded of the ROM as it is given, spread or not, and a body is read of its FCode bytes, laid one behind the other.
+#![tactic(auto)]
 ghost use Rattle.io.specs.Counts.{IsPrefixLen};
 
 use given::{SPACE, bytes_from, mark_from};

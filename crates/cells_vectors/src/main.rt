@@ -1,5 +1,6 @@
 // Runs every token of the crate cells at the ends of the range, and prints a line for each: the token's number, the cells that it
 // takes, the lowest first, and what it gives.
+#![tactic(auto)]
 use cells::Divided;
 use libc::STDOUT_FILENO;
 

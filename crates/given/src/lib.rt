@@ -1,5 +1,6 @@
 // What the test programs are given, a line of standard input each: where a mark stands in it, and the bytes and the numbers that it holds.
 // A ROM is a word of bytes in hex, each of them alone or with how often it stands between two stars behind it: 'FD08007B*3*00'.
+#![tactic(auto)]
 ghost use Rattle.std.specs.Prelude.{◌≡◌, ◌<◌, ◌≤◌, length};
 ghost use Rattle.io.specs.Counts.{IsPrefixLen};
 

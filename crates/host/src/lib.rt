@@ -1,5 +1,6 @@
 // What a C program calls: numbers and byte slices, nothing else. include/fcode.h declares it. A slice is a pointer and a count of
 // bytes in C. Every call is total; a null pointer is fine where the count is 0.
+#![tactic(auto)]
 ghost use Rattle.std.specs.Prelude.{◌≡◌};
 ghost use Rattle.rom.specs.Header.{header_of};
 ghost use Rattle.rom.specs.Spread.{fcode_of};

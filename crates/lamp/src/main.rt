@@ -1,6 +1,7 @@
 // The program behind ./lamp. Its first word says what is asked: list FILE BUDGET, tokens FILE, explain FILE BUDGET, scan text|csv BUDGET,
 // numbers. A FILE of a dash is standard input. Lines go to standard output, what is wrong to standard error, and the exit status, one
 // digit, to descriptor 3.
+#![tactic(auto)]
 mod budget;
 mod dump;
 mod judge;

@@ -1,4 +1,6 @@
 // The two windows of the address space, and what is fetched from them and written to work memory. Every call is total.
+#![tactic(auto)]
+
 mod cell;
 mod window;
 mod writing;

@@ -1,5 +1,7 @@
 // A ROM's bytes, its header and its branches. All but the sum, which runs over the bytes as they lie, is read by `byte`. Places are counted
 // in 32 bits, so that a place a few bytes on never wraps.
+#![tactic(auto)]
+
 mod branch;
 mod bytes;
 mod header;

@@ -3,6 +3,7 @@
 // way that has this number, and offered again. Behind L stands the same and another ROM, with which the state is offered. Behind W stands
 // what stands behind D, for a state that is altered and still whole. Behind O stand a ROM and a budget, for the order in which the tests of
 // a step and a run come.
+#![tactic(auto)]
 mod damage;
 mod evaluator;
 mod finds;

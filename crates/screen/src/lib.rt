@@ -1,4 +1,5 @@
 // The screen: whether stack heights can be assigned to a ROM by document 01's rules.
+#![tactic(auto)]
 mod body;
 mod cell;
 mod effect;

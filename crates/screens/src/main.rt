@@ -1,5 +1,6 @@
 // Screens ROMs, and shows the answer and the mark buffer: a line of standard input each, by its first letter. Behind S stands a ROM in hex,
 // behind W the mark buffer's size and a ROM, behind M how often a ROM is screened, and the ROM.
+#![tactic(auto)]
 mod say;
 mod show;
 

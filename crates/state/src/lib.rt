@@ -1,5 +1,7 @@
 // The evaluator's state, what it takes to be whole, how a ROM is opened to one, and the moves on it that every token goes by: push, pop,
 // call and leave. specs/ has what a token, a step and a run are. Every public call is total.
+#![tactic(auto)]
+
 mod answer;
 mod apart;
 mod lookup;

@@ -1,6 +1,8 @@
 // The token list of document 01 with its names, the token at a place, whole, at a glance or by a quick read, reading a body to its end,
 // and a reader that goes from place to place. Every call is total: any bytes, any place, any length; but a table that is lent must be that
 // of `first_codes`, `quick_at` wants a place before the length, and `glance_from` what that has read. Places are counted in 32 bits.
+#![tactic(auto)]
+
 mod body;
 mod code;
 mod decoding;

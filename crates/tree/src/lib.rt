@@ -1,5 +1,7 @@
 // The nodes and their properties. For who looks something up the tree is a value, and the call total; for who writes it is taken apart and
 // lent. The bytes of names and values lie in a store that is lent.
+#![tactic(auto)]
+
 mod in_place;
 mod lookup;
 mod node;

@@ -54,7 +54,7 @@ record SameFrames (k : ℕ) (calls then : Calls) : Type 0 where
   wides : (i : ℕ) → i < k → get_or then.wides i false ≡ get_or calls.wides i false
   bases : (i : ℕ) → i < k → get_or then.bases i 0 ≡ get_or calls.bases i 0
 
-calls_kept : {rom : List ℕ} {a : Assignment rom} {calls then : Calls} {es : List OpenCall} {home k x floor base : ℕ} {outer : Setting}
+calls_kept : {rom : List ℕ} {a : Assignment rom} {calls then : Calls} {home : ℕ} {outer : Setting} {es : List OpenCall} {k x floor base : ℕ}
     → CallChain a calls home outer es k x floor base → SameFrames k calls then → CallChain a then home outer es k x floor base
 calls_kept outside e = outside
 calls_kept {calls = calls} {then = then} (within {k = k} c g h p w b) e =
@@ -84,7 +84,7 @@ module _ {rom : List ℕ} (a : Assignment rom) where
     pub at : AtHome x q s home outer
     pub numbers : Carried rom home ns
 
-  pub home_on : {calls : Calls} {es : List OpenCall} {home k x floor base p q : ℕ} {outer s : Setting} {t : Token} {ns : Numbers}
+  pub home_on : {calls : Calls} {home : ℕ} {es : List OpenCall} {k x floor base p q : ℕ} {outer s : Setting} {t : Token} {ns : Numbers}
       → CallChain a calls home outer es k x floor base
       → Met rom x s p t → T (not (fixes t)) → Holds rom (leads s.wide p t q) → AtHome x p s home outer → Carried rom home ns
       → Homed calls outer es k x floor base q s ns

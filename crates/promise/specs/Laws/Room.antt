@@ -86,8 +86,8 @@ own_frame_lem {rom} a {d} {e} {n} f k i =
     omega arith
 
 -- ---- where the state stands is not past home
-pub not_past : {rom : List ℕ} (a : Assignment rom) {calls : Calls} {es : List OpenCall} {home k x floor base p : ℕ} {outer s : Setting}
-    → CallChain a calls home outer es k x floor base → Reach rom x s p → AtHome x p s home outer → p ≤ home
+pub not_past : {rom : List ℕ} (a : Assignment rom) {calls : Calls} {home : ℕ} {es : List OpenCall} {k x floor base p : ℕ}
+    {outer s : Setting} → CallChain a calls home outer es k x floor base → Reach rom x s p → AtHome x p s home outer → p ≤ home
 not_past a outside r h = let e = h.0 in omega arith
 not_past a (within c g y q w v) r h =
     let b = body_within a g.defined g.colon r in
@@ -110,8 +110,8 @@ pub record Outer {rom : List ℕ} (a : Assignment rom) (es : List OpenCall) (k x
   pub height : a.height x p ≡ a.height 0 home
   pub back : a.back x p ≡ a.back 0 home
 
-pub fixed_outer : {rom : List ℕ} (a : Assignment rom) {calls : Calls} {es : List OpenCall} {home k x floor base p : ℕ} {outer s : Setting}
-    {t : Token}
+pub fixed_outer : {rom : List ℕ} (a : Assignment rom) {calls : Calls} {home : ℕ} {es : List OpenCall} {k x floor base p : ℕ}
+    {outer s : Setting} {t : Token}
     → CallChain a calls home outer es k x floor base → Met rom x s p t → AtHome x p s home outer → T (fixes t || is_a finish t)
     → Outer a es k x floor base p home s outer t
 fixed_outer {rom} a {home = home} {s = s} {t = t} outside m h f =
@@ -133,8 +133,8 @@ fixed_outer {rom} a {p = p} {s = s} {t = t} (within c g y q w v) m h f =
     absurd (T_not (fixes t || is_a finish t) n f)
 
 -- leaving a body is done at its base
-pub leave_base : {rom : List ℕ} (a : Assignment rom) {calls : Calls} {es : List OpenCall} {home k x floor base p : ℕ} {outer s : Setting}
-    {t : Token}
+pub leave_base : {rom : List ℕ} (a : Assignment rom) {calls : Calls} {home : ℕ} {es : List OpenCall} {k x floor base p : ℕ}
+    {outer s : Setting} {t : Token}
     → CallChain a calls home outer es k x floor base → Met rom x s p t → T (is_a leave t) → a.back x p ≡ 0
 leave_base {rom} a {p = p} {s = s} {t = t} outside m l =
     absurd (T_not (is_a leave t) (fails (is_a leave t) (leave_inside rom (length_of rom) s.wide p t m.is)) l)

@@ -160,7 +160,8 @@ module _ {rom : List ℕ} (a : Assignment rom) where
         let e : n ≡ budget = omega arith in
         subst (λ v. RunEnds rom work store before budget (ended (Spent v) v s)) (sym e)
         (runs_out (subst (λ v. Trail rom work store (before + v) open_calls s) e t))
-    tokens_end {open_calls} {s} before budget (suc k) n b t = by (token_turn s).answer refl (λ i u. tokens_end before budget k (n + 1) i u)
+    tokens_end {open_calls} {s} before budget (suc k) n b t =
+        by (token_turn s).answer refl (λ i u. tokens_end {open_calls = calls_then} {s = next} before budget k (n + 1) i u)
       where
         next : Scene
         next = then s (token_turn s)
@@ -208,7 +209,7 @@ module _ {rom : List ℕ} (a : Assignment rom) where
 
   -- ---- heights
   high_chain : {marks : List ℕ} {st : State} → Marks rom a marks
-      → {open_calls : List OpenCall} {home k x floor base : ℕ} {outer s : Setting}
+      → {home : ℕ} {open_calls : List OpenCall} {k x floor base : ℕ} {outer s : Setting}
       → CallChain a st.calls home outer open_calls k x floor base → Reach rom x s st.place
       → st.stack.height ≡ floor + a.height x st.place
       → HeightIs marks st open_calls
@@ -223,7 +224,7 @@ module _ {rom : List ℕ} (a : Assignment rom) where
       a.height (suc d) st.place}
       (f ∙ ap suc n) (omega arith) (m.height r) (omega arith)
 
-  calls_length : {calls : Calls} {open_calls : List OpenCall} {home k x floor base : ℕ} {outer : Setting}
+  calls_length : {calls : Calls} {home : ℕ} {outer : Setting} {open_calls : List OpenCall} {k x floor base : ℕ}
       → CallChain a calls home outer open_calls k x floor base
       → length open_calls ≡ k
   calls_length outside = refl

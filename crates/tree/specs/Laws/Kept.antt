@@ -1,5 +1,5 @@
 -- A whole tree stays whole: a child; and the parent of a node is there. Assumes nothing.
-use Rattle.std.specs.Prelude.{ℕ, zero, suc, ◌+◌, ◌-◌, ◌≤◌, ◌<◌, true, false, not, List, ◌≢◌, ◌≡◌, length, get_or, set, T, leb, ltb}
+use Rattle.std.specs.Prelude.{ℕ, zero, suc, ◌+◌, ◌≤◌, ◌<◌, true, false, List, ◌≢◌, ◌≡◌, length, get_or, set, T, leb, ltb}
 use Rattle.std.proofs.Common.{arith, get_or-set_same, get_or-set_other, ltb→lt, lt→ltb, le-leb, leb-false}
 use Rattle.std.proofs.Math.Decide.{dec_le}
 use Rattle.std.proofs.Math.ListN.{get_or-eq_default}

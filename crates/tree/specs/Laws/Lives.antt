@@ -1,8 +1,8 @@
 -- Live bytes after a store of two lengths, and the node and the name that a record was found by. Assumes nothing.
-use Prim.Native.Nat.{ℕ, zero, suc, ◌+◌, ◌-◌, ◌≤◌, ◌<◌}
+use Prim.Native.Nat.{ℕ, zero, suc, ◌+◌, ◌≤◌, ◌<◌}
 use native.Mathlib.Omega.{arith}
 use Rattle.std.proofs.Math.Decide.{dec_le}
-use Rattle.std.specs.Prelude.{true, false, List, [], ◌∷◌, ◌≡◌, length, get_or, set, eqb}
+use Rattle.std.specs.Prelude.{true, List, [], ◌∷◌, ◌≡◌, length, get_or, set, eqb}
 use Rattle.std.proofs.Common.{true≢false, sym, ap, ◌∙◌, eqb-true}
 use Rattle.std.proofs.Math.Path.{refl}
 use Rattle.std.proofs.Math.Seq.{get_or-set_same, get_or-set_other}

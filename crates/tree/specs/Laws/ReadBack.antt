@@ -59,7 +59,8 @@ read_back t (p ∷ ps) i before behind at e r =
     rw y (part_seam (before ++ n) v (l ++ behind) (at + length n) (length v) d refl) in
     let tl : held_from t (before ++ (n ++ (v ++ (l ++ behind)))) (length ps) (i + 1) (at + length n + length v) ≡ ps =
     rw (y ∙ z) (read_back t ps (i + 1) ((before ++ n) ++ v) behind (at + length n + length v) h r.1) in
-    rw (x, o, f, g, pn, pv, tl)
+    let told : held_from t (before ++ (n ++ (v ++ (l ++ behind)))) (suc (length ps)) i at ≡ p ∷ ps = rw (o, f, g, pn, pv, tl) in
+    ap (λ (y : List ℕ). held_from t y (suc (length ps)) i at) x ∙ told
 
 module _ (t : Tree) (store : List ℕ) (node : ℕ) (name value : List ℕ) (j : ℕ) (z : SizedTree t) (b : j < properties_most) where
   abbrev then : Tree

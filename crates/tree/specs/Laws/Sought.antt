@@ -1,17 +1,17 @@
 -- What it means that a property is found, and that it is not: of a whole tree, a store of its size and a path of good form, `find_property`
 -- gives 30 exactly where the path leads to no node, or the node that it leads to holds no property of that name; and a place and a size
 -- exactly where the node holds one, whose value's bytes lie there. Assumes nothing.
-use Rattle.std.specs.Prelude.{ℕ, ◌+◌, ◌≤◌, Bool, false, ◌&&◌, ◌⊎◌, length, eqb}
+use Rattle.std.specs.Prelude.{ℕ, ◌+◌, ◌≤◌, false, ◌⊎◌, length, eqb}
 use native.Mathlib.Omega.{arith}
 use Rattle.std.proofs.Math.Bool.{true}
 use Rattle.std.proofs.Common.{true≢false, inl, inr, ap, ◌∙◌, eq-eqb, eqb-true}
 use mathlib.Core.List.{List, [], ◌∷◌}
-use Rattle.std.proofs.Math.Option.{Option, none, some}
+use Rattle.std.proofs.Math.Option.{none, some}
 use Rattle.std.proofs.Math.Path.{◌≡◌, refl, sym}
 use Rattle.cells.specs.Laws.Facts.{and_first, and_second, when_true, when_false}
 use Rattle.memory.specs.Window.{part_of}
 use Rattle.rom.specs.Sizes.{store_size}
-use Rattle.tree.specs.Held.{Property, held_of, live_of, same_bytes, matches}
+use Rattle.tree.specs.Held.{Property, held_of, same_bytes, matches}
 use Rattle.tree.specs.Whole.{whole_tree}
 use Rattle.tree.specs.Path.{malformed, value_in, find_node_of, named_place, find_property_of}
 use Rattle.tree.specs.Laws.Layout.{either}

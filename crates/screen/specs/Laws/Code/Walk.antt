@@ -129,9 +129,10 @@ unfolding stack_of
 kept_place n work place top v work' z l e f =
     let o : top + 1 ≡ suc top = omega arith in
     let g = ne_eqb place 0 z in
+    let p = ap (λ (y : List ℕ). stack_of y (suc top)) (f ∙ ap (λ (y : ℕ). set work top y) e) in
     record {
       count = rw g o;
-      stack = rw (o, f, e, g, get_or-set_same work top place 0 l, stack_kept work top place top (omega arith)) refl;
+      stack = rw (o, p, g, get_or-set_same work top place 0 l, stack_kept work top place top (omega arith)) refl;
       waiting = λ w near. record { each = λ i h. rw (f, e) (by w near i (omega arith) (ℕ_discrete i top)) };
     }
   where

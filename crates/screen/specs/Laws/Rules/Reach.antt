@@ -58,8 +58,11 @@ by_start {rom} {w} {p} {q} {t} Q e s h f = by (split e s) h f
 pub prepend : {rom : List ℕ} {w : Bool} {p q : ℕ} {t : Token} → token_at rom 1 w p ≡ Good t → (t.number ≡ 0xC2 → ⊥)
     → Starts rom w t.next q
     → Starts rom w p q
-prepend e n Starts.entry = Starts.behind Starts.entry e n
-prepend e n (Starts.behind s f m) = Starts.behind (prepend e n s) f m
+prepend {rom} {w} {p} {q} {t} e n s = onto s
+  where
+    onto : {r : ℕ} → Starts rom w t.next r → Starts rom w p r
+    onto Starts.entry = Starts.behind Starts.entry e n
+    onto (Starts.behind s' f m) = Starts.behind (onto s') f m
 
 -- ---- where a body ends
 -- the C2 that ends a body is a start of it, and is before the length

@@ -1,0 +1,12 @@
+use Rattle.std.proofs.Common.{sym}
+use Rattle.cells.specs.Arithmetic.{rshift_of}
+use Rattle.cells.specs.Laws.Tests.{chosen_below, chosen_from}
+use Rattle.cells.proofs.rshift.Goals as goal
+
+pub returns-then-n-lt32 : goal.returns-then-n-lt32
+unfolding rshift_of
+returns-then-n-lt32 c = sym (chosen_below _ _ c.args.n 32 c.if-n-lt32.true)
+
+pub returns-else-n-lt32 : goal.returns-else-n-lt32
+unfolding rshift_of
+returns-else-n-lt32 c = sym (chosen_from _ _ c.args.n 32 c.if-n-lt32.false)

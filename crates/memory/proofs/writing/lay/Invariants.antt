@@ -1,0 +1,10 @@
+use Rattle.std.proofs.Common.{◌+◌, ◌-◌, ◌≤◌, ◌≡◌, length, drop}
+use Rattle.memory.specs.Writing.{written_of}
+use Rattle.memory.proofs.writing.lay.Given as goal
+
+-- what is left to write gives what the whole gives
+abbrev pub invariant-loop-i : goal.invariant-loop-i
+invariant-loop-i l = (l.i ≤ length l.bytes) × (length l.memory ≡ length l.initial.memory) × (written_of l.memory (l.at + l.i) (drop l.i l.bytes) ≡ written_of l.initial.memory l.at l.bytes)
+
+abbrev pub decreases-loop-i : goal.decreases-loop-i
+decreases-loop-i l = length l.bytes - l.i

@@ -1,0 +1,17 @@
+use Rattle.std.proofs.Common.{le-ltb, lt-ltb}
+use Rattle.rom.specs.Laws.Spread.{same_most}
+use Rattle.rom.proofs.header.wrong_rom.Goals as goal
+
+pub returns-then-count-lt-ROM_LEAST : goal.returns-then-count-lt-ROM_LEAST
+returns-then-count-lt-ROM_LEAST c = rw (← c.fcode_count-count.ensures, lt-ltb _ _ c.if-count-lt-ROM_LEAST.true)
+
+pub returns : goal.returns
+returns c =
+    let a = c.args in
+    rw (
+      ← c.fcode_count-count.ensures,
+      le-ltb _ _ c.if-count-lt-ROM_LEAST.false,
+      same_most a.spread
+          a.rom.now,
+      ← c.fcode_most.ensures,
+    )

@@ -1,0 +1,8 @@
+use Rattle.std.proofs.Common.{◌∙◌}
+use Rattle.state.specs.Laws.Lookup.{node_shown}
+use Rattle.state.proofs.lookup.find_node_in.Goals as goal
+
+pub returns : goal.returns
+returns c =
+    let a = c.args in
+    rw c.tree_or_none.ensures at c.find_node.ensures ∙ node_shown a.state a.store.now a.path.now

@@ -1,0 +1,17 @@
+use Rattle.std.proofs.Common.{sym, ◌∙◌}
+use Rattle.tokens.proofs.Bodies.{ends_here, refused_here}
+use Rattle.tokens.proofs.body.stopped.Goals as goal
+
+pub returns-then-ends_at : goal.returns-then-ends_at
+returns-then-ends_at c =
+    let a = c.args in
+    ends_here a.rom.now a.length a.wide a.place (sym c.ends_at.ensures ∙ c.if-ends_at.true)
+
+pub returns-in-Refused : goal.returns-in-Refused
+returns-in-Refused c = rw (← c.read_at.ensures, c.in-Refused.is)
+
+pub returns-in-Good : goal.returns-in-Good
+returns-in-Good c =
+    let a = c.args in
+    let h = refused_here a.rom.now a.length a.wide a.place (sym c.ends_at.ensures ∙ c.if-ends_at.false) in
+    rw (← c.read_at.ensures, c.in-Good.is) (sym (rw (← c.read_at.ensures, c.in-Good.is) at h))
