@@ -1,6 +1,7 @@
 // The tokens that crate reckon leaves, in place on the lent arrays of a state that is taken apart. For the loop of crate machine, which
 // keeps heights, tables and records as `cold_token` requires; it is no call to make from elsewhere.
 #![tactic(auto)]
+
 mod acted;
 mod define;
 mod dispatch;

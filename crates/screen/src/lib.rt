@@ -1,5 +1,6 @@
 // The screen: whether stack heights can be assigned to a ROM by document 01's rules.
 #![tactic(auto)]
+
 mod body;
 mod cell;
 mod effect;

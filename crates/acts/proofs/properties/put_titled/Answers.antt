@@ -1,0 +1,59 @@
+use Rattle.acts.proofs.Cold.{title_low}
+use Rattle.acts.proofs.Keeping.{title_bad_told, title_told, put_same, filed_back, filed_numbers}
+use Rattle.acts.specs.Joints.Acts.{on_files}
+use Rattle.state.specs.Joints.Apart.{joined, taken_on}
+use Rattle.state.specs.Laws.Done.{stopped}
+use Rattle.std.proofs.Common.{sym, refl, ◌∙◌}
+use Rattle.acts.proofs.properties.put_titled.Goals as goal
+
+pub returns-then-core-lt2 : goal.returns-then-core-lt2
+returns-then-core-lt2 c =
+    let pre = c.requires in
+    rw c.refuse.ensures (λ a w o. sym (stopped _ _ 14 refl (title_low _ _ o _ c.if-core-lt2.true)), pre.2, refl)
+
+pub returns-then-bad_string : goal.returns-then-bad_string
+returns-then-bad_string c =
+    let args = c.args in
+    let pre = c.requires in
+    rw c.refuse-then-bad_string.ensures (
+      λ a w. title_bad_told args.rom.now args.work.now args.store.now
+          (joined (on_files args.cells.now args.owners.now args.titles.now args.sizes.now a) args.core) args.number
+          args.next pre.0 c.if-core-lt2.false (taken_on
+          (on_files args.cells.now args.owners.now args.titles.now args.sizes.now a) c.pop-p.result)
+          (taken_on (on_files args.cells.now args.owners.now args.titles.now args.sizes.now a) c.pop-q.result)
+          (c.pop-p.ensures (on_files args.cells.now args.owners.now args.titles.now args.sizes.now a))
+          (c.pop-q.ensures (on_files args.cells.now args.owners.now args.titles.now args.sizes.now a)) _
+          (sym c.bad_string.ensures ∙ c.if-bad_string.true) refl,
+      pre.2,
+      refl,
+    )
+
+pub put_title-kept-requires : goal.put_title-kept-requires
+put_title-kept-requires c =
+    let pre = c.requires in
+    pre.2
+
+pub file_kept-requires : goal.file_kept-requires
+file_kept-requires c = c.if-core-lt2.false
+
+pub returns : goal.returns
+returns c =
+    let x = c.args in
+    let k = x.core in
+    let n =
+    filed_numbers k 2 x.next c.put_title-kept.result.held c.put_title-kept.result.tail c.put_title-kept.result.outcome _ c.file_kept.ensures in (
+      λ a w.
+          let b = on_files x.cells.now x.owners.now x.titles.now x.sizes.now a in
+          let st = joined b k in
+          let e = c.put_title-kept.ensures.0 st.tree w in
+          let low = c.if-core-lt2.false in
+          let valued = sym c.bad_string.ensures
+          ∙ c.if-bad_string.false in
+          let value = c.resolve-value.ensures in
+          title_told x.rom.now x.work.now x.store.now st x.number x.next c.requires.0 low (taken_on b c.pop-p.result)
+          (taken_on b c.pop-q.result) (c.pop-p.ensures b) (c.pop-q.ensures b) _ _ _ _ valued c.requires.2.0 w value e.0 e.1
+          (filed_back b _ k 2 x.next c.put_title-kept.result.held c.put_title-kept.result.tail _ c.put_title-kept.result.outcome _ refl c.file_kept.ensures refl
+          (λ why d. put_same _ why d st.tree _ _ _ _ e.0)),
+      rw (n.0, n.1) c.put_title-kept.ensures.1,
+      n.2,
+    )

@@ -1,0 +1,17 @@
+use Rattle.reckon.proofs.Arms.{three_fine}
+use Rattle.reckon.proofs.Given.{three_code}
+use Rattle.reckon.proofs.Paths.{data_low}
+use Rattle.std.proofs.Common.{refl, rules}
+use Rattle.reckon.proofs.reckon.by_three.Goals as goal
+
+pub returns-then-h-lt3 : goal.returns-then-h-lt3
+returns-then-h-lt3 c =
+    let a = c.args in
+    rw c.refuse.ensures (data_low a.number a.h a.b a.place 0x0100_0031 a.stack.now
+    (three_code a.number c.requires.0) (refl, refl, refl, refl) c.requires.1 c.requires.2 (search rules))
+
+pub returns : goal.returns
+returns c =
+    let a = c.args in
+    rw c.on.ensures (three_fine a.h a.b a.place a.stack.now c.requires.1 c.requires.2 a.number
+    c.three.result c.requires.0 (search rules) c.three.ensures)

@@ -1,0 +1,19 @@
+use Rattle.reckon.proofs.Arms.{rot_fine}
+use Rattle.reckon.proofs.Paths.{data_low}
+use Rattle.tokens.specs.Code.{code_of}
+use Rattle.tokens.specs.Table.{ends, lows, highs, doubles, table, row_of}
+use Rattle.std.proofs.Common.{refl, rules}
+use Rattle.reckon.proofs.reckon.rot.Goals as goal
+
+pub returns-then-h-lt3 : goal.returns-then-h-lt3
+unfolding code_of row_of table ends lows highs doubles
+returns-then-h-lt3 c =
+    let a = c.args in
+    rw c.refuse.ensures (data_low 0x4A a.h a.b a.place 0x0100_0033 a.stack.now refl (refl, refl, refl, refl)
+    c.requires.0 c.requires.1 (search rules))
+
+pub returns : goal.returns
+unfolding code_of row_of table ends lows highs doubles
+returns c =
+    let a = c.args in
+    rw c.on.ensures (rot_fine a.h a.b a.place a.stack.now c.requires.0 c.requires.1 (search rules))

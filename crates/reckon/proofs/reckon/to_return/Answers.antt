@@ -1,0 +1,21 @@
+use Rattle.reckon.proofs.Returns.{to_low, to_high, to_fine}
+use Rattle.std.proofs.Common.{rules}
+use Rattle.reckon.proofs.reckon.to_return.Goals as goal
+
+pub returns-then-h-lt1 : goal.returns-then-h-lt1
+returns-then-h-lt1 c =
+    let a = c.args in
+    rw c.refuse.ensures (λ base. to_low base a.h a.b a.place a.stack.now a.back.now c.requires.0 c.requires.1
+    (search rules))
+
+pub returns-then-b-ge32 : goal.returns-then-b-ge32
+returns-then-b-ge32 c =
+    let a = c.args in
+    rw c.refuse-then-b-ge32.ensures (λ base. to_high base a.h a.b a.place a.stack.now a.back.now c.requires.0 c.requires.1
+    (search rules) (search rules))
+
+pub returns : goal.returns
+returns c =
+    let a = c.args in
+    rw c.on.ensures (λ base. to_fine base a.h a.b a.place a.stack.now a.back.now c.requires.0 c.requires.1
+    (search rules) (search rules))

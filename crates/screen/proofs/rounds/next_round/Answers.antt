@@ -1,0 +1,40 @@
+use Rattle.std.proofs.Common.{sym, ◌∙◌, refl, false}
+use Rattle.cells.specs.Laws.Facts.{not_on, not_off}
+use Rattle.screen.specs.Laws.Code.Round.{defining, behind_refused, behind_ends, behind_fails, behind_goes}
+use Rattle.screen.proofs.rounds.next_round.Goals as goal
+
+pub returns-then-not-fixes : goal.returns-then-not-fixes
+returns-then-not-fixes c =
+    let a = c.args in
+    let r = sym c.read_at.ensures ∙ c.in-Good.is in
+    let f = sym c.fixes.ensures ∙ not_off c.fixes.result c.if-not-fixes.true-raw in
+    (λ go. behind_ends a.rom.now a.length a.seen.now a.kinds.now a.sums.now a.stand a.far _ r f go, refl)
+
+pub advance-t-requires : goal.advance-t-requires
+advance-t-requires c =
+    let a = c.args in
+    let p = c.requires in
+    let r = sym c.read_at.ensures ∙ c.in-Good.is in
+    (p.0, p.1, defining a.rom.now a.length a.stand.wide false a.far _ r, p.2, p.3)
+
+pub returns-in-Refused : goal.returns-in-Refused
+returns-in-Refused c =
+    let a = c.args in
+    λ go. behind_refused a.rom.now a.length a.seen.now a.kinds.now a.sums.now a.stand a.far _
+    (sym c.read_at.ensures ∙ c.in-Refused.is) go
+
+pub returns-then-t : goal.returns-then-t
+returns-then-t c =
+    let a = c.args in
+    let r = sym c.read_at.ensures ∙ c.in-Good.is in
+    let f = sym c.fixes.ensures ∙ not_on c.fixes.result c.if-not-fixes.false-raw in
+    behind_goes a.rom.now a.length a.seen.now a.kinds.now a.sums.now a.stand a.far _ _ r f
+    c.cell_at-cell.ensures _ _ _ _ c.advance-t.ensures c.if-t.true
+
+pub returns-else-t : goal.returns-else-t
+returns-else-t c =
+    let a = c.args in
+    let r = sym c.read_at.ensures ∙ c.in-Good.is in
+    let f = sym c.fixes.ensures ∙ not_on c.fixes.result c.if-not-fixes.false-raw in
+    λ go. behind_fails a.rom.now a.length a.seen.now a.kinds.now a.sums.now a.stand a.far _ _ r f
+    c.cell_at-cell.ensures _ _ _ _ c.advance-t.ensures c.if-t.false go
