@@ -12,7 +12,7 @@ passed=0
 failed=0
 said=$room/said
 kit=$room/kit
-tools=$kit/on/$(uname -m)/toolchain
+tools=$kit/toolchain
 project="$room/the project"
 lamp=$project/lamp
 
@@ -64,7 +64,7 @@ wait_for() {
 
 # fresh MOOD: nothing is built, and rt will do as the mood says
 fresh() {
-    rm -rf "$project/target" "$kit/go" "$room"/one.* "$room"/two.*
+    rm -rf "$project/target" "$project"/crates/*/out "$kit/go" "$room"/one.* "$room"/two.*
     : >"$kit/calls"
     echo "$1" >"$kit/mood"
 }
@@ -87,8 +87,8 @@ measure() {
 
 # ---- a kit that is made up
 
-mkdir -p "$kit/bin" "$kit/docs" "$tools/lib" "$room/none" "$room/caller"
-: >"$kit/docs/START-HERE.md"
+mkdir -p "$kit/bin" "$tools/lib" "$room/none" "$room/caller"
+: >"$kit/START-HERE.md"
 echo 'a C library' >"$tools/lib/libc.so.6"
 cat >"$tools/lib/ld-linux-x86-64.so.2" <<'END'
 #!/bin/sh
@@ -96,72 +96,67 @@ cat >"$tools/lib/ld-linux-x86-64.so.2" <<'END'
 shift 2
 exec sh "$@"
 END
+# proves one crate at a call, begins with base, and has proved right already
 cat >"$kit/bin/rt" <<'END'
 #!/bin/sh
 kit=${0%/bin/rt}
-if [ "$*" = doc ]; then
-    echo "$kit/docs/START-HERE.md"
-    exit
-fi
-[ "$*" = 'check lamp' ] && [ -f crates.txt ] || exit 2
-echo "$*" >>"$kit/calls"
+crate=${PWD##*/}
+case "$crate $*" in
+    *' doc') echo "$kit/START-HERE.md"; exit ;;
+    'lamp run -- numbers') ;;
+    *' lib') [ "$crate" != lamp ] || exit 2 ;;
+    *) exit 2 ;;
+esac
+[ -f ../../crates.txt ] || exit 2
+[ "$crate" != base ] || echo "$*" >>"$kit/calls"
 mood=$(cat "$kit/mood")
-[ "$mood" != once ] || [ "$(wc -l <"$kit/calls")" -gt 1 ] || refuse=yes
-echo 'rt: base proved (1 s)'
-case $mood in
-    waits | once)
+case $mood-$crate in
+    waits-right | once-right)
         tries=0
         until [ -e "$kit/go" ] || [ "$tries" -ge 200 ]; do
             sleep 0.05
             tries=$((tries + 1))
         done
+        [ "$mood" != once ] || [ "$(wc -l <"$kit/calls")" -gt 1 ] || refuse=yes
         ;;
-    refused) refuse=yes ;;
-    killed) kill -KILL $$ ;;
-    broken)
-        echo 'rt: left NOT PROVED (exit 137, 3 s)'
-        exit 2
-        ;;
-    changes) echo more >>crates/left/src/lib.rt ;;
+    refused-left) refuse=yes ;;
+    killed-left) kill -KILL $$ ;;
+    broken-left) exit 2 ;;
+    changes-left) echo more >>src/lib.rt ;;
 esac
 if [ -n "${refuse-}" ]; then
-    echo 'crates/left/src/lib.rt:1: error'
-    echo 'rt: left NOT PROVED (exit 1, 1 s)'
-    echo 'rt: right proved (1 s)'
-    echo 'rt: lamp NOT PROVED: its dependency left is not proved'
+    echo "crates/$crate/src/lib.rt:1: error"
     exit 1
 fi
-echo 'rt: left proved (1 s)'
-echo 'rt: right proved (unchanged since it was last proved)'
-echo 'rt: lamp proved (1 s)'
-if [ "$mood" = differs ]; then
-    echo 'rt: lamp proved, and its run FAILED (0 s)'
-    exit 1
-fi
-[ "$mood" != unbuilt ] || exit 0
-mkdir -p target/bin
-cp "$kit/program" target/bin/lamp
+[ "$crate" = right ] || echo "fn $crate::all: proved"
+[ "$crate" = lamp ] && [ "$mood" != unbuilt ] || exit 0
+mkdir -p out
+cp "$kit/program" out/lamp
+echo 'rt: running out/lamp'
+[ "$mood" != differs ]
 END
-# says its words and the names that it is handed, and ends as ENDS has it
+# says its words and the names that it is handed, each with its link, and ends as ENDS has it
 cat >"$kit/program" <<'END'
-[ "$1" != scan ] || [ -n "${SKIPS-}" ] || names=$(tr '\0' '|' <&4)
-printf '%s' "$1"
+names=
+if [ "$1" = scan ]; then
+    [ -n "${SKIPS-}" ] || names=$(tr '\0' '|' <"$4" | sed 's/||/|/g')
+    set -- "$1" "$2" "$3"
+fi
+printf '%s' "$1" || exit 2
 shift
 for word in "$@"; do printf ' [%s]' "$word"; done
 printf '%s\n' "${names:+ $names}"
 [ -z "${READS-}" ] || cat
 case ${ENDS=0} in
-    nothing) ;;
     killed) kill -KILL $$ ;;
     flood) for line in $(seq 1 10000); do echo "$line: more than a pipe holds" || exit; done ;;
-    bytes) printf 'a\0b\377\n\n\nc' && printf 'd\0e\n\nf' >&2 && printf 0 >&3 ;;
+    bytes) printf 'a\0b\377\n\n\nc' && printf 'd\0e\n\nf' >&2 ;;
     open)
         for number in 3 4 5 6 7 8 9; do
             if { true <&"$number"; } 2>/dev/null; then echo "$number"; fi
         done
-        printf 0 >&3
         ;;
-    *) printf '%s' "$ENDS" >&3 ;;
+    *) exit "$ENDS" ;;
 esac
 END
 chmod 755 "$kit/bin/rt" "$tools/lib/ld-linux-x86-64.so.2"
@@ -175,8 +170,8 @@ cat >"$project/crates.txt" <<'END'
 # NAME: the crates that it names
 base:
 left: base
-aside: base io
-lamp: left right base io os libc   # the program
+aside: base log
+lamp staticlib: left right base log   # the program
 right: base
 END
 for crate in base left right aside lamp; do
@@ -189,8 +184,7 @@ echo board >"$project/crates/lamp/data/scale.rom"
 code=$project/crates/left/src/lib.rt
 
 PATH=$kit/bin:$PATH
-RT_JOBS=2
-export PATH RT_JOBS
+export PATH
 usage='
 usage: ./lamp [FILE [BUDGET]]
        ./lamp scan [--budget N] [--csv] FILE|FOLDER...
@@ -204,8 +198,8 @@ lamp: proving crate 2 of 4: left
 lamp: proving crate 3 of 4: right
 lamp: right is unchanged since it was last proved
 lamp: proving crate 4 of 4: lamp"
-# the same where rt goes no further than its first two crates
-two_steps=$(printf '%s\n' "$progress" | sed '/unchanged\|: lamp$/d')
+# the same where no crate behind the second is begun
+two_steps=$(printf '%s\n' "$progress" | sed '/right\|: lamp$/d')
 seen='so there is no program; #/target/lamp/log has all that was said'
 
 # ---- what needs neither a kit nor a program
@@ -288,7 +282,7 @@ proofs 1
 mv "$kit" "$room/gone"
 expect 0 'list [a.rom] [100000]' '' without_kit "$lamp" a.rom
 mv "$room/gone" "$kit"
-rm -rf "$project/target/bin"
+rm -rf "$project"/crates/*/out
 expect 0 'list [a.rom] [100000]' '' "$lamp" a.rom
 
 # found through links, and from any folder
@@ -375,22 +369,20 @@ numbers' '' without_kit "$lamp" numbers
 
 fresh refused
 expect 2 '' "$two_steps
-lamp: left is NOT PROVED; rt goes on with what does not need it
 lamp: crate left is NOT PROVED, $seen" "$lamp" a.rom
 holds 'the log has what was refused' grep -q 'lib.rt:1: error' "$project/target/lamp/log"
 fresh killed
 expect 2 '' "$two_steps
-lamp: rt broke off with status 137 (killed, or out of memory?), $seen" "$lamp" a.rom
+lamp: rt broke off at crate left with status 137 (killed, or out of memory?), $seen" "$lamp" a.rom
 fresh broken
 expect 2 '' "$two_steps
-lamp: left is NOT PROVED; rt goes on with what does not need it
 lamp: rt broke off at crate left with status 2 (killed, or out of memory?), $seen" "$lamp" a.rom
 fresh differs
 expect 2 '' "$progress
-lamp: each crate is proved, but rt refused the built program, $seen" "$lamp" a.rom
+lamp: each crate is proved, but the built program does not run as it should, $seen" "$lamp" a.rom
 fresh unbuilt
 expect 2 '' "$progress
-lamp: rt has proved all and left no program in #/target/bin; remove #/target and call again" "$lamp" a.rom
+lamp: rt has proved all and left no program in #/crates/lamp/out; remove #/crates/lamp/out and call again" "$lamp" a.rom
 fresh changes
 expect 2 '' "$progress
 lamp: a source was changed while it was being proved, so this program is not used; call again" "$lamp" a.rom
@@ -403,7 +395,7 @@ expect 2 '' "$progress
 cp: cannot stat '$tools/lib/*.so*': No such file or directory
 lamp: the program is proved and built, but cannot be kept in #/target/lamp" "$lamp" a.rom
 mv "$tools/away" "$tools/lib"
-holds 'no part of it is left' [ "$(cd "$project/target/lamp" && echo *)" = 'lock log' ]
+holds 'no part of it is left' [ "$(cd "$project/target/lamp" && echo *)" = 'lock log said' ]
 mv "$project/crates.txt" "$room/crates.txt"
 unread='lamp: the sources of the program cannot all be read:'
 expect 2 '' "$unread find: 'crates.txt': No such file or directory" "$lamp" a.rom
@@ -565,6 +557,25 @@ expect 0 12000 '' counted
 expect 1 'scan [text] [100000]' '' env --default-signal=PIPE SKIPS=yes ENDS=1 "$lamp" scan thousands
 expect 1 'scan [text] [100000]' '' env --ignore-signal=PIPE SKIPS=yes ENDS=1 "$lamp" scan thousands
 
+# ---- names that are no text: a link to such a file is handed on too, and gone when the door is shut
+
+TMPDIR=$room/links.d
+export TMPDIR
+mkdir "$TMPDIR" "$room/caller/odd"
+latin=$(printf 'caf\351.rom')
+text=$(printf 'caf\303\251.rom')
+echo latin >"$room/caller/odd/$latin"
+: >"$room/caller/odd/$text"
+linked() { "$@" | sed "s|$TMPDIR/[^/]*/|@|g"; }
+expect 0 "list [odd/$latin] [100000] [@1]" '' linked "$lamp" "odd/$latin"
+expect 0 "list [odd/$text] [100000]" '' linked "$lamp" "odd/$text"
+expect 0 "explain [$room/caller/odd/$latin] [7] [@1]" '' linked "$lamp" explain "$room/caller/odd/$latin" 7
+expect 0 "tokens [odd/$latin] [@1]" '' linked "$lamp" tokens "odd/$latin"
+expect 0 "scan [text] [100000] odd/$text|odd/$latin|@1|" '' linked "$lamp" scan odd
+expect 0 "scan [text] [100000] a|odd/$latin|@1|odd/$latin|@2|b|" '' linked "$lamp" scan a "odd/$latin" "odd/$latin" b
+holds 'no link is left' rmdir "$TMPDIR"
+unset TMPDIR
+
 # ---- how it ends, and what streams through
 
 for digit in 0 1 2 3; do
@@ -572,7 +583,7 @@ for digit in 0 1 2 3; do
     expect "$digit" 'tokens [a]' '' env ENDS="$digit" "$lamp" tokens a
     expect "$digit" 'scan [text] [100000] a|' '' env ENDS="$digit" "$lamp" scan a
 done
-for ends in nothing 4 00; do
+for ends in 4 99 127; do
     expect 2 'list [a] [100000]' 'lamp: the program broke off' env ENDS="$ends" "$lamp" a
     expect 2 'scan [text] [100000] a|' 'lamp: the program broke off' env ENDS="$ends" "$lamp" scan a
 done
@@ -597,18 +608,15 @@ of the caller' '' sh -c 'echo of the caller | READS=yes "$1" -' sh "$lamp"
 expect 0 'scan [text] [100000] a|-|
 of the caller' '' sh -c 'echo of the caller | READS=yes "$1" scan a -' sh "$lamp"
 open_in() { ENDS=open "$@" 4<&- 5<&- 6<&- 7<&- 8<&- 9<&-; }
-expect 0 'list [a] [100000]
-3' '' open_in "$lamp" a
+expect 0 'list [a] [100000]' '' open_in "$lamp" a
 expect 0 'scan [text] [100000] a|
-3
 4' '' open_in "$lamp" scan a
 fresh plain
-expect 0 'list [a] [100000]
-3' "$progress" open_in "$lamp" a
+expect 0 'list [a] [100000]' "$progress" open_in "$lamp" a
 
 # ---- what a call costs, over the sources of this project
 
-cp -R "$here/crates.txt" "$here/crates" "$project/"
+(cd "$here" && tar -c --exclude=out crates.txt crates) | tar -x -C "$project"
 holds 'the sources of this project have a program' "$lamp" a
 measure sh "$tools/lib/ld-linux-x86-64.so.2" --library-path "$tools/lib" "$kit/program" list a 100000
 own=$took

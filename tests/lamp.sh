@@ -468,6 +468,21 @@ expect 0 'e?[31m"x".rom: passes, steps 7, name "scale"
 1 dumps: 1 passed, 0 refused, 0 out of budget, 0 unreadable' '' scan "$odd"
 expect 0 "$(printf 'file,verdict,number,words,steps,name,model\n"e\033[31m""x"".rom",passes,0,"",7,"scale",""')" \
     '1 dumps: 1 passed, 0 refused, 0 out of budget, 0 unreadable' scan --csv "$odd"
+# names that are no text, and one that is text and not ASCII
+latin=$(printf 'caf\351.rom')
+coffee=$(printf 'caf\303\251.rom')
+missing=$(printf 'no\351.rom')
+cp "$room/scale.rom" "$room/$latin"
+cp "$room/zeroed.rom" "$room/$coffee"
+expect 0 "$board" '' "$latin"
+expect 0 "$tokens" '' tokens "$latin"
+expect 1 'refused 5' '' "$coffee"
+expect 2 '' "$missing: No such file or directory" "$missing"
+expect 2 "$latin"': passes, steps 7, name "scale"
+'"$coffee"': refused 5: the program'"'"'s bytes do not add up to the checksum
+'"$missing"': unreadable
+scale.rom: passes, steps 7, name "scale"
+4 dumps: 2 passed, 1 refused, 0 out of budget, 1 unreadable' "$missing: No such file or directory" scan "$latin" "$coffee" "$missing" scale.rom
 # names that look like words and options
 cp "$room/scale.rom" "$room/scan"
 cp "$room/scale.rom" "$room/--csv"

@@ -1,6 +1,7 @@
 -- A token that was seen at the place of a state and is not hot: what its family asks for, which token it is, and that there is no other
 -- family. Assumes nothing.
-use Rattle.std.proofs.Common.{◌≡◌, ℕ, ◌+◌, ◌-◌, ◌≤◌, Bool, true, false, not, ◌&&◌, ◌||◌, T, eqb, List, [], ◌∷◌, sym, refl, ap, ◌∙◌, subst, arith, eqb→eq, ltb-true}
+use Rattle.std.proofs.Common.{◌≡◌, ℕ, ◌+◌, ◌-◌, ◌≤◌, Bool, true, false, not, ◌&&◌, ◌||◌, T, eqb, List, [], ◌∷◌, sym, refl, ap, ◌∙◌, subst}
+use Rattle.std.proofs.Common.{arith, eqb→eq, ltb-true}
 use Rattle.cells.specs.Choice.{find}
 use Rattle.cells.specs.Laws.Tests.{find_none, Rest}
 use Rattle.cells.specs.Laws.Facts.{is_true, both_hold, follows}

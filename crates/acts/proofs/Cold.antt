@@ -187,7 +187,8 @@ module _ (s : Scene) (n : ℕ) (o : Operand) (next : ℕ) where
     call_deep b h d =
         simp (k, b, le-ltb height 0 (omega arith), le-ltb data_most (height - 0 + 0) (omega arith), le-leb 16 s.state.calls.count d)
 
-    pub call_body : of_body ≡ true → height ≤ data_most → s.state.calls.count < frames_most → refusal_of s (token_of n 0x1100_0000 o next) ≡ 0
+    pub call_body : of_body ≡ true → height ≤ data_most → s.state.calls.count < frames_most
+        → refusal_of s (token_of n 0x1100_0000 o next) ≡ 0
     unfolding refusal_of
     call_body b h d =
         simp (k, b, le-ltb height 0 (omega arith), le-ltb data_most (height - 0 + 0) (omega arith), lt-leb 16 s.state.calls.count d)
@@ -200,7 +201,8 @@ module _ (s : Scene) (n : ℕ) (o : Operand) (next : ℕ) where
   unfolding refusal_of
   define_held e = simp e
 
-  pub define_most : is_held numbers (new_number o) ≡ false → numbers_most ≤ numbers.count → refusal_of s (token_of n 0x0E15_0000 o next) ≡ 13
+  pub define_most : is_held numbers (new_number o) ≡ false → numbers_most ≤ numbers.count
+      → refusal_of s (token_of n 0x0E15_0000 o next) ≡ 13
   unfolding refusal_of
   define_most e f = simp (e, le-leb numbers_most numbers.count f)
 

@@ -1,5 +1,6 @@
 -- Program numbers entered, given another value and defined: the state that the code leaves is the step's. Assumes nothing.
-use Rattle.std.proofs.Common.{◌≡◌, ℕ, zero, suc, ◌+◌, ◌-◌, ◌<◌, ◌≤◌, Bool, true, false, not, eqb, ltb, leb, List, [], ◌∷◌, get_or, sym, refl, ap, ◌∙◌, subst, arith, leb→le, ltb-false, ltb-true, le-ltb, lt-ltb, eq-eqb, ne_eqb, eqb-true}
+use Rattle.std.proofs.Common.{◌≡◌, ℕ, zero, suc, ◌+◌, ◌-◌, ◌<◌, ◌≤◌, Bool, true, false, not, eqb, ltb, leb, List, [], ◌∷◌, get_or, sym}
+use Rattle.std.proofs.Common.{refl, ap, ◌∙◌, subst, arith, leb→le, ltb-false, ltb-true, le-ltb, lt-ltb, eq-eqb, ne_eqb, eqb-true}
 use borrow.Author.Tests.{eqb-false}
 use Rattle.cells.specs.Laws.Tests.{pick_is}
 use Rattle.cells.specs.Laws.Facts.{holds, both_hold}
@@ -308,7 +309,8 @@ module _ (st : State) (m next at : ℕ) (h : st.stack.height ≤ data_most) (e :
   abbrev numbered : ℕ → Numbers
   numbered x = defined_of st.numbers m variable (0x2000_0000 + x) st.wide
 
-  pub variable_full_told : (work : List ℕ) (r : Stepped) → work_size < at + 4 → r ≡ stepped (Refused 24) st → Variables m work work st next r
+  pub variable_full_told : (work : List ℕ) (r : Stepped) → work_size < at + 4 → r ≡ stepped (Refused 24) st
+      → Variables m work work st next r
   variable_full_told work r l w rom n store =
       rw w (sym (stopped (scene rom work store st) (token_of n 0x0E15_0000 (Definition m variable) next) 24 refl
       (variable_full (scene rom work store st) n (Definition m variable) next m e.0 e.1 h (subst (λ (x : ℕ). work_size < x + 4) i l))))
@@ -321,7 +323,8 @@ module _ (st : State) (m next at : ℕ) (h : st.stack.height ≤ data_most) (e :
       ap (λ (x : Stepped). handed_back x then store) w
       ∙ ap (λ (x : State). turn Going (with_work (moved_to x next) (at + 4)) then store) g
       ∙ ap (λ (x : List ℕ). turn Going (with_work (moved_to (with_numbers st (numbered at)) next) (at + 4)) x store) a
-      ∙ ap (λ (x : ℕ). turn Going (with_work (moved_to (with_numbers st (numbered x)) next) (x + 4)) (written_of work x (bytes_of 0)) store) i
+      ∙ ap (λ (x : ℕ). turn Going (with_work (moved_to (with_numbers st (numbered x)) next) (x + 4)) (written_of work x (bytes_of 0)) store)
+      i
       ∙ ap (λ (x : State). turn Going (with_work (with_numbers x (numbered cells)) (cells + 4)) (written_of work cells (bytes_of 0)) store)
       (still_on st next)
       ∙ sym (carried (scene rom work store st) (token_of n 0x0E15_0000 (Definition m variable) next)

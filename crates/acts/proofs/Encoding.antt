@@ -1,5 +1,6 @@
 -- encode+, encode-int and encode-string: the state and the memory that the code leaves are the step's. Assumes nothing.
-use Rattle.std.proofs.Common.{◌≡◌, ℕ, ◌+◌, ◌-◌, ◌%◌, ◌^◌, ◌<◌, ◌≤◌, min, true, false, List, [], ◌∷◌, ◌++◌, length, set, sym, refl, ap, ◌∙◌, arith, length-append, eq-eqb, ne_eqb}
+use Rattle.std.proofs.Common.{◌≡◌, ℕ, ◌+◌, ◌-◌, ◌%◌, ◌^◌, ◌<◌, ◌≤◌, min, true, false, List, [], ◌∷◌, ◌++◌, length, set, sym, refl, ap, ◌∙◌}
+use Rattle.std.proofs.Common.{arith, length-append, eq-eqb, ne_eqb}
 use Rattle.tokens.specs.Family.{encode_int, encode_string, join}
 use Rattle.tokens.specs.Decode.{token_of}
 use Rattle.memory.specs.Window.{bad_string, range_of, window_of, part_of, resolve_of}

@@ -1,5 +1,6 @@
 -- Properties written, nodes opened and closed: what a call on the tree answers is what the step says. Assumes nothing.
-use Rattle.std.proofs.Common.{◌≡◌, ℕ, ◌-◌, ◌≤◌, Bool, true, false, eqb, List, [], ◌∷◌, length, sym, refl, ap, ◌∙◌, arith, eq-eqb, ne_eqb, eqb-true}
+use Rattle.std.proofs.Common.{◌≡◌, ℕ, ◌-◌, ◌≤◌, Bool, true, false, eqb, List, [], ◌∷◌, length, sym, refl, ap, ◌∙◌, arith, eq-eqb, ne_eqb}
+use Rattle.std.proofs.Common.{eqb-true}
 use Rattle.cells.specs.Choice.{pick}
 use Rattle.tokens.specs.Family.{finish_device, new_device}
 use Rattle.tokens.specs.Decode.{token_of}

@@ -1,5 +1,6 @@
 -- A program number by its slot: what the slot says, and the laws of a number that is entered or given another value by it. Assumes nothing.
-use Rattle.std.proofs.Common.{◌≡◌, ℕ, zero, suc, ◌+◌, ◌-◌, ◌<◌, ◌≤◌, Bool, true, false, List, ◌∷◌, length, get_or, sym, refl, ap, ◌∙◌, subst, arith, get_or-set_other, get_or-set_same, ltb-false, ltb-true}
+use Rattle.std.proofs.Common.{◌≡◌, ℕ, zero, suc, ◌+◌, ◌-◌, ◌<◌, ◌≤◌, Bool, true, false, List, ◌∷◌, length, get_or, sym, refl, ap, ◌∙◌}
+use Rattle.std.proofs.Common.{subst, arith, get_or-set_other, get_or-set_same, ltb-false, ltb-true}
 use Rattle.cells.specs.Choice.{pick}
 use Rattle.tokens.specs.Table.{is_program, programs_most, first_program}
 use Rattle.tokens.specs.Family.{assign, call}
@@ -52,7 +53,8 @@ tables_of slots known names kinds values ways held t values' ways' =
 -- one number more in both tables
 pub tabled_defined : (slots known slots' known' : List ℕ) (ns : Numbers) (n kind v : ℕ) (wide : Bool) → ns.count < length ns.programs
     → ns.count < length ns.kinds
-    → is_held ns n ≡ false → Tabled slots known ns → slots' ≡ put_kind slots n (ns.count + 1) → known' ≡ put_kind known n (kind_of_byte kind)
+    → is_held ns n ≡ false → Tabled slots known ns → slots' ≡ put_kind slots n (ns.count + 1)
+    → known' ≡ put_kind known n (kind_of_byte kind)
     → Tabled slots' known' (defined_of ns n kind v wide)
 tabled_defined slots known slots' known' ns n kind v wide h l e t p q = (
   p ∙ ap (λ (x : List ℕ). put_kind x n (ns.count + 1)) t.0 ∙ table_defined (λ j. j + 1) (λ j. j + 1) ns n kind v wide h e (λ j i. refl),

@@ -2,99 +2,99 @@
 // token at each place of its program is shown too, in both offset widths, and the body that would be read from there. Places count FCode
 // bytes: a token is decoded of the ROM as it is given, spread or not, and a body is read of its FCode bytes, laid one behind the other.
 #![tactic(auto)]
-ghost use Rattle.io.specs.Counts.{IsPrefixLen};
 
-use given::{SPACE, bytes_from, mark_from};
-use libc::{STDIN_FILENO, STDOUT_FILENO};
+ghost use Rattle.std.specs.Prelude.{◌≡◌, ◌≤◌, length, take};
+
+use given::{SPACE, bytes_from, mark_from, read_text};
 use rom::{Aim, fcode_count, lay_fcode, program_length, spread_of};
+use std::io;
 use tokens::{Body, Decoded, Operand, Token};
 
-fn say(text: &[u8]) {
-    io::write_all(STDOUT_FILENO, text);
+fn say(rt: &impl Print, text: &[u8]) -> io::Result<()> {
+    rt.write_all(text)
 }
 
-fn hex(n: u32) {
-    say(b" ");
-    io::print_hex(STDOUT_FILENO, n as u64, 1);
+fn hex(rt: &impl Print, n: u32) -> io::Result<()> {
+    print!(rt; " {n:x}")
 }
 
-fn yes_or_no(said: bool) {
+fn yes_or_no(rt: &impl Print, said: bool) -> io::Result<()> {
     if said {
-        say(b" yes");
+        say(rt, b" yes")
     } else {
-        say(b" no");
+        say(rt, b" no")
     }
 }
 
-fn show_aim(aim: Aim) {
+fn show_aim(rt: &impl Print, aim: Aim) -> io::Result<()> {
     match aim {
-        Aim::Inside(to) => hex(to),
-        Aim::Outside => say(b" outside"),
+        Aim::Inside(to) => hex(rt, to),
+        Aim::Outside => say(rt, b" outside"),
     }
 }
 
-fn show_operand(operand: Operand) {
+fn show_operand(rt: &impl Print, operand: Operand) -> io::Result<()> {
     match operand {
-        Operand::Nothing => say(b" nothing"),
+        Operand::Nothing => say(rt, b" nothing"),
         Operand::Literal(n) => {
-            say(b" literal");
-            hex(n);
+            say(rt, b" literal")?;
+            hex(rt, n)
         }
         Operand::Text { start, count } => {
-            say(b" text");
-            hex(start);
-            hex(count);
+            say(rt, b" text")?;
+            hex(rt, start)?;
+            hex(rt, count)
         }
         Operand::Branch { bits, aim } => {
-            say(b" branch");
-            hex(bits);
-            show_aim(aim);
+            say(rt, b" branch")?;
+            hex(rt, bits)?;
+            show_aim(rt, aim)
         }
         Operand::Number(n) => {
-            say(b" number");
-            hex(n);
+            say(rt, b" number")?;
+            hex(rt, n)
         }
         Operand::Definition { number, kind } => {
-            say(b" definition");
-            hex(number);
-            hex(kind);
+            say(rt, b" definition")?;
+            hex(rt, number)?;
+            hex(rt, kind)
         }
     }
 }
 
 // What the list says of a token, and what stands behind it.
-fn show_token(token: Token) {
+fn show_token(rt: &impl Print, token: Token) -> io::Result<()> {
     let code = token.code;
     let operand = token.operand;
-    hex(token.number);
-    hex(token.next);
-    hex(tokens::takes_of(code));
-    hex(tokens::gives_of(code));
-    hex(tokens::return_takes_of(code));
-    hex(tokens::return_gives_of(code));
-    yes_or_no(tokens::out_of_place(code, true));
-    yes_or_no(tokens::out_of_place(code, false));
-    show_operand(operand);
+    hex(rt, token.number)?;
+    hex(rt, token.next)?;
+    hex(rt, tokens::takes_of(code))?;
+    hex(rt, tokens::gives_of(code))?;
+    hex(rt, tokens::return_takes_of(code))?;
+    hex(rt, tokens::return_gives_of(code))?;
+    yes_or_no(rt, tokens::out_of_place(code, true))?;
+    yes_or_no(rt, tokens::out_of_place(code, false))?;
+    show_operand(rt, operand)
 }
 
-fn show_decoded(found: Decoded) {
+fn show_decoded(rt: &impl Print, found: Decoded) -> io::Result<()> {
     match found {
-        Decoded::Cut => say(b" cut"),
-        Decoded::Unlisted(_) => say(b" unlisted"),
-        Decoded::Whole(token) => show_token(token),
+        Decoded::Cut => say(rt, b" cut"),
+        Decoded::Unlisted(_) => say(rt, b" unlisted"),
+        Decoded::Whole(token) => show_token(rt, token),
     }
 }
 
-fn show_body(body: Body) {
+fn show_body(rt: &impl Print, body: Body) -> io::Result<()> {
     match body {
         Body::Ends(at) => {
-            say(b" ends");
-            hex(at);
+            say(rt, b" ends")?;
+            hex(rt, at)
         }
         Body::Stops { at, why } => {
-            say(b" stops");
-            hex(at);
-            hex(why);
+            say(rt, b" stops")?;
+            hex(rt, at)?;
+            hex(rt, why)
         }
     }
 }
@@ -109,28 +109,36 @@ fn some_kinds() -> [u8; 2048] {
     kinds
 }
 
-fn show_place(rom: &[u8], fcode: &[u8], length: u32, wide: bool, kinds: &[u8; 2048], at: u32) {
-    hex(at);
-    yes_or_no(wide);
-    show_decoded(tokens::decode(rom, spread_of(rom), length, wide, at));
-    show_body(tokens::read_body(fcode, length, wide, kinds, at));
-    say(b"\n");
+fn show_place(
+    rt: &impl Print,
+    rom: &[u8],
+    fcode: &[u8],
+    length: u32,
+    wide: bool,
+    kinds: &[u8; 2048],
+    at: u32,
+) -> io::Result<()> {
+    hex(rt, at)?;
+    yes_or_no(rt, wide)?;
+    show_decoded(rt, tokens::decode(rom, spread_of(rom), length, wide, at))?;
+    show_body(rt, tokens::read_body(fcode, length, wide, kinds, at))?;
+    say(rt, b"\n")
 }
 
-fn show_places(rom: &[u8], fcode: &[u8]) {
+fn show_places(rt: &impl Print, rom: &[u8], fcode: &[u8]) -> io::Result<()> {
     let length = program_length(rom, spread_of(rom));
     let kinds = some_kinds();
-    let mut at: u32 = 8;
-    while at < length {
-        show_place(rom, fcode, length, false, &kinds, at);
-        show_place(rom, fcode, length, true, &kinds, at);
-        at += 1;
+    for at in 8..length {
+        show_place(rt, rom, fcode, length, false, &kinds, at)?;
+        show_place(rt, rom, fcode, length, true, &kinds, at)?;
     }
+    Ok(())
 }
 
 // The FCode bytes of a ROM laid into a room, and how many of them have room.
 fn laid(rom: &[u8], room: &mut [u8]) -> usize
-    ensures { IsPrefixLen result room.new }
+    ensures in_bounds { result ≤ length room.new }
+    ensures prefix { result ≡ length (take result room.new) }
 {
     let spread = spread_of(rom);
     lay_fcode(rom, spread, room);
@@ -138,42 +146,43 @@ fn laid(rom: &[u8], room: &mut [u8]) -> usize
     if n < room.len() { n } else { room.len() }
 }
 
-fn show_program(rom: &[u8]) {
+fn show_program(rt: &impl Print, rom: &[u8]) -> io::Result<()> {
     let mut room = [0u8; SPACE];
     let n = laid(rom, &mut room);
-    show_places(rom, &room[..n]);
+    show_places(rt, rom, &room[..n])
 }
 
-fn show_rom(rom: &[u8], whole: bool) {
+fn show_rom(rt: &impl Print, rom: &[u8], whole: bool) -> io::Result<()> {
     let verdict = rom::check_header(rom);
-    say(b"header");
-    hex(verdict);
-    say(b"\n");
+    say(rt, b"header")?;
+    hex(rt, verdict)?;
+    say(rt, b"\n")?;
     if whole {
         if verdict == 0 {
-            show_program(rom);
+            show_program(rt, rom)?;
         }
     }
+    Ok(())
 }
 
 // One line: a letter, a space, a ROM.
-fn one_line(line: &[u8]) {
+fn one_line(rt: &impl Print, line: &[u8]) -> io::Result<()> {
     let mut space = [0u8; SPACE];
     let n = bytes_from(line, 2, &mut space);
-    show_rom(&space[..n], rom::byte(line, 0) == b'T');
+    show_rom(rt, &space[..n], rom::byte(line, 0) == b'T')
 }
 
-fn all_lines(text: &[u8]) {
+fn all_lines(rt: &impl Print, text: &[u8]) -> io::Result<()> {
     let mut at = 0;
     while at < text.len() {
         let end = mark_from(text, at, b'\n');
-        one_line(&text[at..end]);
+        one_line(rt, &text[at..end])?;
         at = end + 1;
     }
+    Ok(())
 }
 
-fn main() {
-    let mut text = [0u8; 131072];
-    let n = io::read_full(STDIN_FILENO, &mut text);
-    all_lines(&text[..n]);
+fn main(rt: HostRuntime) -> io::Result<()> {
+    let text = read_text(&rt)?;
+    all_lines(&rt, text.as_slice())
 }

@@ -1,7 +1,8 @@
 -- The arithmetic tokens of document 01 on 32-bit cells, wrapped: "1E + 1F - 20 * 23 and 24 or 25 xor 26 invert 27 lshift 28 rshift
 -- 29 >>a 2B u/mod (remainder under quotient) 2C negate 2D abs 2E min 2F max 57 2/ 58 u2/ 59 2*". In a token of two cells a is the lower
 -- one and b the upper; in a shift n is the count, the upper one. Assumes nothing.
-use Rattle.std.specs.Prelude.{ℕ, ◌+◌, ◌-◌, ◌*◌, ◌/◌, ◌%◌, ◌^◌, true, false, pos, neg_ℤ, ◌==◌, bit_and, bit_or, bit_xor, int_lt, nat_lt, unsigned_abs}
+use Rattle.std.specs.Prelude.{ℕ, ◌+◌, ◌-◌, ◌*◌, ◌/◌, ◌%◌, ◌^◌, true, false, pos, neg_ℤ, ◌==◌, bit_and, bit_or, bit_xor, int_lt, nat_lt}
+use Rattle.std.specs.Prelude.{unsigned_abs}
 use Rattle.std.specs.Int.Signed.{shr_z}
 use Rattle.cells.specs.Choice.{pick}
 use Rattle.cells.specs.Signed.{signed, cell, flag, negative}

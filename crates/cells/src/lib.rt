@@ -1,6 +1,7 @@
 // The arithmetic and the comparisons of document 01's token list, on cells of 32 bits. Signed numbers are in two's complement, and no
 // signed type is used: the order of signed cells is the order of the cells with their highest bit turned.
 #![tactic(auto)]
+
 mod order;
 
 ghost use Rattle.std.specs.Prelude.{◌≡◌};

@@ -1,8 +1,9 @@
 // Runs every token of the crate cells at the ends of the range, and prints a line for each: the token's number, the cells that it
 // takes, the lowest first, and what it gives.
 #![tactic(auto)]
+
 use cells::Divided;
-use libc::STDOUT_FILENO;
+use std::io;
 
 // The five cells that every token is run at; a shift is run at the last three counts too.
 fn sample(i: usize) -> u32 {
@@ -74,13 +75,13 @@ fn digit(n: u32) -> u8 {
     if d < 10 { b'0' + d } else { b'A' + (d - 10) }
 }
 
-fn print_token(token: u32) {
+fn print_token(rt: &impl Print, token: u32) -> io::Result<()> {
     let text = [digit(token / 16), digit(token)];
-    io::write_all(STDOUT_FILENO, &text);
+    rt.write_all(&text)
 }
 
 // A space and the eight digits of a cell.
-fn print_cell(a: u32) {
+fn print_cell(rt: &impl Print, a: u32) -> io::Result<()> {
     let text = [
         b' ',
         digit(a / 0x1000_0000),
@@ -92,44 +93,42 @@ fn print_cell(a: u32) {
         digit(a / 0x0000_0010),
         digit(a),
     ];
-    io::write_all(STDOUT_FILENO, &text);
+    rt.write_all(&text)
 }
 
-fn print_divided(d: Divided) {
+fn print_divided(rt: &impl Print, d: Divided) -> io::Result<()> {
     match d {
-        Divided::ByZero => {
-            io::write_all(STDOUT_FILENO, b" zero");
-        }
+        Divided::ByZero => rt.write_all(b" zero"),
         Divided::Parts {
             remainder,
             quotient,
         } => {
-            print_cell(remainder);
-            print_cell(quotient);
+            print_cell(rt, remainder)?;
+            print_cell(rt, quotient)
         }
     }
 }
 
-fn print_one(token: u32, a: u32) {
-    print_cell(a);
-    print_cell(one_of(token, a));
+fn print_one(rt: &impl Print, token: u32, a: u32) -> io::Result<()> {
+    print_cell(rt, a)?;
+    print_cell(rt, one_of(token, a))
 }
 
-fn print_two(token: u32, a: u32, b: u32) {
-    print_cell(a);
-    print_cell(b);
+fn print_two(rt: &impl Print, token: u32, a: u32, b: u32) -> io::Result<()> {
+    print_cell(rt, a)?;
+    print_cell(rt, b)?;
     if token == 0x2B {
-        print_divided(cells::u_mod(a, b));
+        print_divided(rt, cells::u_mod(a, b))
     } else {
-        print_cell(two_of(token, a, b));
+        print_cell(rt, two_of(token, a, b))
     }
 }
 
-fn print_three(token: u32, n: u32, min: u32, max: u32) {
-    print_cell(n);
-    print_cell(min);
-    print_cell(max);
-    print_cell(three_of(token, n, min, max));
+fn print_three(rt: &impl Print, token: u32, n: u32, min: u32, max: u32) -> io::Result<()> {
+    print_cell(rt, n)?;
+    print_cell(rt, min)?;
+    print_cell(rt, max)?;
+    print_cell(rt, three_of(token, n, min, max))
 }
 
 // What a token takes from the stack. The count of a shift is the upper cell.
@@ -141,15 +140,15 @@ enum Takes {
     Three,
 }
 
-fn print_line(token: u32, takes: Takes, i: usize) {
-    print_token(token);
+fn print_line(rt: &impl Print, token: u32, takes: Takes, i: usize) -> io::Result<()> {
+    print_token(rt, token)?;
     match takes {
-        Takes::One => print_one(token, sample(i)),
-        Takes::Two => print_two(token, sample(i / 5), sample(i % 5)),
-        Takes::CellAndCount => print_two(token, sample(i / 8), sample(i % 8)),
-        Takes::Three => print_three(token, sample(i / 25), sample(i / 5 % 5), sample(i % 5)),
+        Takes::One => print_one(rt, token, sample(i))?,
+        Takes::Two => print_two(rt, token, sample(i / 5), sample(i % 5))?,
+        Takes::CellAndCount => print_two(rt, token, sample(i / 8), sample(i % 8))?,
+        Takes::Three => print_three(rt, token, sample(i / 25), sample(i / 5 % 5), sample(i % 5))?,
     }
-    io::write_all(STDOUT_FILENO, b"\n");
+    rt.write_all(b"\n")
 }
 
 fn lines_of(takes: Takes) -> usize {
@@ -161,13 +160,11 @@ fn lines_of(takes: Takes) -> usize {
     }
 }
 
-fn run(token: u32, takes: Takes) {
-    let n = lines_of(takes);
-    let mut i = 0;
-    while i < n {
-        print_line(token, takes, i);
-        i += 1;
+fn run(rt: &impl Print, token: u32, takes: Takes) -> io::Result<()> {
+    for i in 0..lines_of(takes) {
+        print_line(rt, token, takes, i)?;
     }
+    Ok(())
 }
 
 fn takes_of(token: u32) -> Takes {
@@ -180,19 +177,18 @@ fn takes_of(token: u32) -> Takes {
 }
 
 // The tokens from `from` up to `to`, which is left out.
-fn run_all(from: u32, to: u32) {
-    let mut token = from;
-    while token < to {
-        run(token, takes_of(token));
-        token += 1;
+fn run_all(rt: &impl Print, from: u32, to: u32) -> io::Result<()> {
+    for token in from..to {
+        run(rt, token, takes_of(token))?;
     }
+    Ok(())
 }
 
 // The arithmetic and the comparisons of document 01's list, by number: the numbers between are other tokens or none.
-fn main() {
-    run_all(0x1E, 0x21);
-    run_all(0x23, 0x2A);
-    run_all(0x2B, 0x30);
-    run_all(0x34, 0x46);
-    run_all(0x57, 0x5A);
+fn main(rt: HostRuntime) -> io::Result<()> {
+    run_all(&rt, 0x1E, 0x21)?;
+    run_all(&rt, 0x23, 0x2A)?;
+    run_all(&rt, 0x2B, 0x30)?;
+    run_all(&rt, 0x34, 0x46)?;
+    run_all(&rt, 0x57, 0x5A)
 }

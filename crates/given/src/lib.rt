@@ -1,25 +1,36 @@
 // What the test programs are given, a line of standard input each: where a mark stands in it, and the bytes and the numbers that it holds.
 // A ROM is a word of bytes in hex, each of them alone or with how often it stands between two stars behind it: 'FD08007B*3*00'.
 #![tactic(auto)]
-ghost use Rattle.std.specs.Prelude.{◌≡◌, ◌<◌, ◌≤◌, length};
-ghost use Rattle.io.specs.Counts.{IsPrefixLen};
+
+ghost use Rattle.std.specs.Prelude.{◌≡◌, ◌<◌, ◌≤◌, length, take};
+
+use std::io;
+use std::io::Read;
 
 // Room for the longest ROM, and for one that is a byte too long.
 pub const SPACE: usize = 65537;
+
+// So much of standard input is read.
+const TEXT_MOST: u64 = 131072;
+
+// The lines of standard input.
+pub fn read_text<R: Input + AllocGlobal>(rt: &R) -> io::Result<Vec<u8>> {
+    let mut text = Vec::new(rt.alloc());
+    rt.reader().take(TEXT_MOST).read_to_end(&mut text)?;
+    Ok(text)
+}
 
 // Where a mark stands next, from a place on; where the text ends if it does not.
 pub fn mark_from(text: &[u8], from: usize, mark: u8) -> usize
     requires { from ≤ length text.now }
     ensures { (from ≤ result) × (result ≤ length text.now) }
 {
-    let mut at = from;
-    while at < text.len() {
+    for at in from..text.len() {
         if text[at] == mark {
             return at;
         }
-        at += 1;
     }
-    at
+    text.len()
 }
 
 // Where the word ends that starts at a place.
@@ -52,14 +63,12 @@ fn wide(c: u8) -> u32
 // The decimal number at a place, the last eight digits of it; 0 where there is none.
 pub fn digits_at(text: &[u8], from: usize) -> u32 {
     let mut n: u32 = 0;
-    let mut at = from;
-    while at < text.len() {
+    for at in from..text.len() {
         let digit = value(text[at]);
         if 10 <= digit {
             return n;
         }
         n = n % 10_000_000 * 10 + wide(digit);
-        at += 1;
     }
     n
 }
@@ -119,21 +128,20 @@ fn fill(rom: &mut [u8], n: usize, byte: u8, times: u32) -> usize
     ensures { result ≤ length rom.new }
 {
     let mut end = n;
-    let mut left = times;
-    while 0 < left {
+    for _ in 0..times {
         if rom.len() <= end {
             return end;
         }
         rom[end] = byte;
         end += 1;
-        left -= 1;
     }
     end
 }
 
 // Puts the bytes that stand in hex from a place on at the start of a ROM, up to what is none, and tells how many there are.
 pub fn bytes_from(text: &[u8], from: usize, rom: &mut [u8]) -> usize
-    ensures { IsPrefixLen result rom.new }
+    ensures in_bounds { result ≤ length rom.new }
+    ensures prefix { result ≡ length (take result rom.new) }
 {
     let mut n = 0;
     let mut at = from;

@@ -21,7 +21,8 @@ module _ (rom work store : List ℕ) (budget : ℕ) (r : Stepped) (w s : List �
   unfolding open_of
   opened_number = by (eqb (open_refusal rom work store) 0) refl
     where
-      by : (b : Bool) → eqb (open_refusal rom work store) 0 ≡ b → answer_number (open_of rom work store).answer ≡ open_refusal rom work store
+      by : (b : Bool) → eqb (open_refusal rom work store) 0 ≡ b
+          → answer_number (open_of rom work store).answer ≡ open_refusal rom work store
       by true q = rw (q, open_of) (sym (eqb-true (open_refusal rom work store) 0 q))
       by false q = rw (q, open_of) refl
 
@@ -43,7 +44,8 @@ module _ (rom work store : List ℕ) (budget : ℕ) (r : Stepped) (w s : List �
       let b : s ≡ store = ap (λ (t : Turn). t.store) e ∙ k.1 in
       rw (ne_eqb (open_refusal rom work store) 0 (λ y. z (p ∙ y)), p, a, b)
 
-  pub host_ran_lem : answer_number r.answer ≡ 0 → (x : Ran) (v u : List ℕ) → told_ran x v u ≡ run_of budget (scene rom w s r.state) → (m : ℕ)
+  pub host_ran_lem : answer_number r.answer ≡ 0 → (x : Ran) (v u : List ℕ) → told_ran x v u ≡ run_of budget (scene rom w s r.state)
+      → (m : ℕ)
       → m ≡ answer_number x.answer
       → host_run m x.count v u ≡ host_run_of rom work store budget
   unfolding host_run_of

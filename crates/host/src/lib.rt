@@ -1,6 +1,6 @@
-// What a C program calls: numbers and byte slices, nothing else. include/fcode.h declares it. A slice is a pointer and a count of
-// bytes in C. Every call is total; a null pointer is fine where the count is 0.
+// What a C program calls, by the crate host_c: numbers and byte slices, nothing else. Every call is total.
 #![tactic(auto)]
+
 ghost use Rattle.std.specs.Prelude.{◌≡◌};
 ghost use Rattle.rom.specs.Header.{header_of};
 ghost use Rattle.rom.specs.Spread.{fcode_of};
@@ -14,16 +14,14 @@ use screen::{Verdict, screen};
 use state::{number_of, open};
 
 // The header test: 0, or 1 to 5.
-#[unsafe(no_mangle)]
-pub extern "C" fn fcode_check(rom: &[u8]) -> u32
+pub fn fcode_check(rom: &[u8]) -> u32
     ensures { result ≡ header_of (fcode_of rom.now) }
 {
     check_header(rom)
 }
 
 // The screen: 0 for a ROM that passes, with its marks; else 6, 1 to 5, or 31.
-#[unsafe(no_mangle)]
-pub extern "C" fn fcode_screen(rom: &[u8], marks: &mut [u8]) -> u32
+pub fn fcode_screen(rom: &[u8], marks: &mut [u8]) -> u32
     ensures { HostScreened (fcode_of rom.now) marks.old result marks.new }
 {
     match screen(rom, marks) {
@@ -34,14 +32,7 @@ pub extern "C" fn fcode_screen(rom: &[u8], marks: &mut [u8]) -> u32
 
 // Opens the ROM and runs it, screened or not: 0 finished, 28 for a spent budget, else the refusal. `steps` is the count of tokens
 // carried out.
-#[unsafe(no_mangle)]
-pub extern "C" fn fcode_run(
-    rom: &[u8],
-    work: &mut [u8],
-    store: &mut [u8],
-    budget: u32,
-    steps: &mut u32,
-) -> u32
+pub fn fcode_run(rom: &[u8], work: &mut [u8], store: &mut [u8], budget: u32, steps: &mut u32) -> u32
     ensures { host_run result steps.new work.new store.new
         ≡ host_run_of (fcode_of rom.now) work.old store.old budget }
 {
@@ -60,8 +51,7 @@ pub extern "C" fn fcode_run(
 }
 
 // The listing, written into `text` with one zero behind it, and its length; 0, and nothing written, where the text has the wrong size.
-#[unsafe(no_mangle)]
-pub extern "C" fn fcode_list(
+pub fn fcode_list(
     rom: &[u8],
     marks: &mut [u8],
     work: &mut [u8],

@@ -1,11 +1,12 @@
 // Reading a dump: the bytes of a file, or of standard input where its name is a dash; and its FCode bytes, which lines are made of.
-ghost use Rattle.std.specs.Prelude.{◌≡◌};
-ghost use Rattle.io.specs.Counts.{IsPrefixLen};
+ghost use Rattle.std.specs.Prelude.{◌≡◌, ◌≤◌, IfOk, MatchResult, length, take};
 
-use crate::print::{before, complain};
-use libc::STDIN_FILENO;
+use crate::print::{before, complain, fail};
 use rom::sizes::ROM_MOST;
 use rom::{fcode_count, is_spread, lay_fcode, spread_of};
+use std::fs::File;
+use std::io::Read;
+use std::{io, str};
 use tree::same_bytes;
 
 // One byte more than a ROM may have, so that a longer file is seen to be one.
@@ -30,58 +31,80 @@ fn lost() -> Dumped
     }
 }
 
-// Whether a file that seemed to end did end, and no read failed.
-fn ended(fd: i32) -> bool {
-    let mut more = [0u8; 1];
-    libc::read(fd, &mut more) == 0
+// Reads until a space is full or what is read ends, and tells how many bytes it put at the start of the space.
+fn read_full<R: Read>(from: &mut R, space: &mut [u8]) -> io::Result<usize>
+    ensures in_bounds { IfOk result (λ n. n ≤ length space.new) }
+    ensures prefix { IfOk result (λ n. n ≡ length (take n space.new)) }
+{
+    let mut done = 0;
+    while done < space.len() {
+        let n = from.read(&mut space[done..])?;
+        if n == 0 {
+            break;
+        }
+        done += n;
+    }
+    Ok(done)
+}
+
+// The path of a file: its name, unless there is a link to it. A name that is no text is no path that can be opened.
+fn path_of<'a>(name: &'a [u8], link: &'a [u8]) -> io::Result<&'a str> {
+    let path = if link.is_empty() { name } else { link };
+    match str::from_utf8(path) {
+        Ok(text) => Ok(text),
+        Err(_) => Err(io::Error::from(io::ErrorKind::InvalidFilename)),
+    }
+}
+
+fn read_file(rt: &HostRuntime, name: &[u8], link: &[u8], space: &mut [u8]) -> io::Result<usize>
+    ensures in_bounds { IfOk result (λ n. n ≤ length space.new) }
+    ensures prefix { IfOk result (λ n. n ≡ length (take n space.new)) }
+{
+    read_full(&mut File::open(rt, path_of(name, link)?)?, space)
 }
 
 // A file of no bytes or of too many is a ROM that is refused; a sentence says why.
-fn remark(name: &[u8], size: usize) {
+fn remark(rt: &HostRuntime, name: &[u8], size: usize) {
     if size == 0 {
-        complain(name, b": empty\n");
+        complain(rt, name, b": empty\n");
     }
     if ROM_MOST < size {
-        complain(name, b": over 65,536 bytes\n");
+        complain(rt, name, b": over 65,536 bytes\n");
     }
 }
 
-fn read_from(fd: i32, name: &[u8], space: &mut [u8]) -> Dumped
-    ensures { IsPrefixLen result.size space.new }
+// What was read of a dump with this name; a sentence says why where it could not be.
+fn dump_read(rt: &HostRuntime, name: &[u8], read: io::Result<usize>) -> Dumped
+    ensures { MatchResult read (λ n. result.size ≡ n) (λ _. result.size ≡ 0) }
 {
-    let n = io::read_full(fd, space);
-    if n <= ROM_MOST {
-        if !ended(fd) {
-            os::fail(name);
-            return lost();
+    match read {
+        Ok(size) => {
+            remark(rt, name, size);
+            Dumped { size, lost: false }
+        }
+        Err(why) => {
+            fail(rt, name, why);
+            lost()
         }
     }
-    remark(name, n);
-    Dumped {
-        size: n,
-        lost: false,
-    }
 }
 
-pub fn read_dump(name: &[u8], space: &mut [u8]) -> Dumped
-    ensures { IsPrefixLen result.size space.new }
+pub fn read_dump(rt: &HostRuntime, name: &[u8], link: &[u8], space: &mut [u8]) -> Dumped
+    ensures in_bounds { result.size ≤ length space.new }
+    ensures prefix { result.size ≡ length (take result.size space.new) }
 {
     if same_bytes(name, b"-") {
-        return read_from(STDIN_FILENO, b"standard input", space);
+        let read = read_full(&mut rt.stdin(), space);
+        return dump_read(rt, b"standard input", read);
     }
-    let fd = os::open_read(name);
-    if fd < 0 {
-        os::fail(name);
-        return lost();
-    }
-    let dumped = read_from(fd, name, space);
-    libc::close(fd);
-    dumped
+    let read = read_file(rt, name, link, space);
+    dump_read(rt, name, read)
 }
 
 // Lays the FCode bytes of a spread ROM one behind the other, and says how many there are. A ROM that is not spread is left where it is.
 pub fn lay_spread(rom: &[u8], space: &mut [u8]) -> usize
-    ensures { IsPrefixLen result space.new }
+    ensures in_bounds { result ≤ length space.new }
+    ensures prefix { result ≡ length (take result space.new) }
 {
     if is_spread(rom) {
         let spread = spread_of(rom);

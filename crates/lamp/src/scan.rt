@@ -1,15 +1,23 @@
-// Many dumps, a line for each, and how many of each kind there were. Their names come by a descriptor of their own, each with a null behind
-// it, so that any number of them goes.
+// Many dumps, a line for each, and how many of each kind there were. They come in a file of their own, so that any number of them goes: of
+// each dump its name, and the path of a link to it where the name is no text, both with a null behind them.
+ghost use Rattle.std.specs.Prelude.{◌≡◌, ◌≤◌, length, take};
+
 use crate::dump::{SPACE, read_dump};
 use crate::judge::{Ended, ended_run, screened};
-use crate::print::{LOST, REFUSED, SPENT, WELL, before, print, say_aside, status_if};
+use crate::print::{LOST, REFUSED, SPENT, WELL, before, fail, print, say_aside};
 use crate::show::status_of;
-use libc::{STDERR_FILENO, STDOUT_FILENO};
 use lines::{Counts, Dump, count_line, csv_head, lost_csv, lost_line, scan_csv, scan_line};
 use rom::sizes::{STORE_SIZE, TEXT_SIZE};
+use std::fs::File;
+use std::io::{IsTerminal, Read};
+use std::{io, str};
 use tree::own_value;
 
-const NAMES: i32 = 4;
+// No path that can be opened is longer.
+const PATH_MOST: usize = 4096;
+
+// A name and the path of a link.
+const BOTH_MOST: usize = 8192;
 
 // The node that a board's program starts at.
 const BOARD: u32 = 1;
@@ -22,12 +30,13 @@ pub struct Wish {
     pub counting: bool,
 }
 
-// What has been done: the dumps by kind, the bytes of a name that is not whole yet, and whether all could be printed.
+// What has been done: the dumps by kind, how many bytes there are of a dump that is not whole yet, and of those how many are its name's,
+// once that is whole.
 #[derive(Clone, Copy)]
-pub struct Progress {
-    pub counts: Counts,
-    pub have: usize,
-    pub well: bool,
+struct Progress {
+    counts: Counts,
+    have: usize,
+    named: Option<usize>,
 }
 
 fn none() -> Counts {
@@ -112,124 +121,156 @@ fn lost_dump(text: &mut [u8], csv: bool, file: &[u8]) -> usize {
     }
 }
 
-// A dump that was judged, or could not be read: the status of it alone, and whether its line was printed.
-#[derive(Clone, Copy)]
-pub struct Scanned {
-    pub status: u8,
-    pub printed: bool,
-}
-
-fn judged(rom: &[u8], file: &[u8], wish: Wish) -> Scanned {
+// A dump that was judged: its status, with its line printed.
+fn judged(rt: &HostRuntime, rom: &[u8], file: &[u8], wish: Wish) -> io::Result<u8> {
     let mut text = [0u8; TEXT_SIZE];
     let why = screened(rom);
     if why != 0 {
         let end = refused_line(&mut text, wish.csv, file, why);
-        return Scanned {
-            status: REFUSED,
-            printed: print(&text, end),
-        };
+        print(rt, &text, end)?;
+        return Ok(REFUSED);
     }
     let mut store = [0u8; STORE_SIZE];
     let ended = ended_run(rom, &mut store, wish.budget);
     let status = status_of(ended.number);
     let end = passed_line(&mut text, &store, wish.csv, file, ended);
-    Scanned {
-        status,
-        printed: print(&text, end),
-    }
+    print(rt, &text, end)?;
+    Ok(status)
 }
 
-fn unread(file: &[u8], wish: Wish) -> Scanned {
+// One that could not be read.
+fn unread(rt: &HostRuntime, file: &[u8], wish: Wish) -> io::Result<u8> {
     let mut text = [0u8; TEXT_SIZE];
     let end = lost_dump(&mut text, wish.csv, file);
-    Scanned {
-        status: LOST,
-        printed: print(&text, end),
-    }
+    print(rt, &text, end)?;
+    Ok(LOST)
 }
 
-fn scan_one(file: &[u8], wish: Wish) -> Scanned {
+fn scan_one(rt: &HostRuntime, file: &[u8], link: &[u8], wish: Wish) -> io::Result<u8> {
     let mut space = [0u8; SPACE];
-    let dumped = read_dump(file, &mut space);
+    let dumped = read_dump(rt, file, link, &mut space);
     if dumped.lost {
-        return unread(file, wish);
+        return unread(rt, file, wish);
     }
     let n = dumped.size;
-    judged(&space[..n], file, wish)
+    judged(rt, &space[..n], file, wish)
 }
 
 // How far it has come, for whoever waits at a terminal and does not see the lines themselves.
-fn tell_count(n: u32) {
-    io::write_all(STDERR_FILENO, b"\r");
-    io::print_decimal(STDERR_FILENO, n as u64);
-    io::write_all(STDERR_FILENO, b" dumps");
+fn tell_count(rt: &HostRuntime, n: u32) {
+    let _ = eprint!(rt; "\r{n} dumps");
 }
 
-// A name that is whole.
-fn whole_name(file: &[u8], so: Progress, wish: Wish) -> Progress {
-    let scanned = scan_one(file, wish);
-    let counts = counted(so.counts, scanned.status);
+// A dump whose name and link are whole.
+fn whole_dump(
+    rt: &HostRuntime,
+    file: &[u8],
+    link: &[u8],
+    so: Progress,
+    wish: Wish,
+) -> io::Result<Progress> {
+    let status = scan_one(rt, file, link, wish)?;
+    let counts = counted(so.counts, status);
     if wish.counting {
-        tell_count(counts.all);
+        tell_count(rt, counts.all);
     }
-    Progress {
+    Ok(Progress {
         counts,
         have: 0,
-        well: scanned.printed,
+        named: None,
+    })
+}
+
+// A null ends a name, or the path of a link.
+fn word_ended(rt: &HostRuntime, both: &[u8], so: Progress, wish: Wish) -> io::Result<Progress> {
+    let n = before(both, so.have);
+    match so.named {
+        None => Ok(Progress {
+            counts: so.counts,
+            have: n,
+            named: Some(n),
+        }),
+        Some(named) => {
+            let m = before(&both[..n], named);
+            whole_dump(rt, &both[..m], &both[m..n], so, wish)
+        }
     }
 }
 
-// A byte of the names: a null ends one. Of a name that is too long for any file the start is kept, which is too long as well.
-fn feed(name: &mut [u8], byte: u8, so: Progress, wish: Wish) -> Progress {
-    if !so.well {
-        return so;
+// How many bytes are kept. Of a name that is too long for any file the start is kept, which is too long as well.
+fn kept(named: Option<usize>) -> usize {
+    match named {
+        None => PATH_MOST,
+        Some(_) => BOTH_MOST,
     }
+}
+
+// A byte of the names and links.
+fn feed(
+    rt: &HostRuntime,
+    both: &mut [u8],
+    byte: u8,
+    so: Progress,
+    wish: Wish,
+) -> io::Result<Progress> {
     if byte == 0 {
-        let n = before(&*name, so.have);
-        return whole_name(&name[..n], so, wish);
+        return word_ended(rt, &*both, so, wish);
     }
     let at = so.have;
-    if at < name.len() {
-        name[at] = byte;
-        let mut now = so;
-        now.have = at + 1;
-        return now;
+    let mut now = so;
+    if at < both.len() {
+        if at < kept(so.named) {
+            both[at] = byte;
+            now.have = at + 1;
+        }
     }
-    so
+    Ok(now)
 }
 
-fn feed_all(name: &mut [u8], bytes: &[u8], start: Progress, wish: Wish) -> Progress {
+fn feed_all(
+    rt: &HostRuntime,
+    both: &mut [u8],
+    bytes: &[u8],
+    start: Progress,
+    wish: Wish,
+) -> io::Result<Progress> {
     let mut so = start;
-    let mut k = 0;
-    while k < bytes.len() {
-        so = feed(&mut *name, bytes[k], so, wish);
-        k += 1;
+    for byte in bytes {
+        so = feed(rt, &mut *both, *byte, so, wish)?;
     }
-    so
+    Ok(so)
 }
 
 // More reads than any list of names takes.
 const READS: u64 = 0xFFFF_FFFF_FFFF;
 
-fn all_names(wish: Wish) -> Progress {
+// The bytes that come next; none where there are no more, or where they cannot be read.
+fn next_bytes(names: &mut File, bytes: &mut [u8]) -> usize
+    ensures in_bounds { result ≤ length bytes.new }
+    ensures prefix { result ≡ length (take result bytes.new) }
+{
+    match names.read(&mut *bytes) {
+        Ok(n) => n,
+        Err(_) => 0,
+    }
+}
+
+fn all_names(rt: &HostRuntime, names: &mut File, wish: Wish) -> io::Result<Counts> {
     let mut so = Progress {
         counts: none(),
         have: 0,
-        well: true,
+        named: None,
     };
-    let mut name = io::buffer();
-    let mut bytes = io::buffer();
-    let mut k = 0;
-    while k < READS {
-        let got = libc::read(NAMES, &mut bytes);
-        let n = io::count(got, &bytes);
+    let mut both = [0u8; BOTH_MOST];
+    let mut bytes = [0u8; 4096];
+    for _ in 0..READS {
+        let n = next_bytes(names, &mut bytes);
         if n == 0 {
             break;
         }
-        so = feed_all(&mut name, &bytes[..n], so, wish);
-        k += 1;
+        so = feed_all(rt, &mut both, &bytes[..n], so, wish)?;
     }
-    so
+    Ok(so.counts)
 }
 
 // The worst that was met.
@@ -250,46 +291,54 @@ fn worst(counts: Counts) -> u8 {
 }
 
 // The closing line: behind the lines of the dumps, or beside them where they are for another program.
-fn close(counts: Counts, wish: Wish) -> u8 {
+fn close(rt: &HostRuntime, counts: Counts, wish: Wish) -> io::Result<u8> {
     let mut text = [0u8; 256];
     let end = count_line(&mut text, 0, counts);
     if wish.counting {
-        io::write_all(STDERR_FILENO, b"\r");
+        say_aside(rt, b"\r");
     }
     if wish.csv {
-        say_aside(&text, end);
-        return worst(counts);
+        let n = before(&text, end);
+        say_aside(rt, &text[..n]);
+    } else {
+        print(rt, &text, end)?;
     }
-    status_if(print(&text, end), worst(counts))
+    Ok(worst(counts))
 }
 
-fn head(csv: bool) -> bool {
+fn head(rt: &HostRuntime, csv: bool) -> io::Result<()> {
     if !csv {
-        return true;
+        return Ok(());
     }
     let mut text = [0u8; 256];
     let end = csv_head(&mut text, 0);
-    print(&text, end)
+    print(rt, &text, end)
 }
 
-// The dumps whose names come.
-pub fn scan(csv: bool, budget: u32) -> u8 {
-    let counting = if libc::isatty(STDOUT_FILENO) == 1 {
-        false
-    } else {
-        libc::isatty(STDERR_FILENO) == 1
-    };
+// The file of the names, by its own name.
+fn open_names(rt: &HostRuntime, names: &[u8]) -> io::Result<File> {
+    match str::from_utf8(names) {
+        Ok(path) => File::open(rt, path),
+        Err(_) => Err(io::Error::from(io::ErrorKind::InvalidFilename)),
+    }
+}
+
+// The dumps whose names stand in a file.
+pub fn scan(rt: &HostRuntime, csv: bool, budget: u32, names: &[u8]) -> io::Result<u8> {
     let wish = Wish {
         csv,
         budget,
-        counting,
+        counting: !rt.stdout().is_terminal() && rt.stderr().is_terminal(),
     };
-    if !head(csv) {
-        return LOST;
+    head(rt, csv)?;
+    match open_names(rt, names) {
+        Ok(mut names) => {
+            let counts = all_names(rt, &mut names, wish)?;
+            close(rt, counts, wish)
+        }
+        Err(why) => {
+            fail(rt, b"the names of the dumps", why);
+            Ok(LOST)
+        }
     }
-    let so = all_names(wish);
-    if !so.well {
-        return LOST;
-    }
-    close(so.counts, wish)
 }

@@ -1,6 +1,7 @@
 // The lines of a listing, of a token list, of what explain says and of a scan of many dumps, written into a buffer that is lent for them.
 // Every call is total.
 #![tactic(auto)]
+
 mod digits;
 mod explain;
 mod fields;

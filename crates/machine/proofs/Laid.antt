@@ -67,7 +67,8 @@ module _ (spread : Spread) (rom work store room : List ℕ) (st : State) (n : �
 
 -- ---- a ROM of a wrong size is refused as one of no bytes is
 module _ (fcode other work store : List ℕ) (st : State) (w : wrong_rom fcode ≡ true) (v : wrong_rom other ≡ true) (budget : ℕ) where
-  refused_by : (b : Bool) → wrong_sizes work store ≡ b → run_of budget (scene other work store st) ≡ run_of budget (scene fcode work store st)
+  refused_by : (b : Bool) → wrong_sizes work store ≡ b → run_of budget (scene other work store st) ≡ run_of budget
+      (scene fcode work store st)
   unfolding ready_of
   refused_by true e =
       run_known budget 0 (scene other work store st) (Refused 6) (rw e) (not_going 6)

@@ -9,7 +9,7 @@ use native.Mathlib.Nat.{sub-zero}
 use lib.Dec.{eqb}
 use Rattle.cells.specs.Choice.{pick}
 use Rattle.tree.specs.Whole.{whole_tree}
-use Rattle.tree.specs.Laws.Kept.{whole_is as whole_tree}
+use Rattle.tree.specs.Laws.Kept.{whole_is as whole_tree_lem}
 use Rattle.tree.specs.declared.tree.Tree.{Tree}
 use Rattle.state.specs.Scene.{Scene, Turn, scene, turn, handed_back, refuse}
 use Rattle.state.specs.Step.{ready_of, token_turn, known_turn, step_of}
@@ -103,7 +103,7 @@ fit s e =
     (p.height, p.numbers.count, p.work, a, omega arith)
 
 pub tree_whole : (s : Scene) → ready_of s ≡ Going → whole_tree s.state.tree ≡ true
-tree_whole s e = whole_tree s.state.tree (whole_facts s.state (ready_facts s e).1).0.tree
+tree_whole s e = whole_tree_lem s.state.tree (whole_facts s.state (ready_facts s e).1).0.tree
 
 pub ends_spent : (b n : ℕ) (w : RunResult) (s : Scene) → Going-on b w n s → b ≤ n → ended (Spent n) n s ≡ w
 ends_spent b n w s i l = sym (run_spent b n s i.0 l) ∙ i.2

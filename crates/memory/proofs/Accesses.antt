@@ -18,7 +18,8 @@ module _ (rom work : List ℕ) (size address : ℕ) where
   unfolding fetch_cell_of
   no_cell h = rw (resolved_short rom work size address 4 h)
 
-  pub uneven_cell : 4 ≤ length (resolve_of rom work size address 4) → (address % 4 ≡ 0 → ⊥) → Refused 23 ≡ fetch_cell_of rom work size address
+  pub uneven_cell : 4 ≤ length (resolve_of rom work size address 4) → (address % 4 ≡ 0 → ⊥)
+      → Refused 23 ≡ fetch_cell_of rom work size address
   unfolding fetch_cell_of
   uneven_cell h n = rw (resolved_whole rom work size address 4 (omega arith) h, ne_eqb (address % 4) 0 n)
 
@@ -37,7 +38,8 @@ module _ (rom work : List ℕ) (size address : ℕ) where
   one_byte h = rw (resolved_whole rom work size address 1 (omega arith) h)
 
 module _ (work : List ℕ) (address cell : ℕ) where
-  pub cell_outside : lies work_base (length work) address 4 ≡ false → (22 ≡ cell_refusal work address) × (work ≡ cell_stored work address cell)
+  pub cell_outside : lies work_base (length work) address 4 ≡ false
+      → (22 ≡ cell_refusal work address) × (work ≡ cell_stored work address cell)
   unfolding cell_refusal
   cell_outside e = (rw e, rw e)
 
@@ -51,7 +53,8 @@ module _ (work : List ℕ) (address cell : ℕ) where
   unfolding cell_refusal
   cell_inside e n = (rw (e, eq-eqb (address % 4) 0 n), rw (e, eq-eqb (address % 4) 0 n))
 
-  pub byte_outside : lies work_base (length work) address 1 ≡ false → (22 ≡ byte_refusal work address) × (work ≡ byte_stored work address cell)
+  pub byte_outside : lies work_base (length work) address 1 ≡ false
+      → (22 ≡ byte_refusal work address) × (work ≡ byte_stored work address cell)
   unfolding byte_refusal
   byte_outside e = (rw e, rw e)
 

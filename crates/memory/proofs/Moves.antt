@@ -37,7 +37,8 @@ pub cleared_all : (m : List ℕ) (k : ℕ) → length m ≤ k → cleared_of m k
 cleared_all m k h = written_out m k (replicate (length m - k) 0) h
 
 -- a byte of the memory itself: the first one where it goes towards the start, the last one where it goes towards the end
-pub moved_first : (m : List ℕ) (s t k : ℕ) → t ≤ s → s < length m → moved_of (set m t (get_or m s 0)) (s + 1) (t + 1) k ≡ moved_of m s t (suc k)
+pub moved_first : (m : List ℕ) (s t k : ℕ) → t ≤ s → s < length m
+    → moved_of (set m t (get_or m s 0)) (s + 1) (t + 1) k ≡ moved_of m s t (suc k)
 moved_first m s t k h f =
     rw (drop-cons m s 0 f, add-one s, drop-set-lt (suc s) m t (get_or m s 0) (omega arith))
     (sym (written_more m t (get_or m s 0) (take k (drop (suc s) m))))
@@ -60,7 +61,8 @@ part_last m s k h =
     let d = length-drop s m in
     rw (← get_or-drop s m k 0) (take-suc (drop s m) k 0 (omega arith))
 
-moved_end : (m : List ℕ) (s t k : ℕ) → s ≤ t → s + k < length m → moved_of (set m (t + k) (get_or m (s + k) 0)) s t k ≡ moved_of m s t (suc k)
+moved_end : (m : List ℕ) (s t k : ℕ) → s ≤ t → s + k < length m
+    → moved_of (set m (t + k) (get_or m (s + k) 0)) s t k ≡ moved_of m s t (suc k)
 moved_end m s t k h f =
     let x = get_or m (s + k) 0 in
     let n = length_part m s k (omega arith) in

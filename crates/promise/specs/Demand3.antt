@@ -31,7 +31,8 @@ use Rattle.promise.specs.Trail.{DependsOnData, Allowed, Trail, RunEnds, HeightIs
 
 -- whatever `screen(rom, marks)` answers for a ROM with a good header and a mark buffer of its size: the contract in screen/src/screening.rt
 abbrev pub Exactly : Type 0
-Exactly = (rom before after : List ℕ) (verdict : Verdict) → length before ≡ marks_size → header_of rom ≡ 0 → Promised rom before verdict after
+Exactly = (rom before after : List ℕ) (verdict : Verdict) → length before ≡ marks_size → header_of rom ≡ 0
+    → Promised rom before verdict after
     → (verdict ≡ Passes) ↔ Assignment rom
 
 -- What a caller saw who screened a ROM and opened it: each call with what its contract says of it.

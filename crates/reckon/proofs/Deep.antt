@@ -56,7 +56,8 @@ module _ (h b : ℕ) (c : List ℕ) (t : h ≤ data_most) where
     divide_zero z = let y : h - 1 - 0 ≡ h - 1 = omega arith in (t, λ k. simp (le-ltb _ _ l, y, z))
 
     divide_left : (k : List ℕ)
-        → reckoned_as 0 (stacks (set (set c (h - 2) (get_or c (h - 2) 0 % get_or c (h - 1) 0)) (h - 1) (get_or c (h - 2) 0 / get_or c (h - 1) 0)) h k
+        → reckoned_as 0 (stacks (set (set c (h - 2) (get_or c (h - 2) 0 % get_or c (h - 1) 0)) (h - 1)
+        (get_or c (h - 2) 0 / get_or c (h - 1) 0)) h k
         b) ≡ reckoned_as 0 (plain_of 0x2B 0 (stacks c h k b))
     unfolding plain_of left_of code_of row_of table ends lows highs doubles
     divide_left k =
@@ -96,7 +97,8 @@ module _ (h b : ℕ) (c : List ℕ) (t : h ≤ data_most) where
         let y : h - 1 - (n + 1) ≡ h - 2 - n = omega arith in
         (t, λ k. simp (le-ltb _ _ l, counted, le-ltb _ _ m, y))
 
-    pub roll_fine : n + 2 ≤ h → (d : List ℕ) (g : ℕ) → d ≡ turned_of c (h - 2 - n) n → g ≡ h - 2 - n + n → Works roll_up_of c h b 0 (g + 1) d
+    pub roll_fine : n + 2 ≤ h → (d : List ℕ) (g : ℕ) → d ≡ turned_of c (h - 2 - n) n → g ≡ h - 2 - n + n
+        → Works roll_up_of c h b 0 (g + 1) d
     roll_fine m d g x y =
         let z : g + 1 ≡ h - 1 = omega arith in
         (omega arith, λ k. rw (x, z) (simp (le-ltb _ _ l, counted, le-ltb _ _ m)))

@@ -14,7 +14,8 @@ use Rattle.rom.specs.Bytes.{byte_of}
 use Rattle.tokens.specs.Row.{Row}
 use Rattle.tokens.specs.Table.{ends, lows, highs, doubles, table, row_of}
 use Rattle.tokens.specs.Code.{packed, code_of, family_in, out_of_place_in, form_in}
-use Rattle.tokens.specs.Decode.{is_double, number_of, behind_number, behind_string, behind_of, operand_of, formed, token_if_whole, decode_of}
+use Rattle.tokens.specs.Decode.{is_double, number_of, behind_number, behind_string, behind_of, operand_of, formed, token_if_whole}
+use Rattle.tokens.specs.Decode.{decode_of}
 use Rattle.tokens.specs.Decode.{token_of as token_made}
 use Rattle.tokens.specs.Place.{judged, misplaced_of, read_of}
 use Rattle.tokens.specs.declared.decoding.Operand.{Operand}
@@ -74,7 +75,8 @@ form_formed rom size wide q form h = by (eqb form 0) (eqb form 1) (eqb form 3) r
     by false false true x y z t = rw (eqb-true form 3 z)
     by false false false x y z t = absurd t
 
-module _ (rom : List ℕ) (size : ℕ) (wide within : Bool) (p : ℕ) (n : ℕ) (e : n ≡ byte_of rom p) (hot : T (hot_family (family_in (code_of n))))
+module _ (rom : List ℕ) (size : ℕ) (wide within : Bool) (p : ℕ) (n : ℕ) (e : n ≡ byte_of rom p)
+    (hot : T (hot_family (family_in (code_of n))))
   where
     abbrev next_of : ℕ
     next_of = behind_of rom wide (p + 1) (form_in (code_of n))
@@ -95,7 +97,8 @@ module _ (rom : List ℕ) (size : ℕ) (wide within : Bool) (p : ℕ) (n : ℕ) 
     judged_hot false = rw (hot_token n hot).anywhere
 
     -- what is read there
-    pub hot_read : read_of rom size wide within p ≡ pick (ltb size next_of) (Unread 10) (Good (token_made n (code_of n) operand_here next_of))
+    pub hot_read : read_of rom size wide within p ≡ pick (ltb size next_of) (Unread 10)
+        (Good (token_made n (code_of n) operand_here next_of))
     unfolding read_of token_if_whole
     hot_read =
         rw (hot_decoded, (hot_token n hot).named, form_formed rom size wide (p + 1) (form_in (code_of n)) (hot_token n hot).form)
@@ -160,7 +163,8 @@ hot_numbers = numbers_of hot_row table
 hot_listed : (n : ℕ) → T (hot_family (family_in (code_of n))) → T (among n hot_numbers)
 unfolding code_of hot_numbers table ends lows highs doubles
 hot_listed n t =
-    follows (hot_row (row_of n)) (among n hot_numbers) (rows_pass (λ m r. not (hot_row r) || among m hot_numbers) tt (λ m. tt) (λ m. tt) n) t
+    follows (hot_row (row_of n)) (among n hot_numbers) (rows_pass (λ m r. not (hot_row r) || among m hot_numbers) tt (λ m. tt) (λ m. tt) n)
+    t
 
 pub none_hot : (n : ℕ) → Beside (Unit {0}) hot_numbers n → hot_family (family_in (code_of n)) ≡ false
 none_hot n r = never_true (hot_family (family_in (code_of n))) (λ t. none_left (Unit {0}) hot_numbers n r (hot_listed n t))

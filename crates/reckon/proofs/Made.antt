@@ -63,7 +63,8 @@ module _ (rom : List ℕ) (size : ℕ) (wide : Bool) (base : ℕ) (c : List ℕ)
   module _ (next why g r : ℕ) (d l : List ℕ) where
     abbrev Turns : Type 0
     Turns = (st : State) (work store : List ℕ) → Goes st size wide base
-        → token_turn (scene rom work store (packed_fast st c h k b place)) ≡ turn_of (scene rom work store (packed_fast st c h k b place)) why
+        → token_turn (scene rom work store (packed_fast st c h k b place)) ≡ turn_of (scene rom work store (packed_fast st c h k b place))
+        why
         next g r d l
 
     work_made : Sound → (g ≤ data_most) × (r ≤ return_most) × (base ≤ r) → (8 ≤ next) × (next ≤ size) → Turns

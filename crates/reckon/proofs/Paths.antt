@@ -48,7 +48,8 @@ pub none_given : (s : Seen) (rs : List Result) → length rs ≡ 0 → reckoned_
 none_given s [] h = refl
 none_given s (r ∷ rs) h = absurd (omega arith)
 
-none_back : (n k : ℕ) (s : Seen) → code_of n ≡ k → family_in k ≡ plain → return_gives_in k ≡ 0 → reckoned_of (row_of n).return_results s ≡ []
+none_back : (n k : ℕ) (s : Seen) → code_of n ≡ k → family_in k ≡ plain → return_gives_in k ≡ 0
+    → reckoned_of (row_of n).return_results s ≡ []
 none_back n k s e f g = none_given s (row_of n).return_results (return_results_fit n (rw e f) ∙ rw e g)
 
 -- ---- a token that leaves the return stack alone and has no operand

@@ -94,7 +94,8 @@ module _ (base h b place : ℕ) (c k : List ℕ) (t : h ≤ data_most) (r : b �
 
     pub from_fine : h < data_most → OnBoth 0x31 base c h k b place (turned On (h + 1) (b - 1) (place + 1)) (set c h (get_or k (b - 1) 0)) k
     from_fine m =
-        both_made 0x31 h b place 0x0100_1001 from_code refl refl t r base c k 0 (h + 1) (b - 1) (set c h (get_or k (b - 1) 0)) k (omega arith)
+        both_made 0x31 h b place 0x0100_1001 from_code refl refl t r base c k 0 (h + 1) (b - 1) (set c h (get_or k (b - 1) 0)) k
+        (omega arith)
         (omega arith)
         (λ o. omega arith)
         (λ operand. from_left operand ∙ fine 0x31 operand base (stacks c h k b) 0x0100_1001 from_code (omega arith) (omega arith)

@@ -1,5 +1,7 @@
 -- Bytes that lie apart, laid and summed one at a time. Assumes nothing.
-use Rattle.std.proofs.Common.{◌≡◌, ℕ, zero, suc, ◌+◌, ◌-◌, ◌*◌, ◌%◌, ◌^◌, ◌<◌, ◌≤◌, min, ◌≢◌, List, [], ◌∷◌, ◌++◌, length, get_or, take, drop, set, sym, refl, ap, ◌∙◌, ⊎_elim, eq-or-lt_of_le, arith, length-drop, length-set, length-take, get_or-drop, get_or-set_other, take-suc, get_or-set_same, ext_get_or}
+use Rattle.std.proofs.Common.{◌≡◌, ℕ, zero, suc, ◌+◌, ◌-◌, ◌*◌, ◌%◌, ◌^◌, ◌<◌, ◌≤◌, min, ◌≢◌, List, [], ◌∷◌, ◌++◌, length, get_or, take}
+use Rattle.std.proofs.Common.{drop, set, sym, refl, ap, ◌∙◌, ⊎_elim, eq-or-lt_of_le, arith, length-drop, length-set, length-take}
+use Rattle.std.proofs.Common.{get_or-drop, get_or-set_other, take-suc, get_or-set_same, ext_get_or}
 use native.Mathlib.Decide.{dec_le}
 use lib.ListN.{get_or-eq_default}
 use Rattle.rom.specs.Sizes.{first_place}
@@ -93,7 +95,8 @@ module _ (s : Spread) (rom : List ℕ) where
       let e = program_apart n (omega arith) in
       let v = view_at s rom (first_place + n) in
       let d = get_or-drop first_place (view_of s rom) n 0 in
-      rw (take-suc (drop first_place (view_of s rom)) n 0 (omega arith), total_end (take n (drop first_place (view_of s rom)))) (omega arith)
+      rw (take-suc (drop first_place (view_of s rom)) n 0 (omega arith), total_end (take n (drop first_place (view_of s rom))))
+      (omega arith)
 
   pub sum_apart : (found : Spread) (len all end : ℕ) → s ≡ found → all ≡ length (view_of s rom) → end ≡ min len all → first_place < end
       → apart_sum (distance_of found) rom (end - first_place) % 2 ^ 16 ≡ sum_of (view_of s rom) len

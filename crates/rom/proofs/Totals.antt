@@ -1,5 +1,6 @@
 -- Sums of bytes, from the last one down, one more at a time. Assumes nothing.
-use Rattle.std.proofs.Common.{◌≡◌, ℕ, ◌+◌, ◌-◌, ◌%◌, ◌^◌, ◌<◌, ◌≤◌, min, List, length, get_or, take, drop, sym, ◌∙◌, add-one, arith, length-drop, take_all, drop-cons}
+use Rattle.std.proofs.Common.{◌≡◌, ℕ, ◌+◌, ◌-◌, ◌%◌, ◌^◌, ◌<◌, ◌≤◌, min, List, length, get_or, take, drop, sym, ◌∙◌, add-one, arith}
+use Rattle.std.proofs.Common.{length-drop, take_all, drop-cons}
 use native.Mathlib.Decide.{dec_le}
 use lib.Seq.{drop-length}
 use Rattle.rom.specs.Sum.{total, program_of, sum_of}

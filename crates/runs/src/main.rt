@@ -4,6 +4,7 @@
 // what stands behind D, for a state that is altered and still whole. Behind O stand a ROM and a budget, for the order in which the tests of
 // a step and a run come.
 #![tactic(auto)]
+
 mod damage;
 mod evaluator;
 mod finds;
@@ -19,19 +20,20 @@ use crate::odd::show_odd;
 use crate::orders::show_orders;
 use crate::say::say;
 use crate::trial::{show_damaged, show_lent, show_run};
-use given::{SPACE, bytes_from, digits_at, mark_from, word_end};
-use libc::STDIN_FILENO;
+use given::{SPACE, bytes_from, digits_at, mark_from, read_text, word_end};
+use std::io;
 
 // R: a ROM and a budget, and the lookups to make then.
-fn one_run(line: &[u8]) {
+fn one_run(rt: &impl Print, line: &[u8]) -> io::Result<()> {
     let mut space = [0u8; SPACE];
     let n = bytes_from(line, 2, &mut space);
     let behind = word_end(line, 2) + 1;
     show_run(
+        rt,
         &space[..n],
         digits_at(line, behind),
         words_from(line, behind),
-    );
+    )
 }
 
 // What stands behind the word at a place, from its space on.
@@ -41,66 +43,67 @@ fn words_from(line: &[u8], from: usize) -> &[u8] {
 }
 
 // D: a damaged state.
-fn one_damage(line: &[u8]) {
+fn one_damage(rt: &impl Print, line: &[u8]) -> io::Result<()> {
     let mut space = [0u8; SPACE];
     let n = bytes_from(line, 5, &mut space);
     let budget = digits_at(line, word_end(line, 5) + 1);
-    show_damaged(digits_at(line, 2), &space[..n], budget);
+    show_damaged(rt, digits_at(line, 2), &space[..n], budget)
 }
 
 // L: a state that one ROM's run left, damaged or not, and another ROM. Both are short: of two large arrays the checker would hold more than
 // it needs to.
-fn one_lent(line: &[u8]) {
+fn one_lent(rt: &impl Print, line: &[u8]) -> io::Result<()> {
     let mut space = [0u8; 256];
     let mut other = [0u8; 256];
     let n = bytes_from(line, 5, &mut space);
     let behind = word_end(line, 5) + 1;
     let m = bytes_from(line, word_end(line, behind) + 1, &mut other);
     show_lent(
+        rt,
         digits_at(line, 2),
         &space[..n],
         digits_at(line, behind),
         &other[..m],
-    );
+    )
 }
 
 // W: a whole state that no run leaves.
-fn one_odd(line: &[u8]) {
+fn one_odd(rt: &impl Print, line: &[u8]) -> io::Result<()> {
     let mut space = [0u8; SPACE];
     let n = bytes_from(line, 5, &mut space);
     let budget = digits_at(line, word_end(line, 5) + 1);
-    show_odd(digits_at(line, 2), &space[..n], budget);
+    show_odd(rt, digits_at(line, 2), &space[..n], budget)
 }
 
 // O: orders.
-fn one_order(line: &[u8]) {
+fn one_order(rt: &impl Print, line: &[u8]) -> io::Result<()> {
     let mut space = [0u8; SPACE];
     let n = bytes_from(line, 2, &mut space);
-    show_orders(&space[..n], digits_at(line, word_end(line, 2) + 1));
+    show_orders(rt, &space[..n], digits_at(line, word_end(line, 2) + 1))
 }
 
-fn one_line(line: &[u8]) {
+fn one_line(rt: &impl Print, line: &[u8]) -> io::Result<()> {
     match rom::byte(line, 0) {
-        b'R' => one_run(line),
-        b'D' => one_damage(line),
-        b'L' => one_lent(line),
-        b'W' => one_odd(line),
-        b'O' => one_order(line),
-        _ => say(b"no such line\n"),
+        b'R' => one_run(rt, line),
+        b'D' => one_damage(rt, line),
+        b'L' => one_lent(rt, line),
+        b'W' => one_odd(rt, line),
+        b'O' => one_order(rt, line),
+        _ => say(rt, b"no such line\n"),
     }
 }
 
-fn all_lines(text: &[u8]) {
+fn all_lines(rt: &impl Print, text: &[u8]) -> io::Result<()> {
     let mut at = 0;
     while at < text.len() {
         let end = mark_from(text, at, b'\n');
-        one_line(&text[at..end]);
+        one_line(rt, &text[at..end])?;
         at = end + 1;
     }
+    Ok(())
 }
 
-fn main() {
-    let mut text = [0u8; 131072];
-    let n = io::read_full(STDIN_FILENO, &mut text);
-    all_lines(&text[..n]);
+fn main(rt: HostRuntime) -> io::Result<()> {
+    let text = read_text(&rt)?;
+    all_lines(&rt, text.as_slice())
 }

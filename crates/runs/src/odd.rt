@@ -4,6 +4,7 @@ use crate::evaluator::run;
 use crate::trial::{show_left, state_after};
 use rom::sizes::STORE_SIZE;
 use state::{Numbers, State};
+use std::io;
 use tree::Tree;
 
 fn odd_numbers(k: u32, numbers: Numbers) -> Numbers {
@@ -46,11 +47,11 @@ fn litter(k: u32, store: &mut [u8]) {
 }
 
 // Runs a ROM up to a budget, alters what is left, and runs that to its end, which the highest budget does not keep it from.
-pub fn show_odd(k: u32, rom: &[u8], budget: u32) {
+pub fn show_odd(rt: &impl Print, k: u32, rom: &[u8], budget: u32) -> io::Result<()> {
     let mut work = [0u8; 16384];
     let mut store = [0u8; 16384];
     let state = state_after(rom, &mut work, &mut store, budget);
     litter(k, &mut store);
     let ran = run(rom, &mut work, &mut store, odd_state(k, state), 4294967295);
-    show_left(ran, &work, &store);
+    show_left(rt, ran, &work, &store)
 }

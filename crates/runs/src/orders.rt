@@ -8,28 +8,37 @@ use crate::say::{say, say_number};
 use crate::show::show_answer;
 use crate::trial::{both_sums, same_sums, show_kept, show_tried, state_after};
 use state::{Back, Calls, Numbers, Stack, State};
+use std::io;
 
 // A state offered, under the number of its line.
-fn show_order(k: u32, rom: &[u8], work: &mut [u8], store: &mut [u8], state: State, budget: u32) {
-    say(b"order");
-    say_number(k as u64);
-    show_tried(rom, work, store, state, budget);
+fn show_order(
+    rt: &impl Print,
+    k: u32,
+    rom: &[u8],
+    work: &mut [u8],
+    store: &mut [u8],
+    state: State,
+    budget: u32,
+) -> io::Result<()> {
+    say(rt, b"order")?;
+    say_number(rt, k as u64)?;
+    show_tried(rt, rom, work, store, state, budget)
 }
 
 // A buffer of another size than 16,384 is 6 before all else: a ROM of no bytes and a damaged state would be 1 and 7.
-fn show_sizes(rom: &[u8], bad: State) {
+fn show_sizes(rt: &impl Print, rom: &[u8], bad: State) -> io::Result<()> {
     let mut right = [0u8; 16384];
     let mut short = [0u8; 16383];
     let mut long = [0u8; 16385];
-    show_order(0, rom, &mut short, &mut right, bad, 0);
-    show_order(1, rom, &mut right, &mut long, bad, 0);
+    show_order(rt, 0, rom, &mut short, &mut right, bad, 0)?;
+    show_order(rt, 1, rom, &mut right, &mut long, bad, 0)
 }
 
 // The same with buffers of the right size.
-fn show_offered(k: u32, rom: &[u8], state: State, budget: u32) {
+fn show_offered(rt: &impl Print, k: u32, rom: &[u8], state: State, budget: u32) -> io::Result<()> {
     let mut work = [0u8; 16384];
     let mut store = [0u8; 16384];
-    show_order(k, rom, &mut work, &mut store, state, budget);
+    show_order(rt, k, rom, &mut work, &mut store, state, budget)
 }
 
 fn with_length(state: State, length: u32) -> State {
@@ -38,21 +47,21 @@ fn with_length(state: State, length: u32) -> State {
     n
 }
 
-fn show_roms(rom: &[u8], state: State, bad: State) {
+fn show_roms(rt: &impl Print, rom: &[u8], state: State, bad: State) -> io::Result<()> {
     let long = [0u8; 65537];
-    show_offered(2, &long[..0], bad, 0);
-    show_offered(3, &long, bad, 0);
-    show_offered(4, rom, with_length(bad, 16384), 0);
-    show_offered(5, rom, with_length(state, 16384), 0);
+    show_offered(rt, 2, &long[..0], bad, 0)?;
+    show_offered(rt, 3, &long, bad, 0)?;
+    show_offered(rt, 4, rom, with_length(bad, 16384), 0)?;
+    show_offered(rt, 5, rom, with_length(state, 16384), 0)
 }
 
 // The ends of a run: a state at its budget, a finished state.
-fn show_ends(rom: &[u8], state: State, finished: State) {
-    show_offered(6, rom, state, 0);
-    show_offered(7, rom, finished, 0);
-    show_offered(8, rom, finished, 1000);
-    show_offered(9, rom, damaged(0, finished), 1000);
-    show_offered(10, rom, with_length(finished, 16384), 1000);
+fn show_ends(rt: &impl Print, rom: &[u8], state: State, finished: State) -> io::Result<()> {
+    show_offered(rt, 6, rom, state, 0)?;
+    show_offered(rt, 7, rom, finished, 0)?;
+    show_offered(rt, 8, rom, finished, 1000)?;
+    show_offered(rt, 9, rom, damaged(0, finished), 1000)?;
+    show_offered(rt, 10, rom, with_length(finished, 16384), 1000)
 }
 
 fn zero_state() -> State {
@@ -94,27 +103,30 @@ fn zero_state() -> State {
 }
 
 // A refused opening writes nothing and hands back the all-zero state.
-fn show_opening(rom: &[u8]) {
+fn show_opening(rt: &impl Print, rom: &[u8]) -> io::Result<()> {
     let mut work = [0xA5u8; 16384];
     let mut store = [0x5Au8; 16384];
     let sums = both_sums(&work, &store);
     let opened = open(rom, &mut work, &mut store);
     let answer = opened.answer;
-    say(b"opening");
-    show_answer(answer);
-    show_kept(same_states(opened.state, zero_state()) & same_sums(sums, both_sums(&work, &store)));
+    say(rt, b"opening")?;
+    show_answer(rt, answer)?;
+    show_kept(
+        rt,
+        same_states(opened.state, zero_state()) & same_sums(sums, both_sums(&work, &store)),
+    )
 }
 
-pub fn show_orders(rom: &[u8], budget: u32) {
+pub fn show_orders(rt: &impl Print, rom: &[u8], budget: u32) -> io::Result<()> {
     let mut work = [0u8; 16384];
     let mut store = [0u8; 16384];
     let state = state_after(rom, &mut work, &mut store, budget);
     let ran = run(rom, &mut work, &mut store, state, 1000);
     let bad = damaged(0, state);
-    show_sizes(&rom[..0], bad);
-    show_roms(rom, state, bad);
-    show_ends(rom, state, ran.state);
-    show_opening(&rom[..0]);
-    show_opening(rom);
-    show_lookup_orders(state);
+    show_sizes(rt, &rom[..0], bad)?;
+    show_roms(rt, rom, state, bad)?;
+    show_ends(rt, rom, state, ran.state)?;
+    show_opening(rt, &rom[..0])?;
+    show_opening(rt, rom)?;
+    show_lookup_orders(rt, state)
 }

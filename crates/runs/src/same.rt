@@ -4,48 +4,40 @@ use state::{Back, Calls, Numbers, Stack, State};
 use tree::Tree;
 
 fn same_words(a: &[u32], b: &[u32]) -> bool {
-    let mut k = 0;
-    while k < a.len() {
+    for k in 0..a.len() {
         if a[k] != word_at(b, k) {
             return false;
         }
-        k += 1;
     }
     true
 }
 
 fn same_sizes(a: &[usize], b: &[usize]) -> bool {
-    let mut k = 0;
-    while k < a.len() {
+    for k in 0..a.len() {
         if a[k] != size_at(b, k) {
             return false;
         }
-        k += 1;
     }
     true
 }
 
 fn same_bytes(a: &[u8], b: &[u8]) -> bool {
-    let mut k = 0;
-    while k < a.len() {
+    for k in 0..a.len() {
         if a[k] != rom::byte(b, k) {
             return false;
         }
-        k += 1;
     }
     true
 }
 
 fn same_flags(a: &[bool], b: &[bool]) -> bool {
-    let mut k = 0;
-    while k < a.len() {
+    for k in 0..a.len() {
         if b.len() <= k {
             return false;
         }
         if a[k] != b[k] {
             return false;
         }
-        k += 1;
     }
     true
 }

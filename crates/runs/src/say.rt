@@ -1,23 +1,23 @@
 // Words and numbers on standard output.
-use libc::STDOUT_FILENO;
+use std::io;
 
-pub fn say(text: &[u8]) {
-    io::write_all(STDOUT_FILENO, text);
+pub fn say(rt: &impl Print, text: &[u8]) -> io::Result<()> {
+    rt.write_all(text)
 }
 
-pub fn say_one(c: u8) {
+pub fn say_one(rt: &impl Print, c: u8) -> io::Result<()> {
     let text = [c];
-    say(&text);
+    say(rt, &text)
 }
 
-pub fn say_decimal(n: u64) {
-    io::print_decimal(STDOUT_FILENO, n);
+pub fn say_decimal(rt: &impl Print, n: u64) -> io::Result<()> {
+    print!(rt; "{n}")
 }
 
 // A space, and a number behind it.
-pub fn say_number(n: u64) {
-    say_one(b' ');
-    say_decimal(n);
+pub fn say_number(rt: &impl Print, n: u64) -> io::Result<()> {
+    say_one(rt, b' ')?;
+    say_decimal(rt, n)
 }
 
 fn digit(n: u32) -> u8 {
@@ -29,39 +29,38 @@ fn digit(n: u32) -> u8 {
     }
 }
 
-pub fn say_byte(n: u8) {
+pub fn say_byte(rt: &impl Print, n: u8) -> io::Result<()> {
     let mut text = [0u8; 2];
     text[0] = digit(n as u32 / 16);
     text[1] = digit(n as u32);
-    say(&text);
+    say(rt, &text)
 }
 
 // A program number: three digits.
-pub fn say_name(n: u32) {
+pub fn say_name(rt: &impl Print, n: u32) -> io::Result<()> {
     let mut text = [0u8; 3];
     text[0] = digit(n / 256);
     text[1] = digit(n / 16);
     text[2] = digit(n);
-    say(&text);
+    say(rt, &text)
 }
 
 // A cell: eight digits.
-pub fn say_cell(n: u32) {
-    say_byte((n / 16777216 % 256) as u8);
-    say_byte((n / 65536 % 256) as u8);
-    say_byte((n / 256 % 256) as u8);
-    say_byte((n % 256) as u8);
+pub fn say_cell(rt: &impl Print, n: u32) -> io::Result<()> {
+    say_byte(rt, (n / 16777216 % 256) as u8)?;
+    say_byte(rt, (n / 65536 % 256) as u8)?;
+    say_byte(rt, (n / 256 % 256) as u8)?;
+    say_byte(rt, (n % 256) as u8)
 }
 
 // Bytes from a place up to an end, and a dash where there are none.
-pub fn say_bytes(bytes: &[u8], from: usize, end: usize) {
-    say_one(b' ');
+pub fn say_bytes(rt: &impl Print, bytes: &[u8], from: usize, end: usize) -> io::Result<()> {
+    say_one(rt, b' ')?;
     if end <= from {
-        say_one(b'-');
+        say_one(rt, b'-')?;
     }
-    let mut k = from;
-    while k < end {
-        say_byte(rom::byte(bytes, k));
-        k += 1;
+    for k in from..end {
+        say_byte(rt, rom::byte(bytes, k))?;
     }
+    Ok(())
 }

@@ -30,10 +30,8 @@ fn one_byte(sum: u32, byte: u8) -> u32 {
 
 pub fn crc(bytes: &[u8]) -> u32 {
     let mut sum: u32 = 0xFFFF_FFFF;
-    let mut k = 0;
-    while k < bytes.len() {
-        sum = one_byte(sum, bytes[k]);
-        k += 1;
+    for byte in bytes {
+        sum = one_byte(sum, *byte);
     }
     sum ^ 0xFFFF_FFFF
 }

@@ -7,6 +7,7 @@ use crate::say::{say, say_number, say_one};
 use crate::show::{show_answer, show_state};
 use crate::sum::crc;
 use state::{Answer, Ran, State};
+use std::io;
 
 // Whether a spent budget is told with the count of the run.
 fn told_right(answer: Answer, count: u32) -> bool {
@@ -16,80 +17,90 @@ fn told_right(answer: Answer, count: u32) -> bool {
     }
 }
 
-fn show_ran(answer: Answer, count: u32) {
-    show_answer(answer);
+fn show_ran(rt: &impl Print, answer: Answer, count: u32) -> io::Result<()> {
+    show_answer(rt, answer)?;
     if !told_right(answer, count) {
-        say(b" with another count");
+        say(rt, b" with another count")?;
     }
+    Ok(())
 }
 
-fn show_counted(answer: Answer, count: u32) {
-    say(b"open 0\nrun");
-    show_ran(answer, count);
-    say(b"\nsteps");
-    say_number(count as u64);
-    say_one(b'\n');
+fn show_counted(rt: &impl Print, answer: Answer, count: u32) -> io::Result<()> {
+    say(rt, b"open 0\nrun")?;
+    show_ran(rt, answer, count)?;
+    say(rt, b"\nsteps")?;
+    say_number(rt, count as u64)?;
+    say_one(rt, b'\n')
 }
 
 // What a run leaves.
-pub fn show_left(ran: Ran, work: &[u8], store: &[u8]) {
+pub fn show_left(rt: &impl Print, ran: Ran, work: &[u8], store: &[u8]) -> io::Result<()> {
     let answer = ran.answer;
-    show_counted(answer, ran.count);
-    show_state(ran.state, work, store);
+    show_counted(rt, answer, ran.count)?;
+    show_state(rt, ran.state, work, store)
 }
 
 fn show_opened(
+    rt: &impl Print,
     rom: &[u8],
     work: &mut [u8],
     store: &mut [u8],
     state: State,
     budget: u32,
     words: &[u8],
-) {
+) -> io::Result<()> {
     let ran = run(rom, &mut *work, &mut *store, state, budget);
     let left = ran.state;
-    show_left(ran, &*work, &*store);
-    show_rows(left);
-    show_finds(&*store, left, words);
+    show_left(rt, ran, &*work, &*store)?;
+    show_rows(rt, left)?;
+    show_finds(rt, &*store, left, words)
 }
 
-fn show_unopened(answer: Answer) {
+fn show_unopened(rt: &impl Print, answer: Answer) -> io::Result<()> {
     match answer {
         Answer::Refused(why) => {
-            say(b"open");
-            say_number(why as u64);
-            say_one(b'\n');
+            say(rt, b"open")?;
+            say_number(rt, why as u64)?;
+            say_one(rt, b'\n')
         }
-        _ => say(b"neither opened nor refused\n"),
+        _ => say(rt, b"neither opened nor refused\n"),
     }
 }
 
 // Opens and runs, and looks up what the words say. The buffers are not zero before: opening zeroes them.
-pub fn show_run(rom: &[u8], budget: u32, words: &[u8]) {
+pub fn show_run(rt: &impl Print, rom: &[u8], budget: u32, words: &[u8]) -> io::Result<()> {
     let mut work = [0xA5u8; 16384];
     let mut store = [0x5Au8; 16384];
     let opened = open(rom, &mut work, &mut store);
     let answer = opened.answer;
     let state = opened.state;
     match answer {
-        Answer::Going => show_opened(rom, &mut work, &mut store, state, budget, words),
-        _ => show_unopened(answer),
+        Answer::Going => show_opened(rt, rom, &mut work, &mut store, state, budget, words),
+        _ => show_unopened(rt, answer),
     }
 }
 
 // Steps a state and runs it, and tells the answers, and whether state, work memory and store are as before.
-pub fn show_tried(rom: &[u8], work: &mut [u8], store: &mut [u8], state: State, budget: u32) {
+pub fn show_tried(
+    rt: &impl Print,
+    rom: &[u8],
+    work: &mut [u8],
+    store: &mut [u8],
+    state: State,
+    budget: u32,
+) -> io::Result<()> {
     let sums = both_sums(&*work, &*store);
     let stepped = step(rom, &mut *work, &mut *store, state);
     let ran = run(rom, &mut *work, &mut *store, state, budget);
     let first = stepped.answer;
     let second = ran.answer;
-    show_answers(first, second, ran.count);
+    show_answers(rt, first, second, ran.count)?;
     show_kept(
+        rt,
         same_states(state, stepped.state)
             & same_states(state, ran.state)
             & same_sums(sums, both_sums(&*work, &*store)),
-    );
+    )
 }
 
 #[derive(Clone, Copy)]
@@ -103,20 +114,20 @@ pub fn same_sums(a: Sums, b: Sums) -> bool {
     (a.0 == b.0) & (a.1 == b.1)
 }
 
-fn show_answers(step: Answer, run: Answer, count: u32) {
-    say(b" step");
-    show_answer(step);
-    say(b" run");
-    show_ran(run, count);
-    say(b" steps");
-    say_number(count as u64);
+fn show_answers(rt: &impl Print, step: Answer, run: Answer, count: u32) -> io::Result<()> {
+    say(rt, b" step")?;
+    show_answer(rt, step)?;
+    say(rt, b" run")?;
+    show_ran(rt, run, count)?;
+    say(rt, b" steps")?;
+    say_number(rt, count as u64)
 }
 
-pub fn show_kept(kept: bool) {
+pub fn show_kept(rt: &impl Print, kept: bool) -> io::Result<()> {
     if kept {
-        say(b" unchanged\n");
+        say(rt, b" unchanged\n")
     } else {
-        say(b" changed\n");
+        say(rt, b" changed\n")
     }
 }
 
@@ -127,27 +138,27 @@ pub fn state_after(rom: &[u8], work: &mut [u8], store: &mut [u8], budget: u32) -
     ran.state
 }
 
-pub fn show_damaged(k: u32, rom: &[u8], budget: u32) {
+pub fn show_damaged(rt: &impl Print, k: u32, rom: &[u8], budget: u32) -> io::Result<()> {
     let mut work = [0u8; 16384];
     let mut store = [0u8; 16384];
     let state = state_after(rom, &mut work, &mut store, budget);
     let bad = damaged(k, state);
-    show_damaged_finds(&store, bad);
-    say(b"damaged");
-    say_number(k as u64);
-    show_tried(rom, &mut work, &mut store, bad, 1000);
+    show_damaged_finds(rt, &store, bad)?;
+    say(rt, b"damaged")?;
+    say_number(rt, k as u64)?;
+    show_tried(rt, rom, &mut work, &mut store, bad, 1000)
 }
 
 // A state that one ROM's run left, damaged in one way or not, offered with another ROM, and what that leaves. It is offered three times
 // with the same memories, so that what its tokens write must be the same each time.
-pub fn show_lent(k: u32, rom: &[u8], budget: u32, other: &[u8]) {
+pub fn show_lent(rt: &impl Print, k: u32, rom: &[u8], budget: u32, other: &[u8]) -> io::Result<()> {
     let mut work = [0u8; 16384];
     let mut store = [0u8; 16384];
     let state = state_after(rom, &mut work, &mut store, budget);
     let offered = damaged(k, state);
-    say(b"lent");
-    say_number(k as u64);
-    show_tried(other, &mut work, &mut store, offered, 1000);
+    say(rt, b"lent")?;
+    say_number(rt, k as u64)?;
+    show_tried(rt, other, &mut work, &mut store, offered, 1000)?;
     let ran = run(other, &mut work, &mut store, offered, 1000);
-    show_left(ran, &work, &store);
+    show_left(rt, ran, &work, &store)
 }

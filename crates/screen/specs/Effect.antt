@@ -4,7 +4,8 @@ use Rattle.std.specs.Prelude.{ℕ, Bool, true, false, not, ◌&&◌, ◌||◌, L
 use Rattle.cells.specs.Choice.{pick, find}
 use Rattle.rom.specs.declared.branch.Aim.{Aim}
 use Rattle.rom.specs.declared.branch.Aim.TheVariants.{Inside, Outside}
-use Rattle.tokens.specs.Family.{finish, always, choice, widen, pick_up, roll_up, maybe, leave, define, assign, call, new_device, finish_device}
+use Rattle.tokens.specs.Family.{finish, always, choice, widen, pick_up, roll_up, maybe, leave, define, assign, call, new_device}
+use Rattle.tokens.specs.Family.{finish_device}
 use Rattle.tokens.specs.Code.{family_in, gives_in, return_takes_in, return_gives_in}
 use Rattle.tokens.specs.Definition.{colon, of_kind, takes_here}
 use Rattle.tokens.specs.declared.decoding.Operand.{Operand}

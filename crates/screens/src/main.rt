@@ -1,13 +1,14 @@
 // Screens ROMs, and shows the answer and the mark buffer: a line of standard input each, by its first letter. Behind S stands a ROM in hex,
 // behind W the mark buffer's size and a ROM, behind M how often a ROM is screened, and the ROM.
 #![tactic(auto)]
+
 mod say;
 mod show;
 
 use crate::say::say;
 use crate::show::{show_last, show_screened};
-use given::{SPACE, bytes_from, digits_at, mark_from, word_end};
-use libc::STDIN_FILENO;
+use given::{SPACE, bytes_from, digits_at, mark_from, read_text, word_end};
+use std::io;
 
 // Where a line's ROM starts: behind the letter and a space, or behind the number and a space.
 fn rom_start(line: &[u8]) -> usize {
@@ -17,29 +18,29 @@ fn rom_start(line: &[u8]) -> usize {
     word_end(line, 2) + 1
 }
 
-fn one_line(line: &[u8]) {
+fn one_line(rt: &impl Print, line: &[u8]) -> io::Result<()> {
     let mut space = [0u8; SPACE];
     let n = bytes_from(line, rom_start(line), &mut space);
     let number = digits_at(line, 2);
     match rom::byte(line, 0) {
-        b'S' => show_screened(&space[..n], 65536),
-        b'W' => show_screened(&space[..n], number),
-        b'M' => show_last(&space[..n], number),
-        _ => say(b"no such line\n"),
+        b'S' => show_screened(rt, &space[..n], 65536),
+        b'W' => show_screened(rt, &space[..n], number),
+        b'M' => show_last(rt, &space[..n], number),
+        _ => say(rt, b"no such line\n"),
     }
 }
 
-fn all_lines(text: &[u8]) {
+fn all_lines(rt: &impl Print, text: &[u8]) -> io::Result<()> {
     let mut at = 0;
     while at < text.len() {
         let end = mark_from(text, at, b'\n');
-        one_line(&text[at..end]);
+        one_line(rt, &text[at..end])?;
         at = end + 1;
     }
+    Ok(())
 }
 
-fn main() {
-    let mut text = [0u8; 131072];
-    let n = io::read_full(STDIN_FILENO, &mut text);
-    all_lines(&text[..n]);
+fn main(rt: HostRuntime) -> io::Result<()> {
+    let text = read_text(&rt)?;
+    all_lines(&rt, text.as_slice())
 }

@@ -3,6 +3,7 @@ ghost use Rattle.std.specs.Prelude.{◌<◌, ◌≤◌, length};
 
 use crate::say::{say, say_decimal};
 use screen::Verdict;
+use std::io;
 
 // The screen's answer as a number, without what it promises: nothing that is printed rests on a contract.
 fn number_of(rom: &[u8], marks: &mut [u8]) -> u32 {
@@ -13,26 +14,27 @@ fn number_of(rom: &[u8], marks: &mut [u8]) -> u32 {
     }
 }
 
-fn show_number(n: u32) {
-    say(b"screen ");
-    say_decimal(n as u64);
-    say(b"\n");
+fn show_number(rt: &impl Print, n: u32) -> io::Result<()> {
+    say(rt, b"screen ")?;
+    say_decimal(rt, n as u64)?;
+    say(rt, b"\n")
 }
 
 // Places from one up to another that have the same mark: '8:1', or '8-9:1' where they are more than one.
-fn show_mark(first: usize, end: usize, mark: u8)
+fn show_mark(rt: &impl Print, first: usize, end: usize, mark: u8) -> io::Result<()>
     requires { first < end }
 {
     if mark != 0 {
-        say(b" ");
-        say_decimal(first as u64);
+        say(rt, b" ")?;
+        say_decimal(rt, first as u64)?;
         if first + 1 < end {
-            say(b"-");
-            say_decimal((end - 1) as u64);
+            say(rt, b"-")?;
+            say_decimal(rt, (end - 1) as u64)?;
         }
-        say(b":");
-        say_decimal(mark as u64);
+        say(rt, b":")?;
+        say_decimal(rt, mark as u64)?;
     }
+    Ok(())
 }
 
 // Behind the last of the places that have the same mark as one and lie behind it without a gap.
@@ -41,71 +43,77 @@ fn same_end(marks: &[u8], first: usize) -> usize
     ensures { (first < result) × (result ≤ length marks.now) }
 {
     let mark = marks[first];
-    let mut end = first + 1;
-    while end < marks.len() {
+    for end in first + 1..marks.len() {
         if marks[end] != mark {
             return end;
         }
-        end += 1;
     }
-    end
+    marks.len()
 }
 
-fn show_marks(marks: &[u8]) {
-    say(b"marks");
+fn show_marks(rt: &impl Print, marks: &[u8]) -> io::Result<()> {
+    say(rt, b"marks")?;
     let mut k = 0;
     while k < marks.len() {
         let end = same_end(marks, k);
-        show_mark(k, end, marks[k]);
+        show_mark(rt, k, end, marks[k])?;
         k = end;
     }
-    say(b"\n");
+    say(rt, b"\n")
 }
 
 // Whether each byte is as it was put there.
 fn untouched(marks: &[u8]) -> bool {
-    let mut k = 0;
-    while k < marks.len() {
-        if marks[k] != 0xAA {
+    for mark in marks {
+        if *mark != 0xAA {
             return false;
         }
-        k += 1;
     }
     true
 }
 
-fn show_whether(kept: bool) {
+fn show_whether(rt: &impl Print, kept: bool) -> io::Result<()> {
     if kept {
-        say(b"unwritten\n");
+        say(rt, b"unwritten\n")
     } else {
-        say(b"written\n");
+        say(rt, b"written\n")
     }
 }
 
-fn show_all(rom: &[u8], marks: &mut [u8]) {
+fn show_all(rt: &impl Print, rom: &[u8], marks: &mut [u8]) -> io::Result<()> {
     let n = number_of(rom, &mut *marks);
-    show_number(n);
+    show_number(rt, n)?;
     match n {
-        0 | 31 => show_marks(&*marks),
-        _ => show_whether(untouched(&*marks)),
+        0 | 31 => show_marks(rt, &*marks),
+        _ => show_whether(rt, untouched(&*marks)),
+    }
+}
+
+// A size, or all that is there where it is less.
+fn room_within(size: u32, marks: &[u8]) -> usize
+    ensures { result ≤ length marks.now }
+{
+    let size = size as usize;
+    if size < marks.len() {
+        size
+    } else {
+        marks.len()
     }
 }
 
 // Screens with a mark buffer of a size, 65,537 bytes at most. It is not zero before: the screen zeroes it.
-pub fn show_screened(rom: &[u8], size: u32) {
+pub fn show_screened(rt: &impl Print, rom: &[u8], size: u32) -> io::Result<()> {
     let mut marks = [0xAAu8; 65537];
-    let n = io::count(size as isize, &marks);
-    show_all(rom, &mut marks[..n]);
+    let n = room_within(size, &marks);
+    show_all(rt, rom, &mut marks[..n])
 }
 
 // Screens many times, at least once, and tells the last answer.
-pub fn show_last(rom: &[u8], count: u32) {
+pub fn show_last(rt: &impl Print, rom: &[u8], count: u32) -> io::Result<()> {
     let mut marks = [0xAAu8; 65536];
     let mut n = number_of(rom, &mut marks);
-    let mut k: u32 = 1;
-    while k < count {
+    for _ in 1..count {
         n = number_of(rom, &mut marks);
-        k += 1;
     }
-    show_number(n);
+    show_number(rt, n)
 }

@@ -42,14 +42,16 @@ module _ (rom work store : List ℕ) where
   pub bad_work : (length work ≡ work_size → ⊥) → turn (Refused 6) zero_state work store ≡ open_of rom work store
   bad_work w = unopened 6 (simp (ne_eqb (length work) work_size w)) refl
 
-  pub bad_store : length work ≡ work_size → (length store ≡ store_size → ⊥) → turn (Refused 6) zero_state work store ≡ open_of rom work store
+  pub bad_store : length work ≡ work_size → (length store ≡ store_size → ⊥)
+      → turn (Refused 6) zero_state work store ≡ open_of rom work store
   bad_store w s = unopened 6 (simp (eq-eqb (length work) work_size w, ne_eqb (length store) store_size s)) refl
 
   module _ (w : length work ≡ work_size) (s : length store ≡ store_size) where
     pub bad_header : (why : ℕ) → why ≡ header_of rom → (why ≡ 0 → ⊥) → turn (Refused why) zero_state work store ≡ open_of rom work store
     bad_header why h n = unopened why (simp (eq-eqb (length work) work_size w, eq-eqb (length store) store_size s) (sym h)) (ne_eqb why 0 n)
 
-    pub good_header : header_of rom ≡ 0 → turn Going (fresh_state rom) (replicate work_size 0) (replicate store_size 0) ≡ open_of rom work store
+    pub good_header : header_of rom ≡ 0 → turn Going (fresh_state rom) (replicate work_size 0) (replicate store_size 0) ≡ open_of rom work
+        store
     unfolding open_of
     good_header h =
         let r : open_refusal rom work store ≡ 0 = simp (eq-eqb (length work) work_size w, eq-eqb (length store) store_size s) h in

@@ -20,7 +20,8 @@ use Rattle.tree.specs.Whole.{parent_of}
 use Rattle.tree.specs.Node.{child_of}
 use Rattle.tokens.specs.Definition.{colon, kind_in, new_number, value, variable}
 use Rattle.state.specs.Stacks.{Stacks, stacks, left_of, plain_of, picked_of, rolled_of, doubled_of}
-use Rattle.state.specs.State.{calls_on, stacks_of, moved, moved_to, with_calls, with_numbers, with_work, with_active, with_tree, finished_at}
+use Rattle.state.specs.State.{calls_on, stacks_of, moved, moved_to, with_calls, with_numbers, with_work, with_active, with_tree}
+use Rattle.state.specs.State.{finished_at}
 use Rattle.state.specs.Numbers.{seek_of, is_body, defined_of, assigned_of}
 use Rattle.state.specs.Scene.{Scene, Turn, turn, refuse, goes, cell_of}
 use Rattle.state.specs.Refusals.{body_here, rounded, is_cell, string_at, title_of, named_here, value_here, titled_here}

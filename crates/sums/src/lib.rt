@@ -1,6 +1,7 @@
 // The sum of a program's bytes by itself, for speed/sums to count and to time: in the library it is a part of the header test, which a C
 // program cannot call alone. It is no call of the library's, and include/fcode.h does not declare it.
 #![tactic(auto)]
+
 ghost use Rattle.std.specs.Prelude.{◌≡◌};
 ghost use Rattle.rom.specs.Sum.{sum_of};
 

@@ -94,7 +94,8 @@ module _ (rom : List ℕ) (length : ℕ) (wide : Bool) (p : ℕ) where
   abbrev Same : Decoded → Type 0
   Same d = stopped_of p (judged true d) ≡ refused_at (judged true d)
 
-  pub refused_here : ends_at rom length p ≡ false → stopped_of p (read_of rom length wide true p) ≡ refused_at (read_of rom length wide true p)
+  pub refused_here : ends_at rom length p ≡ false → stopped_of p (read_of rom length wide true p) ≡ refused_at
+      (read_of rom length wide true p)
   unfolding read_of
   refused_here h = decoded_is Same rom length wide p refl (λ l k. by (misplaced_of (code_of n) true) refl l) (λ l. refl)
     where
@@ -186,7 +187,8 @@ module _ (rom : List ℕ) (length : ℕ) (wide : Bool) (p : ℕ) where
     passed_on b l = by passing refl
       where
         by : (h : Bool) → passing ≡ h
-            → (p < passed_of rom wide kinds p) × (body_of rom length wide kinds p ≡ body_of rom length wide kinds (passed_of rom wide kinds p))
+            → (p < passed_of rom wide kinds p) × (body_of rom length wide kinds p ≡ body_of rom length wide kinds
+            (passed_of rom wide kinds p))
         by true h =
             let m = number_ahead rom p in
             let a = behind_ahead rom wide q (form_in (code_of n)) in

@@ -77,7 +77,8 @@ module _ (rom : List ℕ) (wide : Bool) (kinds : List ℕ) (p b : ℕ) (e : b �
       let s = both_hold (not (is_double b) && not (eqb (code_of b) 0) && not (misplaced_of (code_of b) true) && not (eqb b 0xC2))
       (not (eqb (family_in (code_of b)) call) && not (eqb (family_in (code_of b)) assign) && eqb (form_in (code_of b)) none) h in
       let f = four_hold (not (is_double b)) (not (eqb (code_of b) 0)) (not (misplaced_of (code_of b) true)) (not (eqb b 0xC2)) s.0 in
-      let g = both_hold (not (eqb (family_in (code_of b)) call) && not (eqb (family_in (code_of b)) assign)) (eqb (form_in (code_of b)) none)
+      let g = both_hold (not (eqb (family_in (code_of b)) call) && not (eqb (family_in (code_of b)) assign))
+      (eqb (form_in (code_of b)) none)
       s.1 in
       let k = both_hold (not (eqb (family_in (code_of b)) call)) (not (eqb (family_in (code_of b)) assign)) g.0 in
       let w : passes kinds b (number_of rom (p + 1)) ≡ true =

@@ -4,7 +4,8 @@ use Rattle.cells.specs.Choice.{pick, find}
 use Rattle.cells.specs.Arithmetic.{plus_of, minus_of, times_of, and_of, or_of, xor_of, invert_of, lshift_of, rshift_of, ashift_of}
 use Rattle.cells.specs.Arithmetic.{remainder_of, quotient_of, negate_of, abs_of, min_of, max_of, half_of, u_half_of, double_of}
 use Rattle.cells.specs.Comparison.{zero_equal_of, zero_unequal_of, zero_less_of, zero_at_most_of, zero_greater_of, zero_at_least_of}
-use Rattle.cells.specs.Comparison.{less_of, greater_of, equal_of, unequal_of, u_greater_of, u_at_most_of, u_less_of, u_at_least_of, at_least_of, at_most_of}
+use Rattle.cells.specs.Comparison.{less_of, greater_of, equal_of, unequal_of, u_greater_of, u_at_most_of, u_less_of, u_at_least_of}
+use Rattle.cells.specs.Comparison.{at_least_of, at_most_of}
 use Rattle.cells.specs.Comparison.{between_of, within_of}
 use Rattle.tokens.specs.Family.{unlisted, finish, always, choice, text, widen, divide, pick_up, roll_up, maybe, leave, fetch, store}
 use Rattle.tokens.specs.Family.{define, kind, assign, call, encode_int, encode_string, join, property, titled, new_device, finish_device}

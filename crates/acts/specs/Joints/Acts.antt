@@ -28,7 +28,8 @@ use Rattle.tokens.specs.Definition.{colon, constant, value, variable}
 use Rattle.state.specs.Scene.{scene, turn, handed_back}
 use Rattle.state.specs.Effects.{gave}
 use Rattle.state.specs.Joints.Moves.{stepped}
-use Rattle.state.specs.Joints.Apart.{Arrays, joined, back_on, handed, answer_of, on_stack, on_calls, on_numbers, on_nodes, on_records, Moves}
+use Rattle.state.specs.Joints.Apart.{Arrays, joined, back_on, handed, answer_of, on_stack, on_calls, on_numbers, on_nodes, on_records}
+use Rattle.state.specs.Joints.Apart.{Moves}
 use Rattle.state.specs.Step.{ready_of, done_of}
 use Rattle.state.specs.Step.{token_turn as turn_of}
 use Rattle.state.specs.Joints.Tables.{slots_of}
@@ -67,7 +68,8 @@ Quiet family st next r = (o : Operand) → QuietOf family o st next r
 -- of one number
 abbrev pub QuietBy : ℕ → ℕ → State → ℕ → Stepped → Type 0
 QuietBy n family st next r =
-    (o : Operand) (rom work store : List ℕ) → handed_back r work store ≡ done_of (scene rom work store st) (token_of n (code_for family) o next)
+    (o : Operand) (rom work store : List ℕ) → handed_back r work store ≡ done_of (scene rom work store st)
+    (token_of n (code_for family) o next)
 
 -- and reads it
 abbrev pub ReadsBy : ℕ → ℕ → List ℕ → List ℕ → State → ℕ → Stepped → Type 0
@@ -85,7 +87,8 @@ Writes family work then st next r = (n : ℕ) → WritesBy n family work then st
 -- and reads the ROM
 abbrev pub WritesFrom : ℕ → List ℕ → List ℕ → List ℕ → State → ℕ → Stepped → Type 0
 WritesFrom family rom work then st next r =
-    (n : ℕ) (o : Operand) (store : List ℕ) → handed_back r then store ≡ done_of (scene rom work store st) (token_of n (code_for family) o next)
+    (n : ℕ) (o : Operand) (store : List ℕ) → handed_back r then store ≡ done_of (scene rom work store st)
+    (token_of n (code_for family) o next)
 
 abbrev pub Defines : Operand → List ℕ → List ℕ → List ℕ → State → ℕ → Stepped → Type 0
 Defines o rom work then st next r =
@@ -140,7 +143,8 @@ abbrev pub Enters : ℕ → List ℕ → List ℕ → List Bool → List ℕ →
     → List Bool
     → List ℕ → Type 0
 Enters number c p w b names kinds values ways k next r d q x e =
-    Moves (on_program c p w b names kinds values ways) k r (on_program d q x e names kinds values ways) (λ s t. QuietBy number call s next t)
+    Moves (on_program c p w b names kinds values ways) k r (on_program d q x e names kinds values ways)
+    (λ s t. QuietBy number call s next t)
 
 abbrev pub Assigns : ℕ → List ℕ → List ℕ → List ℕ → List ℕ → Core → ℕ → Handed → List ℕ → Type 0
 Assigns number c names kinds values k next r then =

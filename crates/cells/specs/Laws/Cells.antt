@@ -1,6 +1,8 @@
 -- The laws of cells that the proofs cite, here and above. Assumes nothing.
-use Rattle.std.specs.Prelude.{◌≡◌, ℕ, zero, suc, ◌+◌, ◌-◌, ◌*◌, ◌/◌, ◌%◌, ◌^◌, ◌<◌, ◌≤◌, Bool, true, false, not, ◌&&◌, ◌||◌, ℤ, pos, negsuc, neg_ℤ, nat_le, nat_lt, refl}
-use Rattle.std.proofs.Common.{arith, le_of_lt, lt_of_le_of_lt, mul-le-mul_left, mul-lt-mul_of_pos_right, div-le_self, sym, ap, ◌∙◌, pow_pos, pow-add, lt-ltb, le-ltb, leb-true, leb-false}
+use Rattle.std.specs.Prelude.{◌≡◌, ℕ, zero, suc, ◌+◌, ◌-◌, ◌*◌, ◌/◌, ◌%◌, ◌^◌, ◌<◌, ◌≤◌, Bool, true, false, not, ◌&&◌, ◌||◌, ℤ, pos, negsuc}
+use Rattle.std.specs.Prelude.{neg_ℤ, nat_le, nat_lt, refl}
+use Rattle.std.proofs.Common.{arith, le_of_lt, lt_of_le_of_lt, mul-le-mul_left, mul-lt-mul_of_pos_right, div-le_self, sym, ap, ◌∙◌, pow_pos}
+use Rattle.std.proofs.Common.{pow-add, lt-ltb, le-ltb, leb-true, leb-false}
 use Rattle.std.specs.Int.Signed.{lt_z, le_z, shr_z}
 use Rattle.cells.specs.Signed.{signed, cell, flag, negative}
 use Rattle.cells.specs.Laws.Tests.{tests, when_is, pick_is, chosen_below, chosen_from, same_ltb, leb_ltb}

@@ -1,7 +1,8 @@
 -- The definitions at the examples of documents 01 and 02: antt computes each. (`and`, `or` and `xor` do not compute at numbers of this
 -- size.) Assumes nothing.
 use Rattle.std.specs.Prelude.{◌≡◌, ℕ, List, [], ◌∷◌, ℤ, pos, negsuc, refl}
-use Rattle.cells.specs.Arithmetic.{minus_of, times_of, lshift_of, rshift_of, ashift_of, negate_of, abs_of, min_of, max_of, half_of, u_half_of}
+use Rattle.cells.specs.Arithmetic.{minus_of, times_of, lshift_of, rshift_of, ashift_of, negate_of, abs_of, min_of, max_of, half_of}
+use Rattle.cells.specs.Arithmetic.{u_half_of}
 use Rattle.cells.specs.Arithmetic.{divided_of}
 use Rattle.cells.specs.Comparison.{less_of, u_less_of, zero_less_of, between_of, within_of}
 use Rattle.cells.specs.Signed.{signed_in, signed, cell}

@@ -11,5 +11,6 @@ pick_says f true x y = refl
 pick_says f false x y = refl
 
 -- it says 21 exactly where the divisor is 0
-pub divided_says_lem : (a b : ℕ) → divided_says (divided_of a b) ≡ pick (b == 0) (refuses 21) (gives (remainder_of a b ∷ quotient_of a b ∷ []))
+pub divided_says_lem : (a b : ℕ) → divided_says (divided_of a b) ≡ pick (b == 0) (refuses 21)
+    (gives (remainder_of a b ∷ quotient_of a b ∷ []))
 divided_says_lem a b = pick_says divided_says (b == 0) ByZero (Parts (remainder_of a b) (quotient_of a b))

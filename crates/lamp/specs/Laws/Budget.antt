@@ -22,7 +22,13 @@ module _ (w : List ℕ) (k sum : ℕ) (h : k < length w) where
       pub too_many : most < sum * 10 + (get_or w k 0 - 0x30) → Unclear ≡ steps_from sum (drop k w)
       unfolding steps_from
       too_many l =
-          rw (drop-cons w k 0 h, le-leb 0x30 (get_or w k 0) a, le-leb (get_or w k 0) 0x39 b, lt-ltb most (sum * 10 + (get_or w k 0 - 0x30)) l)
+          rw (
+            drop-cons w k 0 h,
+            le-leb 0x30 (get_or w k 0) a,
+            le-leb (get_or w k 0) 0x39 b,
+            lt-ltb most (sum * 10 + (get_or w k 0 - 0x30))
+                l,
+          )
 
       pub digit_more : sum * 10 + (get_or w k 0 - 0x30) ≤ most
           → steps_from (sum * 10 + (get_or w k 0 - 0x30)) (drop (k + 1) w) ≡ steps_from sum (drop k w)

@@ -66,7 +66,8 @@ scale_rom =
 scale_tokens : token_text scale_rom
     ≡ letters_of "0008 12 b(\") 05 7363616C65 \"scale\"\n000F 0201 device-name\n0011 A8 3\n0012 0111 encode-int\n"
     ++ letters_of "0014 12 b(\") 05 6C616E6573 \"lanes\"\n001B 0110 property\n001D 00 end0\n"
-unfolding scale_rom token_text header_of sum_of piece_lines line_text place_text all_shown quoted all_printed hex_of walk_from piece_of decode_of
+unfolding scale_rom token_text header_of sum_of piece_lines line_text place_text all_shown quoted all_printed hex_of walk_from piece_of
+    decode_of
     token_if_whole behind_of operand_of aim_of code_of name_of row_of table ends lows highs doubles letters_of
 scale_tokens = refl
 
@@ -78,6 +79,7 @@ mixed_tokens : token_text mixed_rom
     ≡ letters_of "0008 raw 15 (no token of the list: the next lines may be its operand)\n"
     ++ (letters_of "0009 raw 01FE (no token of the list: the next lines may be its operand)\n000B CC offset16\n"
     ++ letters_of "000C 13 bbranch FFFB to 0008\n000F B5 new-token 0800 B7\n0013 raw 100000\n")
-unfolding mixed_rom token_text header_of sum_of piece_lines line_text place_text all_shown quoted all_printed hex_of walk_from piece_of decode_of
+unfolding mixed_rom token_text header_of sum_of piece_lines line_text place_text all_shown quoted all_printed hex_of walk_from piece_of
+    decode_of
     token_if_whole behind_of operand_of aim_of code_of name_of row_of table ends lows highs doubles letters_of
 mixed_tokens = refl

@@ -56,7 +56,8 @@ two_apart =
 spread_by_two : header_lines (length two_apart) (fcode_of two_apart)
     ≡ letters_of "file: 19 bytes\nstart: F2, 16-bit branch offsets, bytes two apart\nformat: 08\nlength: 10\n"
     ++ letters_of "checksum: 0046, as the program's bytes add up\n"
-unfolding two_apart seconds_of header_lines size_line field_lines start_line format_line length_line sum_line sum_of decimal_from hex_word letters_of
+unfolding two_apart seconds_of header_lines size_line field_lines start_line format_line length_line sum_line sum_of decimal_from hex_word
+    letters_of
 spread_by_two = refl
 
 spread_by_four : header_lines 37 (0xF3 ∷ 0x08 ∷ 0x00 ∷ 0x46 ∷ 0x00 ∷ 0x00 ∷ 0x00 ∷ 0x0A ∷ 0x46 ∷ 0x00 ∷ [])
@@ -101,14 +102,16 @@ null_inside = refl
 -- ---- programs: all of the list, and two pieces that are not, of which the first is shown
 all_listed : program_lines (0xFD ∷ 0x08 ∷ 0x00 ∷ 0x46 ∷ 0x00 ∷ 0x00 ∷ 0x00 ∷ 0x0A ∷ 0x46 ∷ 0x00 ∷ []) ≡ letters_of
     "program: 2 tokens, all of the list\n"
-unfolding program_lines tally_lines tally_from walk_from piece_of decode_of token_if_whole behind_of operand_of aim_of code_of row_of table ends lows
+unfolding program_lines tally_lines tally_from walk_from piece_of decode_of token_if_whole behind_of operand_of aim_of code_of row_of table
+    ends lows
     highs doubles decimal_from letters_of
 all_listed = refl
 
 some_outside : program_lines (0xFD ∷ 0x08 ∷ 0x00 ∷ 0x46 ∷ 0x00 ∷ 0x00 ∷ 0x00 ∷ 0x0C ∷ 0x47 ∷ 0x15 ∷ 0x16 ∷ 0x00 ∷ [])
     ≡ letters_of "program: 4 pieces, 2 of them no token of the list. A board that uses such a token is outside the scope of this tool, "
     ++ letters_of "not broken. The first:\n0009 raw 15 (no token of the list: the next lines may be its operand)\n"
-unfolding program_lines tally_lines outside_lines tally_from walk_from piece_of decode_of token_if_whole behind_of operand_of aim_of code_of row_of table
+unfolding program_lines tally_lines outside_lines tally_from walk_from piece_of decode_of token_if_whole behind_of operand_of aim_of code_of
+    row_of table
     ends lows highs doubles line_text place_text all_shown hex_of decimal_from letters_of
 some_outside = refl
 
@@ -126,7 +129,8 @@ unfolding verdict_line verdict_of reason_of has_words words_of opening naming mo
 judged = refl
 
 at_a_token : at_line (0xFD ∷ 0x08 ∷ 0x00 ∷ 0x46 ∷ 0x00 ∷ 0x00 ∷ 0x00 ∷ 0x0A ∷ 0x46 ∷ 0x00 ∷ []) false 8 ≡ letters_of "at: 0008 46 drop\n"
-unfolding at_line end_line piece_text piece_of decode_of token_if_whole behind_of operand_of aim_of code_of name_of row_of table ends lows highs doubles
+unfolding at_line end_line piece_text piece_of decode_of token_if_whole behind_of operand_of aim_of code_of name_of row_of table ends lows
+    highs doubles
     line_text place_text all_shown hex_of decimal_from letters_of
 at_a_token = refl
 

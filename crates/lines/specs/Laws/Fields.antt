@@ -1,6 +1,7 @@
 -- What the proofs need of names and fields: bytes from a place on, how long they are as a line or a field has them, and that the words of
 -- a number are the same within quotes. Assumes nothing.
-use Rattle.std.specs.Prelude.{ℕ, ◌+◌, ◌*◌, ◌-◌, ◌≤◌, ◌<◌, Bool, true, not, ◌&&◌, List, [], ◌∷◌, ◌++◌, ◌≡◌, refl, T, eqb, length, get_or, drop}
+use Rattle.std.specs.Prelude.{ℕ, ◌+◌, ◌*◌, ◌-◌, ◌≤◌, ◌<◌, Bool, true, not, ◌&&◌, List, [], ◌∷◌, ◌++◌, ◌≡◌, refl, T, eqb, length, get_or}
+use Rattle.std.specs.Prelude.{drop}
 use Rattle.std.proofs.Math.Numerals.{add-one}
 use Rattle.std.proofs.Common.{arith, length-append, length-take, drop-cons}
 use Rattle.cells.specs.Laws.Facts.{both_hold, is_false}

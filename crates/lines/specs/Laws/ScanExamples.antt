@@ -50,13 +50,15 @@ whole_line = refl
 
 spent_run : scan_line (letters_of "loop.bin") stopped (value (letters_of "loop")) []
     ≡ letters_of "loop.bin: refused 28: the budget is spent, steps 100000, name \"loop\"\n"
-unfolding scan_line verdict_of reason_of has_words words_of opening naming moving running other steps_part labelled quoted is_text all_printed
+unfolding scan_line verdict_of reason_of has_words words_of opening naming moving running other steps_part labelled quoted is_text
+    all_printed
     each_as decimal_from letters_of
 spent_run = refl
 
 -- a refused header has no steps
 bad_header : scan_line (letters_of "a.bin") unfit [] [] ≡ letters_of "a.bin: refused 5: the program's bytes do not add up to the checksum\n"
-unfolding scan_line verdict_of reason_of has_words words_of opening naming moving running other steps_part labelled quoted is_text all_printed
+unfolding scan_line verdict_of reason_of has_words words_of opening naming moving running other steps_part labelled quoted is_text
+    all_printed
     each_as decimal_from letters_of
 bad_header = refl
 
@@ -74,20 +76,23 @@ control_bytes = refl
 -- ---- rows
 whole_row : scan_csv (letters_of "scale.bin") passed (value (letters_of "scale")) (value (letters_of "XM-2"))
     ≡ letters_of "\"scale.bin\",passes,0,\"\",7,\"scale\",\"XM-2\"\n"
-unfolding scan_csv found_fields bare_verdict bare_steps words_of opening naming moving running other field is_text all_printed each_as decimal_from
+unfolding scan_csv found_fields bare_verdict bare_steps words_of opening naming moving running other field is_text all_printed each_as
+    decimal_from
     letters_of
 whole_row = refl
 
 -- double quotes in a file's name and in a value
 quotes_doubled_lem : scan_csv (letters_of "a\"b") stopped (value (letters_of "\"s\"")) []
     ≡ letters_of "\"a\"\"b\",refused,28,\"the budget is spent\",100000,\"\"\"s\"\"\",\"\"\n"
-unfolding scan_csv found_fields bare_verdict bare_steps words_of opening naming moving running other field is_text all_printed each_as decimal_from
+unfolding scan_csv found_fields bare_verdict bare_steps words_of opening naming moving running other field is_text all_printed each_as
+    decimal_from
     letters_of
 quotes_doubled_lem = refl
 
 bad_header_row : scan_csv (letters_of "a.bin") unfit [] (letters_of "X")
     ≡ letters_of "\"a.bin\",refused,5,\"the program's bytes do not add up to the checksum\",,\"\",\"\"\n"
-unfolding scan_csv found_fields bare_verdict bare_steps words_of opening naming moving running other field is_text all_printed each_as decimal_from
+unfolding scan_csv found_fields bare_verdict bare_steps words_of opening naming moving running other field is_text all_printed each_as
+    decimal_from
     letters_of
 bad_header_row = refl
 

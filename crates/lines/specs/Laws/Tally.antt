@@ -51,7 +51,8 @@ module _ (fcode : List ℕ) where
       (λ w v q s t ss e b f on so l. on (token_more so) l)
       k wide p
     where
-      first : (so : Tally) (q next : ℕ) → LiesIn (end_of fcode) so → q ≤ next → next ≤ end_of fcode → LiesIn (end_of fcode) (raw_more so q next)
+      first : (so : Tally) (q next : ℕ) → LiesIn (end_of fcode) so → q ≤ next → next ≤ end_of fcode
+          → LiesIn (end_of fcode) (raw_more so q next)
       first so q next l a b =
           pick_both (eqb so.raws 0)
         where

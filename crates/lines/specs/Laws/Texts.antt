@@ -100,7 +100,8 @@ pub drop_none : (xs : List ℕ) (k : ℕ) → length xs ≤ k → drop k xs ≡ 
 drop_none xs k h = drop_of_length-le xs {i = k} h
 
 -- bytes that are printed, from a place on
-pub printed_more : (a : List ℕ) (k : ℕ) → k < length a → printed (get_or a k 0) ≡ true → all_printed (drop (k + 1) a) ≡ all_printed (drop k a)
+pub printed_more : (a : List ℕ) (k : ℕ) → k < length a → printed (get_or a k 0) ≡ true
+    → all_printed (drop (k + 1) a) ≡ all_printed (drop k a)
 unfolding all_printed
 printed_more a k h g = rw (drop-cons a k 0 h, g, add-one k)
 
@@ -113,7 +114,8 @@ unfolding all_printed
 printed_end a k h = rw (drop_none a k h)
 
 -- hexadecimal digits, a byte more
-pub hex_more : (value : List ℕ) (k : ℕ) → k < length value → hex_of (drop k value) ≡ hex_pair (get_or value k 0) ++ hex_of (drop (k + 1) value)
+pub hex_more : (value : List ℕ) (k : ℕ) → k < length value → hex_of (drop k value) ≡ hex_pair (get_or value k 0) ++ hex_of
+    (drop (k + 1) value)
 unfolding hex_of
 hex_more value k h = rw (drop-cons value k 0 h, add-one k)
 
@@ -182,11 +184,13 @@ module _ (t : Tree) (store : List ℕ) where
   -- what a record adds to the lines of a node, in either form
   abbrev pub own_line : Bool → ℕ → ℕ → ℕ → List ℕ
   own_line people i at node =
-      pick (eqb (owner_of t i) node) (line_for people (part_of store at (name_size t i)) (part_of store (at + name_size t i) (value_size t i))) []
+      pick (eqb (owner_of t i) node) (line_for people (part_of store at (name_size t i))
+      (part_of store (at + name_size t i) (value_size t i))) []
 
   -- the same, of lengths that were read and parts between places
   pub line_at : (people : Bool) (i at node n v : ℕ) → n ≡ name_size t i → v ≡ value_size t i
-      → pick (eqb (owner_of t i) node) (line_for people (part_of store at (at + n - at)) (part_of store (at + n) (at + n + v - (at + n)))) []
+      → pick (eqb (owner_of t i) node) (line_for people (part_of store at (at + n - at)) (part_of store (at + n) (at + n + v - (at + n))))
+      []
       ≡ own_line people i at node
   line_at people i at node n v e f =
       let x : at + n - at ≡ n = omega arith in

@@ -142,7 +142,8 @@ raw_bytes : (fcode : List ℕ) (p next : ℕ) → line_bytes (raw_line fcode p n
 unfolding parts_joined
 raw_bytes fcode p next = append-nil (between fcode p next)
 
-token_bytes : (fcode : List ℕ) (wide : Bool) (p start : ℕ) (t : Token) → start ≡ behind_number fcode p → Formed fcode (end_of fcode) wide p t
+token_bytes : (fcode : List ℕ) (wide : Bool) (p start : ℕ) (t : Token) → start ≡ behind_number fcode p
+    → Formed fcode (end_of fcode) wide p t
     → line_bytes (token_line fcode p start t) ≡ between fcode p t.next
 unfolding parts_joined
 token_bytes fcode wide p start t e f =

@@ -135,7 +135,8 @@ module _ (marks work store : List ℕ) where
   pub wrong_work : length marks ≡ marks_size → (length work ≡ work_size → ⊥) → wrong_buffer marks work store ≡ true
   wrong_work a n = rw (eq-eqb (length marks) marks_size a, ne_eqb (length work) work_size n)
 
-  pub wrong_store : length marks ≡ marks_size → length work ≡ work_size → (length store ≡ store_size → ⊥) → wrong_buffer marks work store ≡ true
+  pub wrong_store : length marks ≡ marks_size → length work ≡ work_size → (length store ≡ store_size → ⊥)
+      → wrong_buffer marks work store ≡ true
   wrong_store a b n = rw (eq-eqb (length marks) marks_size a, eq-eqb (length work) work_size b, ne_eqb (length store) store_size n)
 
 -- ---- the promise at a verdict that is known; a ROM that passes has a good header
@@ -173,7 +174,8 @@ module _ (rom marks work store : List ℕ) (budget : ℕ) (text : List ℕ) wher
   inside =
       pick_is Inside (wrong_text text) _ _ (λ t. omega arith)
       (λ t.
-      pick_is Inside (wrong_buffer marks work store) _ _ (λ w. filled_covers (refused_line 6)) (λ w. judged (screened_of rom marks).verdict))
+      pick_is Inside (wrong_buffer marks work store) _ _ (λ w. filled_covers (refused_line 6))
+      (λ w. judged (screened_of rom marks).verdict))
     where
       Inside : Listed → Type 0
       Inside l = l.size ≤ length l.text

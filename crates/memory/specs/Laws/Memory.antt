@@ -1,7 +1,9 @@
 -- What callers need of memory: what is written lies between what stood before and behind it, and a range that is good has as many bytes as
 -- were asked for. Assumes nothing.
-use Rattle.std.specs.Prelude.{ℕ, zero, suc, ◌+◌, ◌-◌, ◌≤◌, ◌<◌, min, Bool, ◌&&◌, List, [], ◌∷◌, ◌++◌, ◌≡◌, refl, get_or, take, drop, set, T, leb}
-use Rattle.std.proofs.Common.{add-zero, add-one, arith, true≢false, append_assoc, sym, ap, ◌∙◌, length-set, length-take, length-drop, get_or-set_same, get_or-set_other, leb→le, le-leb, leb-true}
+use Rattle.std.specs.Prelude.{ℕ, zero, suc, ◌+◌, ◌-◌, ◌≤◌, ◌<◌, min, Bool, ◌&&◌, List, [], ◌∷◌, ◌++◌, ◌≡◌, refl, get_or, take, drop, set, T}
+use Rattle.std.specs.Prelude.{leb}
+use Rattle.std.proofs.Common.{add-zero, add-one, arith, true≢false, append_assoc, sym, ap, ◌∙◌, length-set, length-take, length-drop}
+use Rattle.std.proofs.Common.{get_or-set_same, get_or-set_other, leb→le, le-leb, leb-true}
 use Rattle.std.proofs.Math.Bool.{true, false}
 use Rattle.std.proofs.lemmas.Bool.{false≢true, lt-leb}
 use Rattle.std.proofs.Math.ListN.{length}
@@ -40,7 +42,8 @@ pub written_none : (m : List ℕ) (at : ℕ) → written_of m at [] ≡ m
 unfolding written_of
 written_none m at = refl
 
-pub written_append : (m : List ℕ) (at : ℕ) (xs ys : List ℕ) → written_of m at (xs ++ ys) ≡ written_of (written_of m at xs) (at + length xs) ys
+pub written_append : (m : List ℕ) (at : ℕ) (xs ys : List ℕ) → written_of m at (xs ++ ys) ≡ written_of (written_of m at xs) (at + length xs)
+    ys
 unfolding written_of
 written_append m at [] ys = rw (add-zero at)
 written_append m at (x ∷ xs) ys =
@@ -224,7 +227,8 @@ module _ (rom work : List ℕ) (size address count : ℕ) where
   unfolding resolve_of
   resolved_rom k e = rw e
 
-  pub resolved_work : (k : ℕ) → range_of rom work size address count ≡ Work k → resolve_of rom work size address count ≡ part_of work k count
+  pub resolved_work : (k : ℕ) → range_of rom work size address count ≡ Work k
+      → resolve_of rom work size address count ≡ part_of work k count
   unfolding resolve_of
   resolved_work k e = rw e
 

@@ -35,4 +35,5 @@ module _ (rom work : List ℕ) (size address : ℕ) where
   pub byte_says : fetched_says (fetch_byte_of rom work size address)
       ≡ pick (bad_range rom work size address 1) (refuses 22) (gives (byte_of (resolve_of rom work size address 1) 0 ∷ []))
   unfolding fetch_byte_of
-  byte_says = pick_says fetched_says (bad_range rom work size address 1) (Refused 22) (Value (byte_of (resolve_of rom work size address 1) 0))
+  byte_says = pick_says fetched_says (bad_range rom work size address 1) (Refused 22)
+      (Value (byte_of (resolve_of rom work size address 1) 0))

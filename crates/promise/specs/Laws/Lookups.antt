@@ -5,7 +5,8 @@ use Rattle.tree.specs.Held.{held_from, live_among, same_bytes, found_from}
 use Rattle.tree.specs.Whole.{every_below, whole_tree}
 use Rattle.tree.specs.Tree.{tree_of}
 use Rattle.tree.specs.Node.{no_tree}
-use Rattle.tree.specs.Path.{is_called, split_of, any_empty, malformed, less_null, value_in, child_from, down_from, find_node_of, named_place}
+use Rattle.tree.specs.Path.{is_called, split_of, any_empty, malformed, less_null, value_in, child_from, down_from, find_node_of}
+use Rattle.tree.specs.Path.{named_place}
 use Rattle.tree.specs.Path.{find_property_of, property_value_of}
 use Rattle.tree.specs.Rows.{count_from, column_from, parents_of, counts_of}
 use Rattle.tree.specs.declared.tree.Tree.{Tree}
@@ -56,39 +57,46 @@ tree : Tree
 tree = tree_of (0 ∷ 0 ∷ 0 ∷ 2 ∷ 1 ∷ 0 ∷ []) 6 (1 ∷ 2 ∷ 3 ∷ 4 ∷ 1 ∷ []) (4 ∷ 4 ∷ 4 ∷ 4 ∷ 1 ∷ []) (2 ∷ 1 ∷ 1 ∷ 1 ∷ 3 ∷ []) 5
 
 root_found : find_node_of tree store (letters_of "/") ≡ Node 0
-unfolding find_node_of down_from child_from value_in held_from same_bytes less_null malformed split_of any_empty whole_tree every_below live_among
+unfolding find_node_of down_from child_from value_in held_from same_bytes less_null malformed split_of any_empty whole_tree every_below
+    live_among
     letters_of store tree
 root_found = refl
 
 -- "the oldest match at each level"
 oldest_found : find_node_of tree store (letters_of "/a") ≡ Node 1
-unfolding find_node_of down_from child_from value_in held_from same_bytes less_null malformed split_of any_empty whole_tree every_below live_among
+unfolding find_node_of down_from child_from value_in held_from same_bytes less_null malformed split_of any_empty whole_tree every_below
+    live_among
     letters_of store tree
 oldest_found = refl
 
 nullless_found : find_node_of tree store (letters_of "/a/d") ≡ Node 4
-unfolding find_node_of down_from child_from value_in held_from same_bytes less_null malformed split_of any_empty whole_tree every_below live_among
+unfolding find_node_of down_from child_from value_in held_from same_bytes less_null malformed split_of any_empty whole_tree every_below
+    live_among
     letters_of store tree
 nullless_found = refl
 
 -- "no going back": node 2 has the child that is asked for
 younger_passed : find_node_of tree store (letters_of "/a/c") ≡ Refused 30
-unfolding find_node_of down_from child_from value_in held_from same_bytes less_null malformed split_of any_empty whole_tree every_below live_among
+unfolding find_node_of down_from child_from value_in held_from same_bytes less_null malformed split_of any_empty whole_tree every_below
+    live_among
     letters_of store tree
 younger_passed = refl
 
 form_refused : find_node_of tree store (letters_of "/a/") ≡ Refused 29
-unfolding find_node_of down_from child_from value_in held_from same_bytes less_null malformed split_of any_empty whole_tree every_below live_among
+unfolding find_node_of down_from child_from value_in held_from same_bytes less_null malformed split_of any_empty whole_tree every_below
+    live_among
     letters_of store tree
 form_refused = refl
 
 size_refused : find_node_of tree [] (letters_of "/") ≡ Refused 6
-unfolding find_node_of down_from child_from value_in held_from same_bytes less_null malformed split_of any_empty whole_tree every_below live_among
+unfolding find_node_of down_from child_from value_in held_from same_bytes less_null malformed split_of any_empty whole_tree every_below
+    live_among
     letters_of store tree
 size_refused = refl
 
 damaged_refused : find_node_of no_tree store (letters_of "a") ≡ Refused 7
-unfolding find_node_of down_from child_from value_in held_from same_bytes less_null malformed split_of any_empty whole_tree every_below live_among
+unfolding find_node_of down_from child_from value_in held_from same_bytes less_null malformed split_of any_empty whole_tree every_below
+    live_among
     letters_of store tree
 damaged_refused = refl
 
@@ -99,28 +107,33 @@ nameless = refl
 
 -- the value stands behind its name
 value_found : find_property_of tree store (letters_of "/a") (letters_of "x") ≡ Value 22 3
-unfolding find_property_of named_place found_from find_node_of down_from child_from value_in held_from same_bytes less_null malformed split_of any_empty
+unfolding find_property_of named_place found_from find_node_of down_from child_from value_in held_from same_bytes less_null malformed
+    split_of any_empty
     whole_tree every_below live_among letters_of store tree
 value_found = refl
 
 value_bytes : property_value_of tree store (letters_of "/a") (letters_of "x") ≡ 7 ∷ 8 ∷ 9 ∷ []
-unfolding property_value_of find_node_of down_from child_from value_in held_from same_bytes less_null malformed split_of any_empty whole_tree every_below
+unfolding property_value_of find_node_of down_from child_from value_in held_from same_bytes less_null malformed split_of any_empty
+    whole_tree every_below
     live_among letters_of store tree
 value_bytes = refl
 
 property_missing : find_property_of tree store (letters_of "/a/d") (letters_of "x") ≡ Unfound 30
-unfolding find_property_of named_place found_from find_node_of down_from child_from value_in held_from same_bytes less_null malformed split_of any_empty
+unfolding find_property_of named_place found_from find_node_of down_from child_from value_in held_from same_bytes less_null malformed
+    split_of any_empty
     whole_tree every_below live_among letters_of store tree
 property_missing = refl
 
 -- no lookup judges a name: one that 26 refuses is just not there
 bad_name_missing : find_property_of tree store (letters_of "/a") (letters_of "X:") ≡ Unfound 30
-unfolding find_property_of named_place found_from find_node_of down_from child_from value_in held_from same_bytes less_null malformed split_of any_empty
+unfolding find_property_of named_place found_from find_node_of down_from child_from value_in held_from same_bytes less_null malformed
+    split_of any_empty
     whole_tree every_below live_among letters_of store tree
 bad_name_missing = refl
 
 bad_part_missing : find_node_of tree store (letters_of "/A:[a]") ≡ Refused 30
-unfolding find_node_of down_from child_from value_in held_from same_bytes less_null malformed split_of any_empty whole_tree every_below live_among
+unfolding find_node_of down_from child_from value_in held_from same_bytes less_null malformed split_of any_empty whole_tree every_below
+    live_among
     letters_of store tree
 bad_part_missing = refl
 

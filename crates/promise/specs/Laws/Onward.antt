@@ -28,7 +28,8 @@ use Rattle.promise.specs.Laws.Refusing.{called, called_colon, is_body_here, behi
 use Rattle.promise.specs.Trail.{OpenCall, open_call, without}
 
 -- ---- where a token leads that neither ends nor branches nor is a b(:)
-pub falls_on : (t : Token) → T (not (is_a finish t || is_a leave t)) → T (not (is_branch t)) → T (not (is_colon t)) → leads_of t ≡ t.next ∷ []
+pub falls_on : (t : Token) → T (not (is_a finish t || is_a leave t)) → T (not (is_branch t)) → T (not (is_colon t))
+    → leads_of t ≡ t.next ∷ []
 falls_on t e b c = by (ways_of t)
   where
     by : Ways t → leads_of t ≡ t.next ∷ []

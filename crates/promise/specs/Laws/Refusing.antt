@@ -1,6 +1,7 @@
 -- A token that may stand where it stands meets, in a state that stands as the assignment says, no refusal but 21 to 27: 12 to 17, 19 and 20
 -- one by one, and those of a body that is read. Assumes nothing.
-use Rattle.std.specs.Prelude.{ℕ, suc, ◌+◌, ◌-◌, ◌≤◌, ◌<◌, ◌≡◌, refl, Bool, true, false, not, ◌&&◌, ◌||◌, List, [], ◌∷◌, get_or, ltb, leb, eqb}
+use Rattle.std.specs.Prelude.{ℕ, suc, ◌+◌, ◌-◌, ◌≤◌, ◌<◌, ◌≡◌, refl, Bool, true, false, not, ◌&&◌, ◌||◌, List, [], ◌∷◌, get_or, ltb, leb}
+use Rattle.std.specs.Prelude.{eqb}
 use Rattle.std.proofs.Common.{arith, sym, ap, subst, ◌∙◌, T_not, eqb→eq, le-ltb, eq-eqb, ne_eqb}
 use Rattle.std.proofs.Math.Dec.{T}
 use Rattle.std.proofs.lemmas.Bool.{lt-leb}
@@ -9,7 +10,8 @@ use Rattle.cells.specs.Laws.Facts.{holds, fails, is_true, is_false, both_hold, n
 use Rattle.rom.specs.Sizes.{data_most, return_most, frames_most, numbers_most, nodes_most}
 use Rattle.rom.specs.Header.{length_of}
 use Rattle.rom.specs.declared.branch.Aim.TheVariants.{Inside, Outside}
-use Rattle.tokens.specs.Family.{plain, always, choice, pick_up, roll_up, maybe, leave, define, kind, assign, call, new_device, finish_device}
+use Rattle.tokens.specs.Family.{plain, always, choice, pick_up, roll_up, maybe, leave, define, kind, assign, call, new_device}
+use Rattle.tokens.specs.Family.{finish_device}
 use Rattle.tokens.specs.Code.{code_of, family_in, takes_in, gives_in, return_takes_in, return_gives_in}
 use Rattle.tokens.specs.Body.{number_in, unknown_of, body_of}
 use Rattle.tokens.specs.Definition.{colon, value, new_number, kind_in, of_kind, takes_here}
@@ -410,7 +412,8 @@ module _ {rom : List ℕ} (a : Assignment rom) (work store : List ℕ) (open_cal
 
   one_more : gives_more s t ≤ 1
   unfolding non_zero
-  one_more = pick_is (λ n. n ≤ 1) (only family call (not is_body_here) || only family maybe non_zero) 1 0 (λ h. omega arith) (λ h. omega arith)
+  one_more = pick_is (λ n. n ≤ 1) (only family call (not is_body_here) || only family maybe non_zero) 1 0 (λ h. omega arith)
+      (λ h. omega arith)
 
   -- any other than a call
   own_high : T (not (is_a call t)) → st.stack.height - takes_here t + (gives_in t.code + gives_more s t) ≤ data_most
@@ -420,7 +423,8 @@ module _ {rom : List ℕ} (a : Assignment rom) (work store : List ℕ) (open_cal
       o = effect_own a.sum t n
 
       more : gives_more s t ≡ 0
-      more = no_more (unasked family call (not is_body_here) (λ k. absurd (T_not (is_a call t) n (holds (is_a call t) (eq-eqb family call k)))))
+      more = no_more (unasked family call (not is_body_here) (λ k. absurd
+          (T_not (is_a call t) n (holds (is_a call t) (eq-eqb family call k)))))
 
       by : GivesOn a.sum t → st.stack.height - takes_here t + (gives_in t.code + gives_more s t) ≤ data_most
       by (GivesOn.quiet x y) =

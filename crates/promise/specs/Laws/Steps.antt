@@ -154,7 +154,8 @@ not_define t f =
     (neither (is_a define t) (is_a widen t) b.0).0
 
 -- ---- kinds: what a definition takes
-kind_takes : (takes_in (code_of colon) ≡ 0) × (takes_in (code_of value) ≡ 1) × (takes_in (code_of variable) ≡ 0) × (takes_in (code_of 0xBA) ≡ 1)
+kind_takes : (takes_in (code_of colon) ≡ 0) × (takes_in (code_of value) ≡ 1) × (takes_in (code_of variable) ≡ 0)
+    × (takes_in (code_of 0xBA) ≡ 1)
 unfolding code_of row_of table ends lows highs doubles
 kind_takes = (refl, refl, refl, refl)
 

@@ -24,9 +24,11 @@ use Rattle.state.specs.Laws.Keeps.Open.{opened, open_good}
 use Rattle.state.specs.Laws.Steps.{run_opened, tokens_from}
 use Rattle.tokens.specs.Body.{unknown_of}
 use Rattle.screen.specs.Effect.{effect_of}
-use Rattle.screen.specs.Laws.Found.Model.{screen_of, last_of, rounds_of, round_of, apart_of, advance_of, define_of, colon_of, starts_of, body_walked}
+use Rattle.screen.specs.Laws.Found.Model.{screen_of, last_of, rounds_of, round_of, apart_of, advance_of, define_of, colon_of, starts_of}
+use Rattle.screen.specs.Laws.Found.Model.{body_walked}
 use Rattle.screen.specs.Laws.Found.Model.{body_shifted}
-use Rattle.screen.specs.Laws.Found.Model.{tallied, passes_of, shift_of, walk_all, walk_steps, walk_step, visited_on, puts_of, put_visit, visit_of}
+use Rattle.screen.specs.Laws.Found.Model.{tallied, passes_of, shift_of, walk_all, walk_steps, walk_step, visited_on, puts_of, put_visit}
+use Rattle.screen.specs.Laws.Found.Model.{visit_of}
 use Rattle.screen.specs.Laws.Found.Model.{token_visit, sound_of, fits_of, sum_at}
 use Rattle.screen.specs.Laws.Found.Screen.{verdict_on, judged_of, screened_of}
 use Rattle.screen.specs.Laws.Code.Screen.{screen_judged}
@@ -153,10 +155,14 @@ unfolding header_of sum_of
 all_open = (refl, (refl, (refl, (refl, (refl, (refl, (refl, (refl, (refl, tt)))))))))
 
 all_tokens : every tokens_agree cases ≡ true
-unfolding ashift_of sum_of aim_of ends lows highs doubles table row_of code_of behind_of operand_of token_if_whole decode_of misplaced_of read_of
-    same_bytes left_of plain_of refusal_of effects act_of done_of token_turn tokens_from same_answer same_verdict unknown_of effect_of screen_of last_of
-    rounds_of round_of apart_of advance_of define_of colon_of starts_of body_walked body_shifted tallied passes_of shift_of walk_all walk_steps walk_step
-    visited_on puts_of put_visit visit_of token_visit sound_of fits_of sum_at packed_sum unpacked_sum cell_with heights_in mark_in moved_cell
+unfolding ashift_of sum_of aim_of ends lows highs doubles table row_of code_of behind_of operand_of token_if_whole decode_of misplaced_of
+    read_of
+    same_bytes left_of plain_of refusal_of effects act_of done_of token_turn tokens_from same_answer same_verdict unknown_of effect_of
+    screen_of last_of
+    rounds_of round_of apart_of advance_of define_of colon_of starts_of body_walked body_shifted tallied passes_of shift_of walk_all
+    walk_steps walk_step
+    visited_on puts_of put_visit visit_of token_visit sound_of fits_of sum_at packed_sum unpacked_sum cell_with heights_in mark_in
+    moved_cell
 all_tokens = refl
 
 pub claim : every agrees cases ≡ true

@@ -30,7 +30,8 @@ module _ (fcode : List ℕ) (s : is_spread fcode ≡ true) (w : wrong_rom fcode 
   least = ltb-false (length fcode) rom_least (neither_is (nat_lt (length fcode) rom_least) (nat_lt (fcode_most fcode) (length fcode)) w).0
 
   most : length fcode ≤ fcode_most fcode
-  most = ltb-false (fcode_most fcode) (length fcode) (neither_is (nat_lt (length fcode) rom_least) (nat_lt (fcode_most fcode) (length fcode)) w).1
+  most = ltb-false (fcode_most fcode) (length fcode) (neither_is (nat_lt (length fcode) rom_least)
+      (nat_lt (fcode_most fcode) (length fcode)) w).1
 
   pub unspread_least : (rom_least ≤ length fcode) × (rom_least ≤ length other)
   unspread_least = let l = least in let e = unspread_length fcode (omega arith) in (l, omega arith)
@@ -63,7 +64,8 @@ module _ (fcode : List ℕ) (s : is_spread fcode ≡ true) (w : wrong_rom fcode 
   same_summed : wrong_length fcode (length_of fcode) ≡ false → sum_of fcode (length_of fcode) ≡ sum_of other (length_of fcode)
   same_summed e =
       let z = same_size in
-      let l = ltb-false (length fcode) (length_of fcode) (neither_is (nat_lt (length_of fcode) 9) (nat_lt (length fcode) (length_of fcode)) e).1 in
+      let l = ltb-false (length fcode) (length_of fcode) (neither_is (nat_lt (length_of fcode) 9) (nat_lt (length fcode) (length_of fcode))
+      e).1 in
       same_sum 1 (length_of fcode) fcode other (unspread_same fcode (length_of fcode)) (omega arith) (omega arith) (omega arith)
 
   same_long : wrong_length fcode (length_of fcode) ≡ wrong_length other (length_of fcode)

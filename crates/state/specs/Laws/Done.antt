@@ -16,7 +16,8 @@ carried s t e = when_true (act_of s t) (refuse (refusal_of s t) s) (eqb (refusal
 pub stopped : (s : Scene) (t : Token) (why : ℕ) → eqb why 0 ≡ false → refusal_of s t ≡ why → done_of s t ≡ refuse why s
 unfolding done_of
 stopped s t why n e =
-    when_false (act_of s t) (refuse (refusal_of s t) s) (eqb (refusal_of s t) 0) (ap (λ (k : ℕ). eqb k 0) e ∙ n) ∙ ap (λ (k : ℕ). refuse k s) e
+    when_false (act_of s t) (refuse (refusal_of s t) s) (eqb (refusal_of s t) 0) (ap (λ (k : ℕ). eqb k 0) e ∙ n)
+    ∙ ap (λ (k : ℕ). refuse k s) e
 
 -- a token whose code is known
 pub coded : (t : Token) (code : ℕ) → t.code ≡ code → t ≡ token_of t.number code t.operand t.next

@@ -171,7 +171,8 @@ module _ (budget : ℕ) (s : Scene) where
   run_over e = subst (EndSays budget (run_of budget s)) e (all_ended budget s)
 
   -- where its budget is spent it says 28 with the count of tokens carried out, which is the budget
-  pub run_spent : (count : ℕ) → (run_of budget s).answer ≡ Spent count → (count ≡ (run_of budget s).count) × ((run_of budget s).count ≡ budget)
+  pub run_spent : (count : ℕ) → (run_of budget s).answer ≡ Spent count
+      → (count ≡ (run_of budget s).count) × ((run_of budget s).count ≡ budget)
   run_spent count e = subst (EndSays budget (run_of budget s)) e (all_ended budget s)
 
   pub spent_says : (count : ℕ) → (run_of budget s).answer ≡ Spent count

@@ -1,7 +1,9 @@
 -- Laws of the program numbers' code: seeking goes on from entry to entry, a table by number is filled entry by entry, and one number more
 -- changes one place of it. Assumes nothing.
-use Rattle.std.specs.Prelude.{ℕ, zero, suc, ◌+◌, ◌-◌, ◌<◌, ◌≤◌, ◌≡◌, refl, Bool, true, false, List, [], ◌∷◌, length, get_or, set, replicate, ltb, leb, eqb}
-use Rattle.std.proofs.Common.{sym, ◌∙◌, ap, arith, get_or-set_same, get_or-set_other, lt-ltb, le-ltb, le-leb, eq-eqb, ne_eqb, eqb-true, leb-true, ltb-true}
+use Rattle.std.specs.Prelude.{ℕ, zero, suc, ◌+◌, ◌-◌, ◌<◌, ◌≤◌, ◌≡◌, refl, Bool, true, false, List, [], ◌∷◌, length, get_or, set, replicate}
+use Rattle.std.specs.Prelude.{ltb, leb, eqb}
+use Rattle.std.proofs.Common.{sym, ◌∙◌, ap, arith, get_or-set_same, get_or-set_other, lt-ltb, le-ltb, le-leb, eq-eqb, ne_eqb, eqb-true}
+use Rattle.std.proofs.Common.{leb-true, ltb-true}
 use Rattle.std.proofs.Math.Nat.{sub-zero}
 use Rattle.std.proofs.lemmas.Bool.{eqb-false}
 use Rattle.cells.specs.Choice.{pick}
@@ -137,7 +139,8 @@ seek_grown programs n m count zero i e h = by (eqb n m) refl
     by false q =
         when_false i (i + 1) (eqb (get_or (set programs count n) i 0) m) (rw (z, get_or-set_same programs count n 0 h) q)
         ∙ rw (z, le-ltb count count (omega arith), q)
-seek_grown programs n m count (suc k) i e h = by (eqb (get_or programs i 0) m) refl (seek_grown programs n m count k (i + 1) (omega arith) h)
+seek_grown programs n m count (suc k) i e h = by (eqb (get_or programs i 0) m) refl
+    (seek_grown programs n m count k (i + 1) (omega arith) h)
   where
     other : get_or (set programs count n) i 0 ≡ get_or programs i 0
     other = get_or-set_other programs count i n 0 (λ q. omega arith)
@@ -213,7 +216,8 @@ module _ (ns : Numbers) (n : ℕ) (p : is_program n ≡ true) where
       by true q = let z : seek_of ns n + 1 ≡ 0 = sym (slot_got ∙ rw q) ∙ e in absurd (omega arith)
       by false q = q
 
-  pub slot_some : (get_or (slots_of ns) (n - 0x800) 0 ≡ 0 → ⊥) → (is_held ns n ≡ true) × (get_or (slots_of ns) (n - 0x800) 0 - 1 ≡ seek_of ns n)
+  pub slot_some : (get_or (slots_of ns) (n - 0x800) 0 ≡ 0 → ⊥)
+      → (is_held ns n ≡ true) × (get_or (slots_of ns) (n - 0x800) 0 - 1 ≡ seek_of ns n)
   slot_some e = by (is_held ns n) refl
     where
       by : (b : Bool) → is_held ns n ≡ b → (is_held ns n ≡ true) × (get_or (slots_of ns) (n - 0x800) 0 - 1 ≡ seek_of ns n)

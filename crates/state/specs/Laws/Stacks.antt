@@ -1,6 +1,7 @@
 -- What the next layer goes by: no token's work on the stacks leaves their sizes, and a token that only reckons gives what its row says.
 -- Assumes nothing.
-use Rattle.std.specs.Prelude.{ℕ, zero, suc, ◌+◌, ◌-◌, ◌≤◌, ◌<◌, ◌≡◌, refl, Bool, true, false, not, ◌||◌, List, [], ◌∷◌, length, get_or, set, take, drop, T, ltb, eqb}
+use Rattle.std.specs.Prelude.{ℕ, zero, suc, ◌+◌, ◌-◌, ◌≤◌, ◌<◌, ◌≡◌, refl, Bool, true, false, not, ◌||◌, List, [], ◌∷◌, length, get_or, set}
+use Rattle.std.specs.Prelude.{take, drop, T, ltb, eqb}
 use Rattle.std.proofs.Common.{ap, ◌∙◌, arith, length-set, drop-cons}
 use Rattle.cells.specs.Laws.Tests.{tests, pick_is}
 use Rattle.tokens.specs.Table.{ends, lows, highs, doubles, table, row_of}
@@ -50,7 +51,8 @@ module _ (base : ℕ) (s : Stacks) (w : Sound base s) where
   unfolding plain_of
   plain_keeps n operand u v =
       let k = code_of n in
-      let q = neither (ltb (s.returns - base) (return_takes_in k)) (ltb return_most (s.returns - return_takes_in k + return_gives_in k)) u in
+      let q = neither (ltb (s.returns - base) (return_takes_in k)) (ltb return_most (s.returns - return_takes_in k + return_gives_in k)) u
+      in
       let a = q.0 in
       let b = q.1 in
       let p = w.2 in

@@ -239,7 +239,8 @@ tokens_left (suc k) n s z r e = by (token_turn s).answer refl (λ to y q f. toke
         → ((to : Scene) → Sized to.state → Rooted to.state → ready_of to ≡ Going → Left (tokens_from k (n + 1) to))
         → Left (tokens_from (suc k) n s)
     by Going g f = let h = keeps s z r e g in rw (g, tokens_from) (f (then s (token_turn s)) h.1 h.2 h.0)
-    by Finished g f = rw (g, tokens_from) (same_left Finished (n + 1) s (token_turn s) e (subst (FairRun s (token_turn s)) g (token_fair s)))
+    by Finished g f = rw (g, tokens_from) (same_left Finished (n + 1) s (token_turn s) e
+        (subst (FairRun s (token_turn s)) g (token_fair s)))
     by (Refused why) g f =
         let q = refused_keeps s why g in
         rw (g, tokens_from) (same_left (Refused why) n s (token_turn s) e

@@ -143,5 +143,6 @@ bodies =
     []
 
 all_bodies : bodies ≡ Ends 15 ∷ Stops 9 12 ∷ Stops 11 12 ∷ Stops 8 12 ∷ Stops 9 18 ∷ Stops 9 11 ∷ Stops 10 10 ∷ []
-unfolding body_from unknown_of read_of misplaced_of decode_of token_if_whole behind_of operand_of aim_of code_of row_of table ends lows highs doubles
+unfolding body_from unknown_of read_of misplaced_of decode_of token_if_whole behind_of operand_of aim_of code_of row_of table ends lows
+    highs doubles
 all_bodies = refl

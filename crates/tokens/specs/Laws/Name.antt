@@ -1,5 +1,6 @@
 -- Laws of the packed names: unpacked, the two numbers are the name; and unpacking goes letter by letter. Assumes nothing.
-use Rattle.std.specs.Prelude.{ℕ, zero, suc, ◌+◌, ◌/◌, ◌%◌, ◌^◌, ◌≤◌, ◌<◌, ◌≡◌, refl, Bool, true, false, ◌&&◌, List, [], ◌∷◌, ◌++◌, length, take, drop, T, leb, eqb}
+use Rattle.std.specs.Prelude.{ℕ, zero, suc, ◌+◌, ◌/◌, ◌%◌, ◌^◌, ◌≤◌, ◌<◌, ◌≡◌, refl, Bool, true, false, ◌&&◌, List, [], ◌∷◌, ◌++◌, length}
+use Rattle.std.specs.Prelude.{take, drop, T, leb, eqb}
 use Rattle.std.proofs.Common.{pow-suc, arith, sym, ◌∙◌, eqb→eq, ne_eqb}
 use Rattle.std.proofs.Math.Decide.{dec_lt}
 use Rattle.cells.specs.Laws.Facts.{both_hold}

@@ -98,7 +98,8 @@ module _ (from size : ℕ) (rom other : List ℕ) (same : SameFrom from size rom
   whole_same : (wide : Bool) (p : ℕ) → from ≤ p → end_of wide p ≤ size → decode_of rom size wide p ≡ decode_of other size wide p
   unfolding decode_of
   whole_same wide p f l =
-      let h : behind_number rom p ≤ size = omega (arith, behind_ahead rom wide (behind_number rom p) (form_in (code_of (number_of rom p)))) in
+      let h : behind_number rom p ≤ size = omega (arith, behind_ahead rom wide (behind_number rom p) (form_in (code_of (number_of rom p))))
+      in
       let g : from ≤ behind_number rom p = omega (arith, number_ahead rom p) in
       let o = same_operand wide (behind_number rom p) (form_in (code_of (number_of rom p))) g l in
       rw (o.0, o.1, same_number p f h, same_behind_number p f h)

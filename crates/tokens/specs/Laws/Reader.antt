@@ -146,7 +146,8 @@ module _ (rom : List ℕ) where
           listeds wide w p s t (walk_from k rom w t.next) e l.0 l.1 (on w t.next b (omega arith))
 
   -- the stretches lie one behind the other, from the place to the end
-  pub walk_partition : (k : ℕ) (wide : Bool) (p : ℕ) → p ≤ end_of rom → end_of rom - p ≤ k → Partition p (end_of rom) (walk_from k rom wide p)
+  pub walk_partition : (k : ℕ) (wide : Bool) (p : ℕ) → p ≤ end_of rom → end_of rom - p ≤ k
+      → Partition p (end_of rom) (walk_from k rom wide p)
   walk_partition k wide p =
       walk_holds (λ w q ss. Partition q (end_of rom) ss) (λ w q e. e) (λ w q next ss e a b on. (refl, a, on))
       (λ w v q s t ss e b f on. (refl, past w q t f, on)) k wide p

@@ -68,7 +68,8 @@ pub decoded_is : (Q : Decoded → Type 0) (rom : List ℕ) (length : ℕ) (wide 
     → let n = number_of rom p in
     let o = operand_of rom length wide (behind_number rom p) (form_in (code_of n)) in
     let next = behind_of rom wide (behind_number rom p) (form_in (code_of n)) in
-    Q Cut → (next ≤ length → T (listed (code_of n) o) → Q (Whole (token_of n (code_of n) o next))) → (next ≤ length → Q (Unlisted (code_of n)))
+    Q Cut → (next ≤ length → T (listed (code_of n) o) → Q (Whole (token_of n (code_of n) o next)))
+    → (next ≤ length → Q (Unlisted (code_of n)))
     → Q (decode_of rom length wide p)
 unfolding decode_of token_if_whole
 decoded_is Q rom length wide p cut whole unlisted =
@@ -76,7 +77,8 @@ decoded_is Q rom length wide p cut whole unlisted =
     let o = operand_of rom length wide (behind_number rom p) (form_in (code_of n)) in
     let next = behind_of rom wide (behind_number rom p) (form_in (code_of n)) in
     pick_is Q (ltb length next) Cut (pick (listed (code_of n) o) (Whole (token_of n (code_of n) o next)) (Unlisted (code_of n))) (λ t. cut)
-    (λ t. pick_is Q (listed (code_of n) o) (Whole (token_of n (code_of n) o next)) (Unlisted (code_of n)) (λ u. whole (omega (arith, tests)) u)
+    (λ t. pick_is Q (listed (code_of n) o) (Whole (token_of n (code_of n) o next)) (Unlisted (code_of n))
+    (λ u. whole (omega (arith, tests)) u)
     (λ u. unlisted (omega (arith, tests))))
 
 pub decode_ahead : (rom : List ℕ) (length : ℕ) (wide : Bool) (p : ℕ) → AheadIn length p (decode_of rom length wide p)

@@ -64,7 +64,8 @@ module _ (node : ℕ) (name value s owners name_sizes value_sizes : List ℕ) (h
   lent t = tree_on_records t owners name_sizes value_sizes held
 
   abbrev Given : Kept → List ℕ → List ℕ → List ℕ → List ℕ → Type 0
-  Given r s' owners' name_sizes' value_sizes' = Puts node name value s owners name_sizes value_sizes held r s' owners' name_sizes' value_sizes'
+  Given r s' owners' name_sizes' value_sizes' = Puts node name value s owners name_sizes value_sizes held r s' owners' name_sizes'
+      value_sizes'
 
   -- the live bytes are in the store
   roomy : live_among name_sizes value_sizes held 0 ≤ length s
@@ -247,7 +248,8 @@ module _ (node : ℕ) (name value s owners name_sizes value_sizes : List ℕ) (h
                 omega arith,
                 omega arith,
                 subst (λ (z : ℕ). Clean other z) x
-                    (clean_cleared (written_of (moved_of s (at + old) (at + v) (live - (at + old))) at value) (at + v + (live - (at + old)))),
+                    (clean_cleared (written_of (moved_of s (at + old) (at + v) (live - (at + old))) at value)
+                    (at + v + (live - (at + old)))),
               ),
             )
 

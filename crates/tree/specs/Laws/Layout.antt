@@ -1,7 +1,8 @@
 -- The steps of the code come to what Property says: the walk finds the oldest property, and the stores leave the properties as they would
 -- be. Assumes nothing.
 use Prim.Native.Nat.{ℕ, zero, suc, ◌+◌, ◌-◌, ◌≤◌, ◌<◌}
-use Rattle.std.proofs.Common.{add-zero, sym, ◌∙◌, length-append, drop_of_length-le, take-add, drop-drop, take_at, drop_at, take-take, length-take-le, T_not}
+use Rattle.std.proofs.Common.{add-zero, sym, ◌∙◌, length-append, drop_of_length-le, take-add, drop-drop, take_at, drop_at, take-take}
+use Rattle.std.proofs.Common.{length-take-le, T_not}
 use native.Mathlib.Omega.{arith}
 use Rattle.std.specs.Prelude.{Bool, true, false, not, ◌≡◌, length, take, drop, replicate, T}
 use mathlib.Core.List.{List, ◌∷◌, ◌++◌, append_assoc, append-nil}
@@ -85,14 +86,17 @@ module _ (t : Tree) (store : List ℕ) where
   unfolding laid_out
   laid_on i at ps =
       let n = name_size t i in
-      take_join store at n (part_of store (at + n) (value_size t i) ++ laid_out ps) ∙ take_join store (at + n) (value_size t i) (laid_out ps)
+      take_join store at n (part_of store (at + n) (value_size t i) ++ laid_out ps)
+      ∙ take_join store (at + n) (value_size t i) (laid_out ps)
 
   module _ (node : ℕ) (name value : List ℕ) where
     -- a record that is not there: it stands at the live end, behind them all
     abbrev pub Absent : ℕ → ℕ → ℕ → Type 0
     Absent k i at =
-        ((found_from t store node name k i at).at ≡ at + live_from t k i) × (length (put_in (held_from t store k i at) node name value) ≡ suc k)
-        × (take at store ++ laid_out (put_in (held_from t store k i at) node name value) ≡ take (at + live_from t k i) store ++ (name ++ value))
+        ((found_from t store node name k i at).at ≡ at + live_from t k i)
+        × (length (put_in (held_from t store k i at) node name value) ≡ suc k)
+        × (take at store ++ laid_out (put_in (held_from t store k i at) node name value) ≡ take (at + live_from t k i)
+        store ++ (name ++ value))
 
     -- a record that is there: its value's bytes lie between those before and those behind
     abbrev pub value_at : ℕ → ℕ → ℕ → ℕ
@@ -144,7 +148,8 @@ module _ (t : Tree) (store : List ℕ) where
           )),
         )
 
-    walked_next : (k i at : ℕ) → matches (property_at t store i at) node name ≡ false → Walked k (i + 1) (at + name_size t i + value_size t i)
+    walked_next : (k i at : ℕ) → matches (property_at t store i at) node name ≡ false
+        → Walked k (i + 1) (at + name_size t i + value_size t i)
         → Walked (suc k) i at
     unfolding found_from held_from live_among
     walked_next k i at m w =

@@ -14,7 +14,8 @@ use Rattle.tree.specs.Laws.Layout.{either}
 use Rattle.tree.specs.declared.tree.Tree.{Tree}
 
 module _ (name_sizes value_sizes : List ℕ) (i n v : ℕ) where
-  pub live_outside_low : (k j : ℕ) → j + k ≤ i → live_among (set name_sizes i n) (set value_sizes i v) k j ≡ live_among name_sizes value_sizes k j
+  pub live_outside_low : (k j : ℕ) → j + k ≤ i → live_among (set name_sizes i n) (set value_sizes i v) k j ≡ live_among name_sizes
+      value_sizes k j
   unfolding live_among
   live_outside_low zero j h = refl
   live_outside_low (suc k) j h =
@@ -24,7 +25,8 @@ module _ (name_sizes value_sizes : List ℕ) (i n v : ℕ) where
         live_outside_low k (j + 1) (omega arith),
       )
 
-  pub live_outside_high : (k j : ℕ) → i < j → live_among (set name_sizes i n) (set value_sizes i v) k j ≡ live_among name_sizes value_sizes k j
+  pub live_outside_high : (k j : ℕ) → i < j → live_among (set name_sizes i n) (set value_sizes i v) k j ≡ live_among name_sizes value_sizes
+      k j
   unfolding live_among
   live_outside_high zero j h = refl
   live_outside_high (suc k) j h =
@@ -46,7 +48,8 @@ module _ (name_sizes value_sizes : List ℕ) (i n v : ℕ) where
               rw (e, get_or-set_same name_sizes i n 0 f, get_or-set_same value_sizes i v 0 g, live_outside_high k (i + 1) (omega arith))
               (omega arith)
           | no p ↦ let r = live_inside k (j + 1) (omega arith) (omega arith) in
-              rw (get_or-set_other name_sizes i j n 0 (λ e. omega arith), get_or-set_other value_sizes i j v 0 (λ e. omega arith)) (omega arith)
+              rw (get_or-set_other name_sizes i j n 0 (λ e. omega arith), get_or-set_other value_sizes i j v 0 (λ e. omega arith))
+              (omega arith)
         ]
 
     pub live_behind : (k j : ℕ) → i ≡ j + k → live_among (set name_sizes i n) (set value_sizes i v) (suc k) j
@@ -87,5 +90,6 @@ module _ (t : Tree) (store : List ℕ) (node : ℕ) (name : List ℕ) where
   found_owner zero i at l = absurd (omega arith)
   found_owner (suc k) i at l =
       either (matches (property_at t store i at) node name)
-      (λ m. rw m (eqb-true (owner_of t i) node (and_first (eqb (owner_of t i) node) (same_bytes (part_of store at (name_size t i)) name) m)))
+      (λ m. rw m (eqb-true (owner_of t i) node (and_first (eqb (owner_of t i) node) (same_bytes (part_of store at (name_size t i)) name)
+      m)))
       (λ m. let l' = rw m at l in rw m (found_owner k (i + 1) (at + name_size t i + value_size t i) (omega arith)))

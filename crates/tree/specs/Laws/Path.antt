@@ -1,6 +1,7 @@
 -- Paths and lookups by numbers, as the code goes, and what the code's steps come to. Assumes nothing.
 use Prim.Native.Nat.{ℕ, zero, suc, ◌+◌, ◌-◌, ◌≤◌, ◌<◌}
-use Rattle.std.proofs.Common.{zero-add, add-one, true≢false, sym, ◌∙◌, length-drop, drop_of_length-le, drop-cons, drop-drop, lt-ltb, le-ltb, eq-eqb, ne_eqb, eqb-true}
+use Rattle.std.proofs.Common.{zero-add, add-one, true≢false, sym, ◌∙◌, length-drop, drop_of_length-le, drop-cons, drop-drop, lt-ltb, le-ltb}
+use Rattle.std.proofs.Common.{eq-eqb, ne_eqb, eqb-true}
 use native.Mathlib.Omega.{arith}
 use Rattle.std.proofs.Math.Decide.{dec_le}
 use Rattle.std.specs.Prelude.{Bool, true, false, ◌&&◌, List, [], ◌∷◌, ◌≡◌, length, get_or, take, drop, ltb, eqb}
@@ -16,7 +17,8 @@ use Rattle.tree.specs.Held.{Property, name_size, value_size, property_at, held_f
 use Rattle.tree.specs.Whole.{parent_of, whole_tree}
 use Rattle.tree.specs.Laws.Trees.{whole_facts}
 use Rattle.tree.specs.Laws.Layout.{either, walked}
-use Rattle.tree.specs.Path.{slash, split_of, parts_of, is_empty, any_empty, malformed, value_in, less_null, is_called, child_from, child_named}
+use Rattle.tree.specs.Path.{slash, split_of, parts_of, is_empty, any_empty, malformed, value_in, less_null, is_called, child_from}
+use Rattle.tree.specs.Path.{child_named}
 use Rattle.tree.specs.Path.{down_from, behind_slash, find_node_of, named_place, find_property_of, property_value_of}
 use Rattle.tree.specs.Path.{own_value_of}
 use Rattle.tree.specs.declared.tree.Tree.{Tree}
@@ -97,7 +99,8 @@ module _ (path : List ℕ) (at end : ℕ) (h : at ≤ length path) (e : end ≡ 
   unfolding any_empty
   empty_last n l = rw (split_last l, full n)
 
-  pub empty_more : (end ≡ at → ⊥) → (end ≡ length path → ⊥) → any_empty (split_of (drop at path)) ≡ any_empty (split_of (drop (end + 1) path))
+  pub empty_more : (end ≡ at → ⊥) → (end ≡ length path → ⊥) → any_empty (split_of (drop at path)) ≡ any_empty
+      (split_of (drop (end + 1) path))
   unfolding any_empty
   empty_more n l = rw (split_more l, full n)
 

@@ -74,7 +74,8 @@ module _ (t : Tree) (z : SizedTree t) (i node n v : ℕ) where
       rw (eq-eqb i t.held e, d) (live_behind t.name_sizes t.value_sizes i n v (omega arith) (omega arith) t.held 0
       (omega arith))
 
-  pub live_old : i < t.held → i < properties_most → live_of (recorded_of t i node n v) + (name_size t i + value_size t i) ≡ live_of t + (n + v)
+  pub live_old : i < t.held → i < properties_most → live_of (recorded_of t i node n v) + (name_size t i + value_size t i) ≡ live_of
+      t + (n + v)
   unfolding recorded_of
   live_old e h =
       let f = z.name_sizes in
@@ -117,7 +118,8 @@ module _ (t : Tree) (z : SizedTree t) (i node n v : ℕ) where
 pub length_store : (ps : List Property) → overfull ps ≡ false → length (store_with ps) ≡ store_size
 unfolding store_with overfull
 length_store ps o =
-    let f = ltb-false store_size (length (laid_out ps)) (or_parts (ltb properties_most (length ps)) (ltb store_size (length (laid_out ps))) o).1
+    let f = ltb-false store_size (length (laid_out ps)) (or_parts (ltb properties_most (length ps)) (ltb store_size (length (laid_out ps)))
+    o).1
     in
     let r : List ℕ = replicate (store_size - length (laid_out ps)) 0 in
     let x : length r ≡ store_size - length (laid_out ps) = length-replicate (store_size - length (laid_out ps)) 0 in

@@ -11,7 +11,8 @@ use Rattle.memory.specs.Laws.Memory.{length_part}
 use Rattle.tree.specs.Held.{held_of, live_of, laid_out, index_of, name_size, value_size}
 use Rattle.tree.specs.Whole.{name_most, whole_tree}
 use Rattle.tree.specs.Node.{write_done, write_refused}
-use Rattle.tree.specs.Property.{all_name_bytes, bad_name, overfull, would_hold, put_refusal, store_with, tree_put, store_put, put_of, store_of}
+use Rattle.tree.specs.Property.{all_name_bytes, bad_name, overfull, would_hold, put_refusal, store_with, tree_put, store_put, put_of}
+use Rattle.tree.specs.Property.{store_of}
 use Rattle.tree.specs.Joints.Steps.{found_of, full_with, laid_with}
 use Rattle.tree.specs.Laws.Layout.{walked, appended_is, replaced_is}
 use Rattle.rom.specs.Sizes.{properties_most, store_size}
@@ -149,7 +150,8 @@ module _ (t : Tree) (s : List ℕ) (node : ℕ) (name value : List ℕ) where
 
     -- what has room is laid as it should be
     module _ (z : length s ≡ store_size) (o : overfull (would_hold t s node name value) ≡ false) where
-      pub fits : (length (would_hold t s node name value) ≤ properties_most) × (length (laid_out (would_hold t s node name value)) ≤ store_size)
+      pub fits : (length (would_hold t s node name value) ≤ properties_most)
+          × (length (laid_out (would_hold t s node name value)) ≤ store_size)
       unfolding overfull
       fits =
           let p = or_parts (ltb properties_most (length (would_hold t s node name value)))

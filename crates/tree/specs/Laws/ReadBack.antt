@@ -78,7 +78,8 @@ module _ (t : Tree) (store : List ℕ) (node : ℕ) (name value : List ℕ) (j :
         get_or-set_same t.value_sizes j (length value) 0 (omega arith),
       )
 
-  other : (i : ℕ) → (i ≡ j → ⊥) → (owner_of then i ≡ owner_of t i) × (name_size then i ≡ name_size t i) × (value_size then i ≡ value_size t i)
+  other : (i : ℕ) → (i ≡ j → ⊥) → (owner_of then i ≡ owner_of t i) × (name_size then i ≡ name_size t i)
+      × (value_size then i ≡ value_size t i)
   unfolding recorded_of
   other i n = (
     get_or-set_other t.owners j i node 0 n,
@@ -100,8 +101,11 @@ module _ (t : Tree) (store : List ℕ) (node : ℕ) (name value : List ℕ) (j :
   records_behind : (k i at : ℕ) → j < i → at + live_from t k i ≤ length store → Records then i (held_from t store k i at)
   unfolding held_from live_among
   records_behind zero i at g h = tt
-  records_behind (suc k) i at g h =
-      (kept i at (λ e. omega arith) (omega arith), records_behind k (i + 1) (at + name_size t i + value_size t i) (omega arith) (omega arith))
+  records_behind (suc k) i at g h = (
+    kept i at (λ e. omega arith) (omega arith),
+    records_behind k (i + 1) (at + name_size t i + value_size t i) (omega arith)
+        (omega arith),
+  )
 
   pub records_put : (k i at : ℕ) → at + live_from t k i ≤ length store → (found_from t store node name k i at).index ≡ j
       → Records then i (put_in (held_from t store k i at) node name value)
@@ -128,7 +132,8 @@ module _ (t : Tree) (store : List ℕ) (node : ℕ) (name value : List ℕ) (j :
       (kept i at (λ d. omega arith) (omega arith), records_put k (i + 1) (at + name_size t i + value_size t i) (omega arith) f))
 
 module _ (t : Tree) (s : List ℕ) (node : ℕ) (name value : List ℕ) (e : put_refusal t s node name value ≡ 0) (z : SizedTree t) where
-  held_then : length (would_hold t s node name value) ≡ (recorded_of t (found_of t s node name).index node (length name) (length value)).held
+  held_then : length (would_hold t s node name value) ≡ (recorded_of t (found_of t s node name).index node (length name)
+      (length value)).held
   unfolding recorded_of
   held_then =
       let i = (found_of t s node name).index in

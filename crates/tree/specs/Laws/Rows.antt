@@ -10,7 +10,8 @@ use borrow.Author.Tests.{eq-eqb, ne_eqb, lt-ltb, le-ltb}
 use Rattle.cells.specs.Choice.{pick}
 use Rattle.cells.specs.Laws.Facts.{holds}
 use Rattle.tree.specs.Whole.{parent_of, whole_tree}
-use Rattle.tree.specs.Rows.{count_from, count_of, node_row, column_from, parents_of, counts_of, rows_from, rows_of, table_refusal, rows_refusal}
+use Rattle.tree.specs.Rows.{count_from, count_of, node_row, column_from, parents_of, counts_of, rows_from, rows_of, table_refusal}
+use Rattle.tree.specs.Rows.{rows_refusal}
 use Rattle.rom.specs.Sizes.{nodes_most}
 use Rattle.tree.specs.declared.tree.Tree.{Tree}
 use Rattle.tree.specs.declared.rows.Row.{Row}

@@ -39,7 +39,8 @@ module _ (a b : List ℕ) where
       → same_bytes (drop j a) (drop j b) ≡ same_bytes a b
   same_before j k h g i e =
       let f : j + (k - j) ≡ k = omega arith in
-      between (same_bytes a b) (same_bytes (drop j a) (drop j b)) (every_below j (alike_from a b 0)) (every_below (k - j) (alike_from a b j))
+      between (same_bytes a b) (same_bytes (drop j a) (drop j b)) (every_below j (alike_from a b 0))
+      (every_below (k - j) (alike_from a b j))
       (same_bytes (drop k a) (drop k b)) (rw (zero-add j) at (same_many 0 j (omega arith) (omega arith)))
       (rw f at (same_many j (k - j) (omega arith) (omega arith))) e
 

@@ -52,7 +52,8 @@ older_child parents (suc k) n = refl
 
 -- live bytes, one record more
 pub live_more : (name_sizes value_sizes : List ℕ) (k i n : ℕ) → i < n → k ≡ n - i
-    → live_among name_sizes value_sizes k i ≡ get_or name_sizes i 0 + get_or value_sizes i 0 + live_among name_sizes value_sizes (n - (i + 1)) (i + 1)
+    → live_among name_sizes value_sizes k i ≡ get_or name_sizes i 0 + get_or value_sizes i 0 + live_among name_sizes value_sizes
+    (n - (i + 1)) (i + 1)
 unfolding live_among
 live_more name_sizes value_sizes k i n h e = let f : k ≡ suc (n - (i + 1)) = omega arith in rw f
 
@@ -83,7 +84,8 @@ unfolding same_bytes
 same_end a b k h g = rw (drop_of_length-le a {i = k} h, drop_of_length-le b {i = k} g)
 
 -- names, byte by byte
-pub name_more : (a : List ℕ) (k : ℕ) → k < length a → name_byte (get_or a k 0) ≡ true → all_name_bytes (drop (k + 1) a) ≡ all_name_bytes (drop k a)
+pub name_more : (a : List ℕ) (k : ℕ) → k < length a → name_byte (get_or a k 0) ≡ true
+    → all_name_bytes (drop (k + 1) a) ≡ all_name_bytes (drop k a)
 unfolding all_name_bytes
 name_more a k h g = rw (drop-cons a k 0 h, g, add-one k)
 

@@ -52,7 +52,8 @@ define_new-requires c =
           (seek_of (numbers_on args.names.now args.kinds.now args.values.now args.ways.now args.core.held)
           args.number) refl (not_held args.slots.now
           (numbers_on args.names.now args.kinds.now args.values.now args.ways.now args.core.held) args.number
-          c.slot_of.result (pre.2.0 args.values.now args.ways.now).0 c.slot_of.ensures c.if-slot_of-ne0.false pre.6) c.if-core-ge-NUMBERS_MOST.false,
+          c.slot_of.result (pre.2.0 args.values.now args.ways.now).0 c.slot_of.ensures c.if-slot_of-ne0.false pre.6)
+          c.if-core-ge-NUMBERS_MOST.false,
       pre.2,
       pre.3,
       pre.4,

@@ -1,5 +1,6 @@
 use Rattle.std.proofs.Common.{ℕ, true, [], sym, refl, ◌∙◌, subst, arith, rules}
-use Rattle.acts.proofs.Acting.{plain_turn, text_turn, text_form, assign_turn, define_turn, define_fits, frames_open, none_other, records_still}
+use Rattle.acts.proofs.Acting.{plain_turn, text_turn, text_form, assign_turn, define_turn, define_fits, frames_open, none_other}
+use Rattle.acts.proofs.Acting.{records_still}
 use Rattle.acts.proofs.Backs.{no_arrays}
 use Rattle.acts.proofs.Coming.{quiet_comes, plain_comes}
 use Rattle.acts.specs.Joints.Acts.{every_on, Tables, cold_families}

@@ -147,7 +147,8 @@ returns-else-core-eq0 c =
     ∙ c.in-194.is) in
     let n = c.if-core-eq0.false in
     rw c.with_tail-in-194.ensures (plain_comes x.rom.now x.core (seen_as (code_for leave) 0xC2 (x.core.place + 1) 0 0)
-    (seen_early x.rom.now x.core 0xC2 e leave c.if-core-place.false refl refl (λ z. omega arith) refl (rw (lt-ltb 0 x.core.frames (omega arith)))) leave refl
+    (seen_early x.rom.now x.core 0xC2 e leave c.if-core-place.false refl refl (λ z. omega arith) refl
+    (rw (lt-ltb 0 x.core.frames (omega arith)))) leave refl
     (λ a. every_on x.cells.now x.places.now x.wides.now x.bases.now x.names.now x.kinds.now
     x.values.now x.ways.now x.parents.now x.owners.now x.titles.now x.sizes.now a)
     (λ a. every_on x.cells.now x.places.now x.wides.now x.bases.now x.names.now x.kinds.now

@@ -10,7 +10,8 @@ pub returns-then-core-lt1 : goal.returns-then-core-lt1
 returns-then-core-lt1 c = λ a n o rom store. rw c.stop.ensures (sym (stopped _ _ 14 refl (int_low _ n o _ c.if-core-lt1.true)))
 
 pub returns-then-core-gt-DATA_MOST : goal.returns-then-core-gt-DATA_MOST
-returns-then-core-gt-DATA_MOST c = λ a n o rom store. rw c.stop-then-core-gt-DATA_MOST.ensures (sym (stopped _ _ 15 refl (int_high _ n o _ c.if-core-lt1.false c.if-core-gt-DATA_MOST.true)))
+returns-then-core-gt-DATA_MOST c = λ a n o rom store. rw c.stop-then-core-gt-DATA_MOST.ensures
+    (sym (stopped _ _ 15 refl (int_high _ n o _ c.if-core-lt1.false c.if-core-gt-DATA_MOST.true)))
 
 pub returns-then-at-gt-WORK_SIZE : goal.returns-then-at-gt-WORK_SIZE
 returns-then-at-gt-WORK_SIZE c =
@@ -20,11 +21,13 @@ returns-then-at-gt-WORK_SIZE c =
 pub encoded-requires : goal.encoded-requires
 encoded-requires c =
     let args = c.args in
-    int_room (joined (on_stack args.cells.now no_arrays) args.core) args.next c.if-core-lt1.false c.if-core-gt-DATA_MOST.false c.if-at-gt-WORK_SIZE.false
+    int_room (joined (on_stack args.cells.now no_arrays) args.core) args.next c.if-core-lt1.false c.if-core-gt-DATA_MOST.false
+    c.if-at-gt-WORK_SIZE.false
     (taken_on (on_stack args.cells.now no_arrays) c.pop-p.result) (c.pop-p.ensures no_arrays)
 
 pub returns : goal.returns
 returns c =
     let args = c.args in
-    λ a. int_told (joined (on_stack args.cells.now a) args.core) args.next c.if-core-lt1.false c.if-core-gt-DATA_MOST.false c.if-at-gt-WORK_SIZE.false
+    λ a. int_told (joined (on_stack args.cells.now a) args.core) args.next c.if-core-lt1.false c.if-core-gt-DATA_MOST.false
+    c.if-at-gt-WORK_SIZE.false
     (taken_on (on_stack args.cells.now a) c.pop-p.result) (c.pop-p.ensures a) _ _ _ c.write_cell.ensures (c.encoded.ensures a)

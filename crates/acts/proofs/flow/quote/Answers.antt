@@ -7,7 +7,8 @@ use Rattle.acts.proofs.flow.quote.Goals as goal
 
 pub returns-then-core-gt-DATA_MOST : goal.returns-then-core-gt-DATA_MOST
 unfolding act_of effects
-returns-then-core-gt-DATA_MOST c = λ a n rom work store. rw c.stop.ensures (sym (stopped _ _ 15 refl (text_high _ n _ _ c.if-core-gt-DATA_MOST.true)))
+returns-then-core-gt-DATA_MOST c = λ a n rom work store. rw c.stop.ensures
+    (sym (stopped _ _ 15 refl (text_high _ n _ _ c.if-core-gt-DATA_MOST.true)))
 
 pub returns : goal.returns
 unfolding act_of effects

@@ -17,4 +17,5 @@ returns-in-Refused c =
     let x = c.args in
     let st = joined (on_nodes x.parents.now a) x.core in
     let e = c.close_child-closed.ensures st.tree _ in
-    close_told st x.next c.requires _ _ (active_refused st x.next _ _ _ c.in-Refused.is (close_same st x.next _ _ c.in-Refused.is e) refl) e)
+    close_told st x.next c.requires _ _ (active_refused st x.next _ _ _ c.in-Refused.is (close_same st x.next _ _ c.in-Refused.is e) refl)
+    e)

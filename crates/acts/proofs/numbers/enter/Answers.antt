@@ -43,7 +43,8 @@ returns-then-core-gt-DATA_MOST c =
     enter_high
     (joined (on_program args.cells.now args.places.now args.wides.now args.bases.now args.names.now
     args.kinds.now args.values.now args.ways.now a) args.core) args.number args.next _ h.1 h.0 h.2
-    c.kind_byte.result c.entry-value.result c.kind_byte.ensures c.entry-value.ensures pre.0 c.if-kind_byte.false _ c.if-core-gt-DATA_MOST.true
+    c.kind_byte.result c.entry-value.result c.kind_byte.ensures c.entry-value.ensures pre.0 c.if-kind_byte.false _
+    c.if-core-gt-DATA_MOST.true
     (back (on_program args.cells.now args.places.now args.wides.now args.bases.now args.names.now
     args.kinds.now args.values.now args.ways.now a) _ _ _ c.stop-then-core-gt-DATA_MOST.ensures)
 
@@ -58,6 +59,7 @@ returns c =
     enter_value
     (joined (on_program args.cells.now args.places.now args.wides.now args.bases.now args.names.now
     args.kinds.now args.values.now args.ways.now a) args.core) args.number args.next _ h.1 h.0 h.2
-    c.kind_byte.result c.entry-value.result c.kind_byte.ensures c.entry-value.ensures pre.0 c.if-kind_byte.false _ c.if-core-gt-DATA_MOST.false
+    c.kind_byte.result c.entry-value.result c.kind_byte.ensures c.entry-value.ensures pre.0 c.if-kind_byte.false _
+    c.if-core-gt-DATA_MOST.false
     (c.push.ensures (on_program args.cells.now args.places.now args.wides.now args.bases.now args.names.now
     args.kinds.now args.values.now args.ways.now a))

@@ -77,7 +77,8 @@ returns c =
           property_told x.rom.now x.work.now x.store.now st x.next c.requires.0 low (taken_on b c.pop-p.result)
           (taken_on b c.pop-q.result) (taken_on b c.pop-t.result) (taken_on b c.pop-u.result) (c.pop-p.ensures b) (c.pop-q.ensures b)
           (c.pop-t.ensures b) (c.pop-u.ensures b) named _ _ _ _ _ valued c.requires.2.0 w name value e.0 e.1
-          (filed_back b _ k 4 x.next c.put_in-kept.result.held c.put_in-kept.result.tail _ c.put_in-kept.result.outcome _ refl c.file_kept.ensures refl
+          (filed_back b _ k 4 x.next c.put_in-kept.result.held c.put_in-kept.result.tail _ c.put_in-kept.result.outcome _ refl
+          c.file_kept.ensures refl
           (λ why d. put_same _ why d st.tree _ _ _ _ e.0)),
       rw (n.0, n.1) c.put_in-kept.ensures.1,
       n.2,

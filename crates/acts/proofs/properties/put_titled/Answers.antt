@@ -41,7 +41,8 @@ returns c =
     let x = c.args in
     let k = x.core in
     let n =
-    filed_numbers k 2 x.next c.put_title-kept.result.held c.put_title-kept.result.tail c.put_title-kept.result.outcome _ c.file_kept.ensures in (
+    filed_numbers k 2 x.next c.put_title-kept.result.held c.put_title-kept.result.tail c.put_title-kept.result.outcome _ c.file_kept.ensures
+    in (
       λ a w.
           let b = on_files x.cells.now x.owners.now x.titles.now x.sizes.now a in
           let st = joined b k in
@@ -52,7 +53,8 @@ returns c =
           let value = c.resolve-value.ensures in
           title_told x.rom.now x.work.now x.store.now st x.number x.next c.requires.0 low (taken_on b c.pop-p.result)
           (taken_on b c.pop-q.result) (c.pop-p.ensures b) (c.pop-q.ensures b) _ _ _ _ valued c.requires.2.0 w value e.0 e.1
-          (filed_back b _ k 2 x.next c.put_title-kept.result.held c.put_title-kept.result.tail _ c.put_title-kept.result.outcome _ refl c.file_kept.ensures refl
+          (filed_back b _ k 2 x.next c.put_title-kept.result.held c.put_title-kept.result.tail _ c.put_title-kept.result.outcome _ refl
+          c.file_kept.ensures refl
           (λ why d. put_same _ why d st.tree _ _ _ _ e.0)),
       rw (n.0, n.1) c.put_title-kept.ensures.1,
       n.2,

@@ -8,7 +8,8 @@ abbrev pub Past : List ℕ → List ℕ → Numbers → ℕ → Type 0
 Past slots known ns i = (slots ≡ slots_past ns i) × (known ≡ table_past (kind_at ns) ns i)
 
 abbrev pub invariant-loop-i : goal.invariant-loop-i
-invariant-loop-i l = (l.i ≤ l.held) × ((values : List ℕ) (ways : List Bool) → Past l.slots l.known (numbers_on l.names l.kinds values ways l.held) l.i)
+invariant-loop-i l = (l.i ≤ l.held) × ((values : List ℕ) (ways : List Bool)
+    → Past l.slots l.known (numbers_on l.names l.kinds values ways l.held) l.i)
 
 abbrev pub decreases-loop-i : goal.decreases-loop-i
 decreases-loop-i l = l.i

@@ -10,4 +10,5 @@ pub returns-in-184 : goal.returns-in-184
 returns-in-184 c = rw c.in-184.is
 
 pub returns-in_default : goal.returns-in_default
-returns-in_default c = sym (find_none (Unit {0}) ((colon, colon) ∷ (value, value) ∷ []) constant c.args.kind c.in_default.in_default-own.rest)
+returns-in_default c = sym (find_none (Unit {0}) ((colon, colon) ∷ (value, value) ∷ []) constant c.args.kind
+    c.in_default.in_default-own.rest)

@@ -9,7 +9,8 @@ taken k n = omega arith
 
 pub slice_bounds-result-end : goal.slice_bounds-result-end
 slice_bounds-result-end c =
-    let found : c.window_of.result ≡ range_of c.args.rom.now c.args.work.now c.args.size c.args.address c.args.count = rw (← c.least.ensures) c.window_of.ensures in
+    let found : c.window_of.result ≡ range_of c.args.rom.now c.args.work.now c.args.size c.args.address c.args.count = rw
+    (← c.least.ensures) c.window_of.ensures in
     let a = c.args in
     let h : c.in-Rom.start + a.count ≤ length a.rom.now =
     range_rom a.rom.now a.work.now a.size a.address a.count c.in-Rom.start (sym found ∙ c.in-Rom.is) in
@@ -17,7 +18,8 @@ slice_bounds-result-end c =
 
 pub slice_bounds-result-end-in-Work : goal.slice_bounds-result-end-in-Work
 slice_bounds-result-end-in-Work c =
-    let found : c.window_of.result ≡ range_of c.args.rom.now c.args.work.now c.args.size c.args.address c.args.count = rw (← c.least.ensures) c.window_of.ensures in
+    let found : c.window_of.result ≡ range_of c.args.rom.now c.args.work.now c.args.size c.args.address c.args.count = rw
+    (← c.least.ensures) c.window_of.ensures in
     let a = c.args in
     let h : c.in-Work.start + a.count ≤ length a.work.now =
     range_work a.rom.now a.work.now a.size a.address a.count c.in-Work.start (sym found ∙ c.in-Work.is) in
@@ -25,21 +27,24 @@ slice_bounds-result-end-in-Work c =
 
 pub returns-in-Rom : goal.returns-in-Rom
 returns-in-Rom c =
-    let found : c.window_of.result ≡ range_of c.args.rom.now c.args.work.now c.args.size c.args.address c.args.count = rw (← c.least.ensures) c.window_of.ensures in
+    let found : c.window_of.result ≡ range_of c.args.rom.now c.args.work.now c.args.size c.args.address c.args.count = rw
+    (← c.least.ensures) c.window_of.ensures in
     let a = c.args in
     rw (taken c.in-Rom.start a.count)
     (sym (resolved_rom a.rom.now a.work.now a.size a.address a.count c.in-Rom.start (sym found ∙ c.in-Rom.is)))
 
 pub returns-in-Work : goal.returns-in-Work
 returns-in-Work c =
-    let found : c.window_of.result ≡ range_of c.args.rom.now c.args.work.now c.args.size c.args.address c.args.count = rw (← c.least.ensures) c.window_of.ensures in
+    let found : c.window_of.result ≡ range_of c.args.rom.now c.args.work.now c.args.size c.args.address c.args.count = rw
+    (← c.least.ensures) c.window_of.ensures in
     let a = c.args in
     rw (taken c.in-Work.start a.count)
     (sym (resolved_work a.rom.now a.work.now a.size a.address a.count c.in-Work.start (sym found ∙ c.in-Work.is)))
 
 pub returns-in-Nowhere : goal.returns-in-Nowhere
 returns-in-Nowhere c =
-    let found : c.window_of.result ≡ range_of c.args.rom.now c.args.work.now c.args.size c.args.address c.args.count = rw (← c.least.ensures) c.window_of.ensures in
+    let found : c.window_of.result ≡ range_of c.args.rom.now c.args.work.now c.args.size c.args.address c.args.count = rw
+    (← c.least.ensures) c.window_of.ensures in
     let a = c.args in
     sym (resolved_none a.rom.now a.work.now a.size a.address a.count
     (sym found ∙ c.in-Nowhere.is))

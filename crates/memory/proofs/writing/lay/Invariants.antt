@@ -4,7 +4,8 @@ use Rattle.memory.proofs.writing.lay.Given as goal
 
 -- what is left to write gives what the whole gives
 abbrev pub invariant-loop-i : goal.invariant-loop-i
-invariant-loop-i l = (l.i ≤ length l.bytes) × (length l.memory ≡ length l.initial.memory) × (written_of l.memory (l.at + l.i) (drop l.i l.bytes) ≡ written_of l.initial.memory l.at l.bytes)
+invariant-loop-i l = (l.i ≤ length l.bytes) × (length l.memory ≡ length l.initial.memory)
+    × (written_of l.memory (l.at + l.i) (drop l.i l.bytes) ≡ written_of l.initial.memory l.at l.bytes)
 
 abbrev pub decreases-loop-i : goal.decreases-loop-i
 decreases-loop-i l = length l.bytes - l.i

@@ -23,10 +23,12 @@ pub returns-then-to-eq0 : goal.returns-then-to-eq0
 returns-then-to-eq0 c =
     let a = c.args in
     rw c.refuse-then-to-eq0.ensures (choice_out_made a.rom.now a.length a.wide a.h a.b a.place a.stack.now c.requires.0
-    c.requires.1 _ c.behind_branch-next.ensures c.if-length-next.false _ c.branch_to-to.ensures c.if-h-lt1.false c.if-stack-h-ne0.false c.if-to-eq0.true)
+    c.requires.1 _ c.behind_branch-next.ensures c.if-length-next.false _ c.branch_to-to.ensures c.if-h-lt1.false c.if-stack-h-ne0.false
+    c.if-to-eq0.true)
 
 pub returns : goal.returns
 returns c =
     let a = c.args in
     rw c.on-2.ensures (choice_taken_made a.rom.now a.length a.wide a.h a.b a.place a.stack.now c.requires.0
-    c.requires.1 _ c.behind_branch-next.ensures c.if-length-next.false _ c.branch_to-to.ensures c.if-h-lt1.false c.if-stack-h-ne0.false c.if-to-eq0.false)
+    c.requires.1 _ c.behind_branch-next.ensures c.if-length-next.false _ c.branch_to-to.ensures c.if-h-lt1.false c.if-stack-h-ne0.false
+    c.if-to-eq0.false)

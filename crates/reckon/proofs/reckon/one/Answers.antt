@@ -56,4 +56,5 @@ returns-in-89 c = one_by 0x59 double_of (λ s. refl) c.in-89.is c.double.ensures
 
 pub returns-in_default : goal.returns-in_default
 unfolding row_of table ends lows highs doubles
-returns-in_default c = absurd (none_left (Unit {0}) ones c.args.number c.in_default.in_default-own.rest (one_coded c.args.number c.requires))
+returns-in_default c = absurd (none_left (Unit {0}) ones c.args.number c.in_default.in_default-own.rest
+    (one_coded c.args.number c.requires))

@@ -30,4 +30,5 @@ returns-in-81 c = none_by 0x51 (λ h. h) (λ s. refl) c.in-81.is refl
 
 pub returns-in_default : goal.returns-in_default
 unfolding row_of table ends lows highs doubles
-returns-in_default c = absurd (none_left (Unit {0}) nones c.args.number c.in_default.in_default-own.rest (none_coded c.args.number c.requires.0))
+returns-in_default c = absurd (none_left (Unit {0}) nones c.args.number c.in_default.in_default-own.rest
+    (none_coded c.args.number c.requires.0))

@@ -15,4 +15,5 @@ returns-in-69 c = three_by 0x45 within_of (λ s. refl) c.in-69.is c.within.ensur
 
 pub returns-in_default : goal.returns-in_default
 unfolding row_of table ends lows highs doubles
-returns-in_default c = absurd (none_left (Unit {0}) threes c.args.number c.in_default.in_default-own.rest (three_coded c.args.number c.requires))
+returns-in_default c = absurd (none_left (Unit {0}) threes c.args.number c.in_default.in_default-own.rest
+    (three_coded c.args.number c.requires))

@@ -15,5 +15,8 @@ loop-i-preserved c =
 
 pub returns : goal.returns
 returns c =
-    let s = c.args in
-    (search rules, turned c.loop-i.stack c.loop-i.i (s.start + s.count) (get_or s.stack.now s.start 0) (search rules) ∙ c.loop-i.invariant.1)
+    let s = c.args in (
+      search rules,
+      turned c.loop-i.stack c.loop-i.i (s.start + s.count) (get_or s.stack.now s.start 0) (search rules)
+          ∙ c.loop-i.invariant.1,
+    )

@@ -1,6 +1,7 @@
 use Rattle.std.proofs.Common.{refl}
 use Rattle.cells.specs.Arithmetic.{plus_of, minus_of, times_of, and_of, or_of, xor_of, lshift_of, rshift_of, ashift_of, min_of, max_of}
-use Rattle.cells.specs.Comparison.{less_of, greater_of, equal_of, unequal_of, u_greater_of, u_at_most_of, u_less_of, u_at_least_of, at_least_of, at_most_of}
+use Rattle.cells.specs.Comparison.{less_of, greater_of, equal_of, unequal_of, u_greater_of, u_at_most_of, u_less_of, u_at_least_of}
+use Rattle.cells.specs.Comparison.{at_least_of, at_most_of}
 use Rattle.tokens.specs.Table.{ends, lows, highs, doubles, table, row_of}
 use Rattle.tokens.specs.Laws.Rows.{none_left}
 use Rattle.reckon.proofs.Given.{two_by, twos, two_coded}
@@ -96,4 +97,5 @@ returns-in-77 c = two_by 0x4D (λ b a. a) (λ s. refl) c.in-77.is refl
 
 pub returns-in_default : goal.returns-in_default
 unfolding row_of table ends lows highs doubles
-returns-in_default c = absurd (none_left (Unit {0}) twos c.args.number c.in_default.in_default-own.rest (two_coded c.args.number c.requires))
+returns-in_default c = absurd (none_left (Unit {0}) twos c.args.number c.in_default.in_default-own.rest
+    (two_coded c.args.number c.requires))

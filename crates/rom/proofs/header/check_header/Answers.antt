@@ -13,23 +13,30 @@ returns-then-wrong_rom c = wrong_size _ (rw (← c.spread_of-spread.ensures) (sy
 
 pub returns-then-not-known_start : goal.returns-then-not-known_start
 returns-then-not-known_start c =
-    let sized : wrong_rom (fcode_of c.args.rom.now) ≡ false = rw (← c.spread_of-spread.ensures) (sym c.wrong_rom.ensures ∙ c.if-wrong_rom.false) in
+    let sized : wrong_rom (fcode_of c.args.rom.now) ≡ false = rw (← c.spread_of-spread.ensures)
+    (sym c.wrong_rom.ensures ∙ c.if-wrong_rom.false) in
     no_start _ sized (sym (lent_start c.args.rom.now)
     ∙ sym c.known_start.ensures ∙ not-true _ c.if-not-known_start.true-raw)
 
 pub returns-then-fcode_byte-ne8 : goal.returns-then-fcode_byte-ne8
 returns-then-fcode_byte-ne8 c =
-    let sized : wrong_rom (fcode_of c.args.rom.now) ≡ false = rw (← c.spread_of-spread.ensures) (sym c.wrong_rom.ensures ∙ c.if-wrong_rom.false) in
-    let started : start_of (fcode_of c.args.rom.now) ≡ true = sym (lent_start c.args.rom.now) ∙ sym c.known_start.ensures ∙ not-false _ c.if-not-known_start.false-raw in
+    let sized : wrong_rom (fcode_of c.args.rom.now) ≡ false = rw (← c.spread_of-spread.ensures)
+    (sym c.wrong_rom.ensures ∙ c.if-wrong_rom.false) in
+    let started : start_of (fcode_of c.args.rom.now) ≡ true = sym (lent_start c.args.rom.now) ∙ sym c.known_start.ensures
+    ∙ not-false _ c.if-not-known_start.false-raw in
     no_format _ sized started
     (λ e. c.if-fcode_byte-ne8.true (c.fcode_byte.ensures ∙ rw c.spread_of-spread.ensures e))
 
 pub returns-then-wrong_length : goal.returns-then-wrong_length
 returns-then-wrong_length c =
-    let sized : wrong_rom (fcode_of c.args.rom.now) ≡ false = rw (← c.spread_of-spread.ensures) (sym c.wrong_rom.ensures ∙ c.if-wrong_rom.false) in
-    let started : start_of (fcode_of c.args.rom.now) ≡ true = sym (lent_start c.args.rom.now) ∙ sym c.known_start.ensures ∙ not-false _ c.if-not-known_start.false-raw in
-    let formatted : byte_of (fcode_of c.args.rom.now) 1 ≡ 8 = rw (← c.spread_of-spread.ensures) (sym c.fcode_byte.ensures ∙ c.if-fcode_byte-ne8.false) in
-    let measured : c.program_length-length.result ≡ length_of (fcode_of c.args.rom.now) = rw (← c.spread_of-spread.ensures) c.program_length-length.ensures in
+    let sized : wrong_rom (fcode_of c.args.rom.now) ≡ false = rw (← c.spread_of-spread.ensures)
+    (sym c.wrong_rom.ensures ∙ c.if-wrong_rom.false) in
+    let started : start_of (fcode_of c.args.rom.now) ≡ true = sym (lent_start c.args.rom.now) ∙ sym c.known_start.ensures
+    ∙ not-false _ c.if-not-known_start.false-raw in
+    let formatted : byte_of (fcode_of c.args.rom.now) 1 ≡ 8 = rw (← c.spread_of-spread.ensures)
+    (sym c.fcode_byte.ensures ∙ c.if-fcode_byte-ne8.false) in
+    let measured : c.program_length-length.result ≡ length_of (fcode_of c.args.rom.now) = rw (← c.spread_of-spread.ensures)
+    c.program_length-length.ensures in
     bad_length _ sized started
     formatted
     (rw (← measured, ← c.spread_of-spread.ensures)
@@ -37,12 +44,18 @@ returns-then-wrong_length c =
 
 pub returns-then-differs : goal.returns-then-differs
 returns-then-differs c =
-    let sized : wrong_rom (fcode_of c.args.rom.now) ≡ false = rw (← c.spread_of-spread.ensures) (sym c.wrong_rom.ensures ∙ c.if-wrong_rom.false) in
-    let started : start_of (fcode_of c.args.rom.now) ≡ true = sym (lent_start c.args.rom.now) ∙ sym c.known_start.ensures ∙ not-false _ c.if-not-known_start.false-raw in
-    let formatted : byte_of (fcode_of c.args.rom.now) 1 ≡ 8 = rw (← c.spread_of-spread.ensures) (sym c.fcode_byte.ensures ∙ c.if-fcode_byte-ne8.false) in
-    let measured : c.program_length-length.result ≡ length_of (fcode_of c.args.rom.now) = rw (← c.spread_of-spread.ensures) c.program_length-length.ensures in
-    let held : wrong_length (fcode_of c.args.rom.now) (length_of (fcode_of c.args.rom.now)) ≡ false = rw (← measured, ← c.spread_of-spread.ensures) (sym c.wrong_length.ensures ∙ c.if-wrong_length.false) in
-    let compared : (let r = (fcode_of c.args.rom.now) in c.differs.result ≡ not (eqb (sum_of r (length_of r)) (checksum_of r))) = rw (← measured, ← c.spread_of-spread.ensures, ← c.body_sum.ensures, ← c.fcode_word16.ensures) c.differs.ensures in
+    let sized : wrong_rom (fcode_of c.args.rom.now) ≡ false = rw (← c.spread_of-spread.ensures)
+    (sym c.wrong_rom.ensures ∙ c.if-wrong_rom.false) in
+    let started : start_of (fcode_of c.args.rom.now) ≡ true = sym (lent_start c.args.rom.now) ∙ sym c.known_start.ensures
+    ∙ not-false _ c.if-not-known_start.false-raw in
+    let formatted : byte_of (fcode_of c.args.rom.now) 1 ≡ 8 = rw (← c.spread_of-spread.ensures)
+    (sym c.fcode_byte.ensures ∙ c.if-fcode_byte-ne8.false) in
+    let measured : c.program_length-length.result ≡ length_of (fcode_of c.args.rom.now) = rw (← c.spread_of-spread.ensures)
+    c.program_length-length.ensures in
+    let held : wrong_length (fcode_of c.args.rom.now) (length_of (fcode_of c.args.rom.now)) ≡ false = rw
+    (← measured, ← c.spread_of-spread.ensures) (sym c.wrong_length.ensures ∙ c.if-wrong_length.false) in
+    let compared : (let r = (fcode_of c.args.rom.now) in c.differs.result ≡ not (eqb (sum_of r (length_of r)) (checksum_of r))) = rw
+    (← measured, ← c.spread_of-spread.ensures, ← c.body_sum.ensures, ← c.fcode_word16.ensures) c.differs.ensures in
     wrong_sum _ sized
     started
     formatted held
@@ -50,12 +63,18 @@ returns-then-differs c =
 
 pub returns : goal.returns
 returns c =
-    let sized : wrong_rom (fcode_of c.args.rom.now) ≡ false = rw (← c.spread_of-spread.ensures) (sym c.wrong_rom.ensures ∙ c.if-wrong_rom.false) in
-    let started : start_of (fcode_of c.args.rom.now) ≡ true = sym (lent_start c.args.rom.now) ∙ sym c.known_start.ensures ∙ not-false _ c.if-not-known_start.false-raw in
-    let formatted : byte_of (fcode_of c.args.rom.now) 1 ≡ 8 = rw (← c.spread_of-spread.ensures) (sym c.fcode_byte.ensures ∙ c.if-fcode_byte-ne8.false) in
-    let measured : c.program_length-length.result ≡ length_of (fcode_of c.args.rom.now) = rw (← c.spread_of-spread.ensures) c.program_length-length.ensures in
-    let held : wrong_length (fcode_of c.args.rom.now) (length_of (fcode_of c.args.rom.now)) ≡ false = rw (← measured, ← c.spread_of-spread.ensures) (sym c.wrong_length.ensures ∙ c.if-wrong_length.false) in
-    let compared : (let r = (fcode_of c.args.rom.now) in c.differs.result ≡ not (eqb (sum_of r (length_of r)) (checksum_of r))) = rw (← measured, ← c.spread_of-spread.ensures, ← c.body_sum.ensures, ← c.fcode_word16.ensures) c.differs.ensures in
+    let sized : wrong_rom (fcode_of c.args.rom.now) ≡ false = rw (← c.spread_of-spread.ensures)
+    (sym c.wrong_rom.ensures ∙ c.if-wrong_rom.false) in
+    let started : start_of (fcode_of c.args.rom.now) ≡ true = sym (lent_start c.args.rom.now) ∙ sym c.known_start.ensures
+    ∙ not-false _ c.if-not-known_start.false-raw in
+    let formatted : byte_of (fcode_of c.args.rom.now) 1 ≡ 8 = rw (← c.spread_of-spread.ensures)
+    (sym c.fcode_byte.ensures ∙ c.if-fcode_byte-ne8.false) in
+    let measured : c.program_length-length.result ≡ length_of (fcode_of c.args.rom.now) = rw (← c.spread_of-spread.ensures)
+    c.program_length-length.ensures in
+    let held : wrong_length (fcode_of c.args.rom.now) (length_of (fcode_of c.args.rom.now)) ≡ false = rw
+    (← measured, ← c.spread_of-spread.ensures) (sym c.wrong_length.ensures ∙ c.if-wrong_length.false) in
+    let compared : (let r = (fcode_of c.args.rom.now) in c.differs.result ≡ not (eqb (sum_of r (length_of r)) (checksum_of r))) = rw
+    (← measured, ← c.spread_of-spread.ensures, ← c.body_sum.ensures, ← c.fcode_word16.ensures) c.differs.ensures in
     right_sum _ sized
     started
     formatted held

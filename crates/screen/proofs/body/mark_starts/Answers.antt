@@ -1,6 +1,7 @@
 use Rattle.std.proofs.Common.{◌-◌, refl, sym, ◌∙◌, length-set, arith}
 use Rattle.cells.specs.Laws.Facts.{not_on, not_off}
-use Rattle.screen.specs.Laws.Code.Body.{off_on, quick_ahead, stood_ahead, marking_first, marking_past, marking_stops, marking_quick, marking_ends, marking_goes}
+use Rattle.screen.specs.Laws.Code.Body.{off_on, quick_ahead, stood_ahead, marking_first, marking_past, marking_stops, marking_quick}
+use Rattle.screen.specs.Laws.Code.Body.{marking_ends, marking_goes}
 use Rattle.screen.proofs.body.mark_starts.Goals as goal
 
 pub loop-at-init : goal.loop-at-init

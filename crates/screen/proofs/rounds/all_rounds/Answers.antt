@@ -1,6 +1,7 @@
 use Rattle.std.proofs.Common.{refl, ◌∙◌, arith}
 use Rattle.cells.specs.Laws.Facts.{not_on, not_off}
-use Rattle.screen.specs.Laws.Code.Round.{going_cell, going_seen, round_bounded, going_turn, rounds_spent, rounds_lost, rounds_fails, rounds_end, rounds_goes, rounds_turn, passed_so, passed_fails}
+use Rattle.screen.specs.Laws.Code.Round.{going_cell, going_seen, round_bounded, going_turn, rounds_spent, rounds_lost, rounds_fails}
+use Rattle.screen.specs.Laws.Code.Round.{rounds_end, rounds_goes, rounds_turn, passed_so, passed_fails}
 use Rattle.screen.proofs.rounds.all_rounds.Goals as goal
 
 pub loop-left-init : goal.loop-left-init

@@ -8,7 +8,8 @@ use Rattle.screen.proofs.rounds.all_rounds.Given as goal
 abbrev pub invariant-loop-left : goal.invariant-loop-left
 invariant-loop-left l =
     ((len l.seen ≡ len l.initial.seen) × (len l.work ≡ len l.initial.work) × (len l.sums ≡ len l.initial.sums))
-    × (rounds_of l.rom l.length l.left (board l.seen l.kinds l.sums l.stand) ≡ rounds_of l.rom l.length rom_most (board l.initial.seen l.initial.kinds l.initial.sums l.initial.stand))
+    × (rounds_of l.rom l.length l.left (board l.seen l.kinds l.sums l.stand) ≡ rounds_of l.rom l.length rom_most
+    (board l.initial.seen l.initial.kinds l.initial.sums l.initial.stand))
     × Going l.left l.seen l.stand
 
 abbrev pub decreases-loop-left : goal.decreases-loop-left

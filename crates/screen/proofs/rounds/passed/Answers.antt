@@ -13,7 +13,8 @@ pub returns-then-text-place : goal.returns-then-text-place
 returns-then-text-place c = pass_past _ _ _ _ _ _ c.if-cell-eq0.false c.if-place-free.false c.if-text-place.true
 
 pub returns-then-quick-ne0 : goal.returns-then-quick-ne0
-returns-then-quick-ne0 c = pass_quick _ _ _ _ _ _ c.if-cell-eq0.false c.if-place-free.false _ c.if-quick-ne0.true (c.quick_at-quick.ensures.2 c.if-quick-ne0.true)
+returns-then-quick-ne0 c = pass_quick _ _ _ _ _ _ c.if-cell-eq0.false c.if-place-free.false _ c.if-quick-ne0.true
+    (c.quick_at-quick.ensures.2 c.if-quick-ne0.true)
 
 pub returns : goal.returns
 returns c = pass_glance _ _ _ _ _ _ c.if-cell-eq0.false c.if-place-free.false _ c.glance_from-glance.ensures _ c.end_seen.ensures

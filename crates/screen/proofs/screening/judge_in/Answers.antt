@@ -23,7 +23,9 @@ laid-program-requires c =
 
 pub finds_heights-requires : goal.finds_heights-requires
 finds_heights-requires c =
-    let same : SamePrograms c.laid-program.result.now (fcode_of c.args.rom.now) = let k = c.requires in let b = k.buffer in let l = cleared_short _ _ _ _ k.cleared in program_same c.args.rom.now c.args.marks.now c.spread_of-spread.ensures c.lay_spread.ensures c.laid-program.ensures (omega arith) k.cleared.size k.cleared.header in
+    let same : SamePrograms c.laid-program.result.now (fcode_of c.args.rom.now) = let k = c.requires in let b = k.buffer in let l =
+    cleared_short _ _ _ _ k.cleared in program_same c.args.rom.now c.args.marks.now c.spread_of-spread.ensures c.lay_spread.ensures
+    c.laid-program.ensures (omega arith) k.cleared.size k.cleared.header in
     let k = c.requires in
     cleared_same same k.cleared
 
@@ -38,7 +40,9 @@ lay_marks-requires c =
 
 pub returns-then-finds_heights : goal.returns-then-finds_heights
 returns-then-finds_heights c =
-    let same : SamePrograms c.laid-program.result.now (fcode_of c.args.rom.now) = let k = c.requires in let b = k.buffer in let l = cleared_short _ _ _ _ k.cleared in program_same c.args.rom.now c.args.marks.now c.spread_of-spread.ensures c.lay_spread.ensures c.laid-program.ensures (omega arith) k.cleared.size k.cleared.header in
+    let same : SamePrograms c.laid-program.result.now (fcode_of c.args.rom.now) = let k = c.requires in let b = k.buffer in let l =
+    cleared_short _ _ _ _ k.cleared in program_same c.args.rom.now c.args.marks.now c.spread_of-spread.ensures c.lay_spread.ensures
+    c.laid-program.ensures (omega arith) k.cleared.size k.cleared.header in
     let a = c.args in
     let k = c.requires in
     judge_passes c.laid-program.result.now a.marks.now _ _ _ c.finds_heights.ensures c.if-finds_heights.true c.lay_marks.ensures
@@ -46,7 +50,9 @@ returns-then-finds_heights c =
 
 pub returns : goal.returns
 returns c =
-    let same : SamePrograms c.laid-program.result.now (fcode_of c.args.rom.now) = let k = c.requires in let b = k.buffer in let l = cleared_short _ _ _ _ k.cleared in program_same c.args.rom.now c.args.marks.now c.spread_of-spread.ensures c.lay_spread.ensures c.laid-program.ensures (omega arith) k.cleared.size k.cleared.header in
+    let same : SamePrograms c.laid-program.result.now (fcode_of c.args.rom.now) = let k = c.requires in let b = k.buffer in let l =
+    cleared_short _ _ _ _ k.cleared in program_same c.args.rom.now c.args.marks.now c.spread_of-spread.ensures c.lay_spread.ensures
+    c.laid-program.ensures (omega arith) k.cleared.size k.cleared.header in
     let a = c.args in
     let k = c.requires in
     judge_refuses c.laid-program.result.now a.marks.now _ _ _ c.finds_heights.ensures c.if-finds_heights.false

@@ -13,18 +13,20 @@ use Rattle.screen.specs.declared.screening.Verdict.{Verdict}
 use Rattle.screen.proofs.screening.screen.Goals as goal
 
 -- ---- behind the tests of buffer and header, with the length
-module _ (rom marks : List ℕ) {why : ℕ} (buffer : length marks ≡ marks_size) (header : why ≡ header_of (fcode_of rom)) (good : why ≡ 0) where
-  -- a table that has room for the program
-  ready : {spread : Spread} {n : ℕ} → spread ≡ spread_of rom → n ≡ length_of (view_of spread rom)
-      → (room : ℕ) → room ≡ room_of n → Judged (fcode_of rom) n marks room
-  ready s l room r = judged_with _ _ _ _ header good (l ∙ ap (λ s. length_of (view_of s rom)) s) buffer r
+module _ (rom marks : List ℕ) {why : ℕ} (buffer : length marks ≡ marks_size) (header : why ≡ header_of (fcode_of rom)) (good : why ≡ 0)
+  where
+    -- a table that has room for the program
+    ready : {spread : Spread} {n : ℕ} → spread ≡ spread_of rom → n ≡ length_of (view_of spread rom)
+        → (room : ℕ) → room ≡ room_of n → Judged (fcode_of rom) n marks room
+    ready s l room r = judged_with _ _ _ _ header good (l ∙ ap (λ s. length_of (view_of s rom)) s) buffer r
 
-  -- the promise is kept by what judges the program
-  kept : {v : Verdict} {m : List ℕ} → screened v m ≡ judged_of (fcode_of rom) marks → Promised (fcode_of rom) marks v m
-  kept e = promise_by _ _ _ _ (e ∙ screen_judged (fcode_of rom) marks buffer (sym header ∙ good))
+    -- the promise is kept by what judges the program
+    kept : {v : Verdict} {m : List ℕ} → screened v m ≡ judged_of (fcode_of rom) marks → Promised (fcode_of rom) marks v m
+    kept e = promise_by _ _ _ _ (e ∙ screen_judged (fcode_of rom) marks buffer (sym header ∙ good))
 
 pub returns-then-marks-ne-MARKS_SIZE : goal.returns-then-marks-ne-MARKS_SIZE
-returns-then-marks-ne-MARKS_SIZE c = promise_by _ _ _ _ (screen_size (fcode_of c.args.rom.now) c.args.marks.now c.if-marks-ne-MARKS_SIZE.true)
+returns-then-marks-ne-MARKS_SIZE c = promise_by _ _ _ _ (screen_size (fcode_of c.args.rom.now) c.args.marks.now
+    c.if-marks-ne-MARKS_SIZE.true)
 
 pub returns-then-why-ne0 : goal.returns-then-why-ne0
 returns-then-why-ne0 c =
@@ -44,29 +46,47 @@ judge_small-requires c =
 pub judge_middle-requires : goal.judge_middle-requires
 judge_middle-requires c =
     ready c.args.rom.now c.args.marks.now c.if-marks-ne-MARKS_SIZE.false c.check_header-why.ensures c.if-why-ne0.false
-    c.spread_of.ensures c.program_length-length.ensures _ (rw (lt-leb _ _ c.if-length-le256.false, lt-leb _ _ c.if-length-le1024.false, le-leb _ _ c.if-length-le4096.true))
+    c.spread_of.ensures c.program_length-length.ensures _ (rw
+    (lt-leb _ _ c.if-length-le256.false, lt-leb _ _ c.if-length-le1024.false, le-leb _ _ c.if-length-le4096.true))
 
 pub judge_large-requires : goal.judge_large-requires
 judge_large-requires c =
     ready c.args.rom.now c.args.marks.now c.if-marks-ne-MARKS_SIZE.false c.check_header-why.ensures c.if-why-ne0.false
-    c.spread_of.ensures c.program_length-length.ensures _ (rw (lt-leb _ _ c.if-length-le256.false, lt-leb _ _ c.if-length-le1024.false, lt-leb _ _ c.if-length-le4096.false, le-leb _ _ c.if-length-le16384.true))
+    c.spread_of.ensures c.program_length-length.ensures _ (rw (
+      lt-leb _ _ c.if-length-le256.false,
+      lt-leb _ _ c.if-length-le1024.false,
+      lt-leb _ _ c.if-length-le4096.false,
+      le-leb _ _
+          c.if-length-le16384.true,
+    ))
 
 pub judge_most-requires : goal.judge_most-requires
 judge_most-requires c =
     ready c.args.rom.now c.args.marks.now c.if-marks-ne-MARKS_SIZE.false c.check_header-why.ensures c.if-why-ne0.false
-    c.spread_of.ensures c.program_length-length.ensures _ (rw (lt-leb _ _ c.if-length-le256.false, lt-leb _ _ c.if-length-le1024.false, lt-leb _ _ c.if-length-le4096.false, lt-leb _ _ c.if-length-le16384.false))
+    c.spread_of.ensures c.program_length-length.ensures _ (rw (
+      lt-leb _ _ c.if-length-le256.false,
+      lt-leb _ _ c.if-length-le1024.false,
+      lt-leb _ _ c.if-length-le4096.false,
+      lt-leb _ _
+          c.if-length-le16384.false,
+    ))
 
 pub returns-then-length-le256 : goal.returns-then-length-le256
-returns-then-length-le256 c = kept c.args.rom.now c.args.marks.now c.if-marks-ne-MARKS_SIZE.false c.check_header-why.ensures c.if-why-ne0.false c.judge_least.ensures
+returns-then-length-le256 c = kept c.args.rom.now c.args.marks.now c.if-marks-ne-MARKS_SIZE.false c.check_header-why.ensures
+    c.if-why-ne0.false c.judge_least.ensures
 
 pub returns-then-length-le1024 : goal.returns-then-length-le1024
-returns-then-length-le1024 c = kept c.args.rom.now c.args.marks.now c.if-marks-ne-MARKS_SIZE.false c.check_header-why.ensures c.if-why-ne0.false c.judge_small.ensures
+returns-then-length-le1024 c = kept c.args.rom.now c.args.marks.now c.if-marks-ne-MARKS_SIZE.false c.check_header-why.ensures
+    c.if-why-ne0.false c.judge_small.ensures
 
 pub returns-then-length-le4096 : goal.returns-then-length-le4096
-returns-then-length-le4096 c = kept c.args.rom.now c.args.marks.now c.if-marks-ne-MARKS_SIZE.false c.check_header-why.ensures c.if-why-ne0.false c.judge_middle.ensures
+returns-then-length-le4096 c = kept c.args.rom.now c.args.marks.now c.if-marks-ne-MARKS_SIZE.false c.check_header-why.ensures
+    c.if-why-ne0.false c.judge_middle.ensures
 
 pub returns-then-length-le16384 : goal.returns-then-length-le16384
-returns-then-length-le16384 c = kept c.args.rom.now c.args.marks.now c.if-marks-ne-MARKS_SIZE.false c.check_header-why.ensures c.if-why-ne0.false c.judge_large.ensures
+returns-then-length-le16384 c = kept c.args.rom.now c.args.marks.now c.if-marks-ne-MARKS_SIZE.false c.check_header-why.ensures
+    c.if-why-ne0.false c.judge_large.ensures
 
 pub returns : goal.returns
-returns c = kept c.args.rom.now c.args.marks.now c.if-marks-ne-MARKS_SIZE.false c.check_header-why.ensures c.if-why-ne0.false c.judge_most.ensures
+returns c = kept c.args.rom.now c.args.marks.now c.if-marks-ne-MARKS_SIZE.false c.check_header-why.ensures c.if-why-ne0.false
+    c.judge_most.ensures

@@ -1,6 +1,7 @@
 use Rattle.std.proofs.Common.{◌≡◌, sym, ◌∙◌, true, false, eq-eqb, ne_eqb, arith}
 use Rattle.tokens.specs.Code.{family_in}
-use Rattle.screen.specs.Laws.Code.Visit.{fixes_by, special, misplaced_seen, unlisted_seen, quiet_seen, forbidden_seen, finished_seen, left_seen, assigned_seen, jumped_seen, chosen_seen, called_seen}
+use Rattle.screen.specs.Laws.Code.Visit.{fixes_by, special, misplaced_seen, unlisted_seen, quiet_seen, forbidden_seen, finished_seen}
+use Rattle.screen.specs.Laws.Code.Visit.{left_seen, assigned_seen, jumped_seen, chosen_seen, called_seen}
 use Rattle.screen.specs.Laws.Found.Cell.{back_in}
 use Rattle.screen.proofs.visiting.visit_seen.Goals as goal
 

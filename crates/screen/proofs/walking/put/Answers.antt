@@ -6,7 +6,8 @@ pub returns-then-place-text : goal.returns-then-place-text
 returns-then-place-text c = let a = c.args in let p = c.requires in rw c.spoilt.ensures (came_low p.0 a.place a.cell c.if-place-text.true)
 
 pub returns-then-text-place : goal.returns-then-text-place
-returns-then-text-place c = let a = c.args in let p = c.requires in rw c.spoilt-then-text-place.ensures (came_past p.0 a.place a.cell c.if-text-place.true)
+returns-then-text-place c = let a = c.args in let p = c.requires in rw c.spoilt-then-text-place.ensures
+    (came_past p.0 a.place a.cell c.if-text-place.true)
 
 pub kept-top-requires : goal.kept-top-requires
 kept-top-requires c =

@@ -23,7 +23,8 @@ pub shape_of-work-then-left-eq0 : goal.shape_of-work-then-left-eq0
 shape_of-work-then-left-eq0 c = c.loop-way.invariant.0.1
 
 pub returns-then-left-eq0 : goal.returns-then-left-eq0
-returns-then-left-eq0 c = walks_spent _ _ _ _ c.loop-way.invariant.1 c.loop-way-test.true c.if-way-eq0.false _ _ c.ended-then-left-eq0.ensures.0 c.if-left-eq0.true
+returns-then-left-eq0 c = walks_spent _ _ _ _ c.loop-way.invariant.1 c.loop-way-test.true c.if-way-eq0.false _ _
+    c.ended-then-left-eq0.ensures.0 c.if-left-eq0.true
 
 pub visit_at-met-requires : goal.visit_at-met-requires
 visit_at-met-requires c = let p = c.requires in (p.0, c.loop-way.invariant.1.fit.near c.if-way-eq0.false)

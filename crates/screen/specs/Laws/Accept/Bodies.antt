@@ -57,7 +57,8 @@ module _ (rom : List ℕ) (fits : length_of rom ≤ rom_most) {last : Board} (pa
     in_free = body_free rom fits passed i e
 
     in_flow : (q : ℕ) → Holds rom (Claim.leads s.wide p t q)
-        → (height_left last (suc d) q ≡ height_left last (suc d) p - (effect_of (sum_left last) t).takes + (effect_of (sum_left last) t).gives)
+        → (height_left last (suc d) q ≡ height_left last (suc d) p -
+        (effect_of (sum_left last) t).takes + (effect_of (sum_left last) t).gives)
         × (back_left last (suc d) q ≡ back_left last (suc d) p - (effect_of (sum_left last) t).return_takes + (effect_of
         (sum_left last) t).return_gives)
     in_flow q l =

@@ -55,7 +55,8 @@ module _ (rom : List ℕ) (fits : length_of rom ≤ rom_most) where
   rooted_start = record { reach = Holds.first; real = λ n h. absurd (h (none n)) }
     where
       none : (n : ℕ) → kind_of start.kinds n ≡ 0
-      none n = pick_is (λ k. k ≡ 0) (is_program n) (get_or (clear programs_most) (slot n) 0) 0 (λ t. zeros programs_most (slot n)) (λ t. refl)
+      none n = pick_is (λ k. k ≡ 0) (is_program n) (get_or (clear programs_most) (slot n) 0) 0 (λ t. zeros programs_most (slot n))
+          (λ t. refl)
 
   rooted_steps : {b c : Board} → Ready rom b → Rooted rom fits b → Steps rom fits b c → Rooted rom fits c
   rooted_steps y o here = o

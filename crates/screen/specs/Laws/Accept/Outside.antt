@@ -141,7 +141,8 @@ module _ (rom : List ℕ) (fits : length_of rom ≤ rom_most) {last : Board} (pa
 
     out_flow : (q : ℕ) → Holds rom (Claim.leads s.wide p t q)
         → (height_left last 0 q ≡ height_left last 0 p - (effect_of (sum_left last) t).takes + (effect_of (sum_left last) t).gives)
-        × (back_left last 0 q ≡ back_left last 0 p - (effect_of (sum_left last) t).return_takes + (effect_of (sum_left last) t).return_gives)
+        × (back_left last 0 q ≡ back_left last 0 p - (effect_of (sum_left last) t).return_takes +
+        (effect_of (sum_left last) t).return_gives)
     out_flow q l = by (fixes t) refl
       where
         not_call : T (fixes t) → T (not (is_a call t))

@@ -56,7 +56,8 @@ stands_in kinds (Good t) = not (astray t || unknown_of kinds t)
 -- by a glance at it, wherever that was taken
 abbrev pub StandsBy : List ℕ → Glance → Bool → Type 0
 StandsBy kinds g r =
-    (rom : List ℕ) (length : ℕ) (wide : Bool) (p : ℕ) → glance_of rom length wide p ≡ g → r ≡ stands_in kinds (read_of rom length wide true p)
+    (rom : List ℕ) (length : ℕ) (wide : Bool) (p : ℕ) → glance_of rom length wide p ≡ g
+    → r ≡ stands_in kinds (read_of rom length wide true p)
 
 abbrev pub is_branch_code : ℕ → Bool
 is_branch_code c = eqb (family_in c) always || eqb (family_in c) choice
@@ -384,7 +385,8 @@ module _ (rom : List ℕ) (length : ℕ) (seen kinds sums : List ℕ) (s : Stand
 
         colon_passes : (y : Tally) → y ≡ way.walk.tally → (seen₂ : List ℕ) → seen₂ ≡ way.seen → passes_of y ≡ true
             → colon_of rom length b s n entry
-            ≡ round_end true (entry_of (board (shift_of y.need (places entry end) entry seen₂) kinds sums s) s n 0xB7 (sum_told y) (suc end))
+            ≡ round_end true (entry_of (board (shift_of y.need (places entry end) entry seen₂) kinds sums s) s n 0xB7 (sum_told y)
+            (suc end))
         unfolding body_shifted
         colon_passes y f seen₂ d p = colon_tallied ∙ rw (← f, ← d, p) refl
 

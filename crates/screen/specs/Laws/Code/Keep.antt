@@ -177,7 +177,8 @@ shift_le need b (suc k) p seen n h a j =
     let m = moved_le need (get_or seen p 0) b n (a p (omega arith)) in
     shift_le need b k (suc p) (set seen p (shifted_cell need (get_or seen p 0))) n
     (λ i. set_le seen p i (shifted_cell need (get_or seen p 0)) (b + data_most) h m)
-    (λ i l. let d : i ≡ p → ⊥ = λ q. omega arith in rw (get_or-set_other seen p i (shifted_cell need (get_or seen p 0)) 0 d) (a i (omega arith)))
+    (λ i l. let d : i ≡ p → ⊥ = λ q. omega arith in rw (get_or-set_other seen p i (shifted_cell need (get_or seen p 0)) 0 d)
+    (a i (omega arith)))
     j
 
 pub bounded_shift : (need b k p : ℕ) (seen : List ℕ) → need ≤ body_most → Bounded b seen → Bounded (b + data_most) (shift_of need k p seen)

@@ -35,7 +35,8 @@ use Rattle.screen.specs.Laws.Code.Walk.{WalkIs}
 use Rattle.screen.specs.Laws.Found.Model.{sum_told, shift_of, places}
 use Rattle.screen.specs.Laws.Found.Model.{slot, Path, walk_all, end_in, fixed_in, apart_of, Board, board}
 use Rattle.screen.specs.Laws.Found.Model.{RoundEnd, round_end}
-use Rattle.screen.specs.Laws.Found.Model.{outside_text, stood_on, with_nodes, with_count, on_stand, new_node, closed_node, entry_of, on_seen}
+use Rattle.screen.specs.Laws.Found.Model.{outside_text, stood_on, with_nodes, with_count, on_stand, new_node, closed_node, entry_of}
+use Rattle.screen.specs.Laws.Found.Model.{on_seen}
 use Rattle.screen.specs.Laws.Found.Model.{colon_of}
 use Rattle.screen.specs.Laws.Found.Model.{is_new, define_of}
 use Rattle.screen.specs.Laws.Found.Model.{advance_of, round_of, round_good, round_rest, go_on, rounds_of}
@@ -183,7 +184,8 @@ same_free go free end false may may₀ e f = rw f refl
 
 module _ (rom : List ℕ) (x : Scope) (seen : List ℕ) (far : ℕ) where
   apart_is : (k p free : ℕ) → apart_of rom x seen far (suc k) p free
-      ≡ after_round (λ f. apart_of rom x seen far k (suc p) f) (may_of rom x far (get_or seen p 0) p free) (free_of rom x (get_or seen p 0) p free)
+      ≡ after_round (λ f. apart_of rom x seen far k (suc p) f) (may_of rom x far (get_or seen p 0) p free)
+      (free_of rom x (get_or seen p 0) p free)
   unfolding apart_of may_of free_of
   apart_is k p free =
       same_ways (λ f. apart_of rom x seen far k (suc p) f) free (end_in p (read_of rom x.length x.wide false p)) (eqb (get_or seen p 0) 0)
@@ -513,7 +515,8 @@ module _ (rom : List ℕ) (length : ℕ) (seen kinds sums : List ℕ) (stand : S
       (subst (λ (z : Stand). TurnIs (new_node b z) seen (cell + 1) r seen kinds sums) e
       (node_turn (λ y. new_node y s) s r (cell + 1) seen kinds sums stand cell_so k))
 
-  wide_is : NodeIs (λ y. round_end true (on_stand y s)) s (stood s) → is_a define t ≡ false → is_a new_device t ≡ false → is_a widen t ≡ true
+  wide_is : NodeIs (λ y. round_end true (on_stand y s)) s (stood s) → is_a define t ≡ false → is_a new_device t ≡ false
+      → is_a widen t ≡ true
       → TurnIs (advance_of rom length b cell t) seen (cell + 1) (stood s) seen kinds sums
   unfolding advance_of
   wide_is k d n w =
@@ -529,7 +532,8 @@ module _ (rom : List ℕ) (length : ℕ) (seen kinds sums : List ℕ) (stand : S
       → TurnIs (advance_of rom length b cell t) seen (cell + 1) (stood s) seen kinds sums
   advance_wide k d n w = wide_is (record { same = λ y. refl; whole = λ g y. refl; standing = λ g. k; cell = λ g. refl }) d n w
 
-  pub advance_close : (r : Turned) → is_a define t ≡ false → is_a new_device t ≡ false → is_a widen t ≡ false → NodeIs (λ y. closed_node y s) s r
+  pub advance_close : (r : Turned) → is_a define t ≡ false → is_a new_device t ≡ false → is_a widen t ≡ false
+      → NodeIs (λ y. closed_node y s) s r
       → TurnIs (advance_of rom length b cell t) seen (cell + 1) r seen kinds sums
   unfolding advance_of
   advance_close r d n w k =

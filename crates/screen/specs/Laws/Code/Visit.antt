@@ -68,7 +68,8 @@ abbrev pub takes_seen : ℕ → ℕ → ℕ
 takes_seen code kind = takes_in code + elim (eqb (family_in code) define) [ true ↦ takes_in (code_of kind) | false ↦ 0 ]
 
 abbrev pub fixes_by : ℕ → Bool
-fixes_by code = eqb (family_in code) define || eqb (family_in code) widen || eqb (family_in code) new_device || eqb (family_in code) finish_device
+fixes_by code = eqb (family_in code) define || eqb (family_in code) widen || eqb (family_in code) new_device || eqb (family_in code)
+    finish_device
 
 -- what one does that is no call
 abbrev pub plain_effect : ℕ → ℕ → Effect
@@ -329,7 +330,8 @@ own_visit rom x kinds sums p cell t true to away code takes r c h l =
 -- the families that have a test of their own, or another successor than the place behind them, but for what is met exactly once
 abbrev pub special : ℕ → Bool
 special f =
-    eqb f pick_up || eqb f roll_up || eqb f maybe || eqb f call || eqb f assign || eqb f always || eqb f choice || eqb f finish || eqb f leave
+    eqb f pick_up || eqb f roll_up || eqb f maybe || eqb f call || eqb f assign || eqb f always || eqb f choice || eqb f finish || eqb f
+    leave
 
 -- a token of any other may stand wherever it is met
 pub quiet_leads : (x : Scope) (kinds : List ℕ) (cell : ℕ) (t : Token) (next : ℕ) (fixed : Bool) → t.next ≡ next

@@ -472,7 +472,8 @@ module _ (rom : List ℕ) (x : Scope) (kinds sums : List ℕ) where
           unfolding walk_step
           step_so = rw (ne_eqb w.place 0 p, ← k.fit.held p, s.visit) refl
 
-          last_so : 0 < left → walk_steps rom x kinds sums (left - 1) (visited_on x (path_of seen work (off_way w) told_so) (visit_in v)) ≡ last
+          last_so : 0 < left → walk_steps rom x kinds sums (left - 1)
+              (visited_on x (path_of seen work (off_way w) told_so) (visit_in v)) ≡ last
           last_so h =
               ap (walk_steps rom x kinds sums (left - 1)) (sym step_so) ∙ sym (walk_turn left (path_of seen work w y) h on_way) ∙ k.going n
 

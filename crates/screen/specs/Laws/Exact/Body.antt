@@ -34,7 +34,8 @@ use Rattle.screen.specs.Laws.Accept.Cover.{leads_way, leads_itself, ready, roote
 use Rattle.screen.specs.Laws.Exact.Round.{not_good, limits, Agrees, known_held, effect_same, stay_below}
 use Rattle.screen.specs.declared.walking.Text.{Text as Scope}
 use Rattle.screen.specs.Laws.Found.Model.{Tally}
-use Rattle.screen.specs.Laws.Found.Cell.{height_in_lem, back_in_lem, is_met_lem, cell_with, height_in, back_in, is_met, heights, entry_cell, entered}
+use Rattle.screen.specs.Laws.Found.Cell.{height_in_lem, back_in_lem, is_met_lem, cell_with, height_in, back_in, is_met, heights, entry_cell}
+use Rattle.screen.specs.Laws.Found.Cell.{entered}
 use Rattle.screen.specs.Laws.Found.Cell.{body_most}
 
 -- behind a token of a body that is not its last the body is read on
@@ -188,7 +189,8 @@ module _ (rom : List ℕ) (fits : length_of rom ≤ rom_most) (a : Assignment ro
     behind_cell {p} {d} {q} {u} m l v e =
         let y = limits rom fits a m in
         let w = need_low in
-        let h : height_in d ≡ H p + entered - need = ap height_in e ∙ height_in_lem (H p + entered - need) (B p) (omega (arith, y.height)) in
+        let h : height_in d ≡ H p + entered - need = ap height_in e
+        ∙ height_in_lem (H p + entered - need) (B p) (omega (arith, y.height)) in
         let o : back_in d ≡ B p = ap back_in e ∙ back_in_lem (H p + entered - need) (B p) (omega (arith, y.height)) in
         let z = a.flow m l in
         let i : H p + entered - need - (effect_of a.sum u).takes + (effect_of a.sum u).gives ≡ H q + entered - need =

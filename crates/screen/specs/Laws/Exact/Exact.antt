@@ -58,7 +58,8 @@ module _ (rom : List ℕ) (fits : length_of rom ≤ rom_most) (a : Assignment ro
       }
     where
       none : (n : ℕ) → kind_of (start rom fits).kinds n ≡ 0
-      none n = pick_is (λ k. k ≡ 0) (is_program n) (get_or (clear programs_most) (slot n) 0) 0 (λ t. zeros programs_most (slot n)) (λ t. refl)
+      none n = pick_is (λ k. k ≡ 0) (is_program n) (get_or (clear programs_most) (slot n) 0) 0 (λ t. zeros programs_most (slot n))
+          (λ t. refl)
 
   -- what ends a round leaves the return height, and takes from the data height
   fixed_effect : {b : Board} (r : Ran rom b) → T (fixes r.token) → (e : Effect) → effect_of a.sum r.token ≡ e

@@ -5,7 +5,8 @@
 -- is a row of rounds: each starts behind such a token, or at place 8, stays at or above its start, and comes to no other such token than
 -- the one that ends it, which is the highest place that it comes to. Numbers, width, nodes and open children are the same for the whole of
 -- a round. A body is walked once, when its b(:) ends a round.
-use Rattle.std.specs.Prelude.{ℕ, zero, suc, ◌+◌, ◌-◌, max, Bool, true, false, not, ◌&&◌, ◌||◌, List, [], ◌∷◌, map, ◌++◌, length, get_or, set, replicate, ltb, leb, eqb}
+use Rattle.std.specs.Prelude.{ℕ, zero, suc, ◌+◌, ◌-◌, max, Bool, true, false, not, ◌&&◌, ◌||◌, List, [], ◌∷◌, map, ◌++◌, length, get_or}
+use Rattle.std.specs.Prelude.{set, replicate, ltb, leb, eqb}
 use Rattle.std.proofs.Math.Option.{Option, none, some}
 use Rattle.cells.specs.Choice.{pick}
 use Rattle.rom.specs.Sizes.{first_place, data_most, return_most, frames_most, numbers_most, nodes_most, rom_most, marks_size}

@@ -92,7 +92,8 @@ fixes_is Q t d w n f h =
     let k = family_in t.code in
     either (is_a define t || is_a widen t || is_a new_device t) (is_a finish_device t) (Q k) h
     (λ a. either (is_a define t || is_a widen t) (is_a new_device t) (Q k) a
-    (λ b. either (is_a define t) (is_a widen t) (Q k) b (λ c. subst Q (sym (eqb→eq k define c)) d) (λ c. subst Q (sym (eqb→eq k widen c)) w))
+    (λ b. either (is_a define t) (is_a widen t) (Q k) b (λ c. subst Q (sym (eqb→eq k define c)) d)
+    (λ c. subst Q (sym (eqb→eq k widen c)) w))
     (λ b. subst Q (sym (eqb→eq k new_device b)) n))
     (λ a. subst Q (sym (eqb→eq k finish_device a)) f)
 
@@ -109,7 +110,8 @@ pub fixes_no_name : (t : Token) → T (fixes t) → T (not (names t))
 fixes_no_name t h = fixes_is (λ k. T (not (eqb k call || eqb k assign))) t tt tt tt tt h
 
 -- ---- only an offset hangs on the width: any other operand, the place behind it, and the token are the same with either
-same_operand : (rom : List ℕ) (len : ℕ) (v w : Bool) (p form : ℕ) → form ≢ offset → operand_of rom len v p form ≡ operand_of rom len w p form
+same_operand : (rom : List ℕ) (len : ℕ) (v w : Bool) (p form : ℕ) → form ≢ offset
+    → operand_of rom len v p form ≡ operand_of rom len w p form
 unfolding operand_of
 same_operand rom len v w p form n = rw (ne_eqb form offset n)
 

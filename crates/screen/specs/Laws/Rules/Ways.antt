@@ -14,7 +14,8 @@ use Rattle.tokens.specs.Laws.Tokens.{next_ahead}
 use Rattle.tokens.specs.Definition.{colon, kind_in}
 use Rattle.tokens.specs.declared.decoding.Token.{Token}
 use Rattle.tokens.specs.declared.read.Read.TheVariants.{Good}
-use Rattle.screen.specs.Effect.{is_a, fixes, is_colon, is_branch, aims, no_places, astray, both_ways, leads_of, called, own_effect, effect_of}
+use Rattle.screen.specs.Effect.{is_a, fixes, is_colon, is_branch, aims, no_places, astray, both_ways, leads_of, called, own_effect}
+use Rattle.screen.specs.Effect.{effect_of}
 use Rattle.screen.specs.Effect.{names}
 use Rattle.screen.specs.Reach.{In, here, there}
 use Rattle.screen.specs.Laws.Rules.Tokens.{none_in, fixes_no_branch, fixes_no_end, fixes_no_name}
@@ -55,7 +56,8 @@ unknown_assign kinds t c u =
     eqb→eq n 0xB8 (holds (eqb n 0xB8) (not_on (eqb n 0xB8) v))
 
 -- and back
-pub assign_known : (kinds : List ℕ) (t : Token) → T (is_a assign t) → kind_of kinds (number_in t.operand) ≡ 0xB8 → unknown_of kinds t ≡ false
+pub assign_known : (kinds : List ℕ) (t : Token) → T (is_a assign t) → kind_of kinds (number_in t.operand) ≡ 0xB8
+    → unknown_of kinds t ≡ false
 unfolding unknown_of
 assign_known kinds t c n = rw (eqb→eq (family_in t.code) assign c, n)
 
@@ -220,33 +222,34 @@ pub data GivesOn (sum : ℕ → Sum) (t : Token) : Type 0 where
   quiet : (effect_of sum t).gives ≡ 0 → (effect_of sum t).return_gives ≡ 0 → GivesOn sum t
   goes_on : In t.next (leads_of t) → GivesOn sum t
 
-module _ (rom : List ℕ) (len : ℕ) (wide within : Bool) (p : ℕ) (t : Token) (e : read_of rom len wide within p ≡ Good t) (sum : ℕ → Sum) where
-  -- a token that gives nothing
-  quiet_by : T (is_a finish t || is_a leave t || is_a always t || is_a choice t || fixes t) → T (not (is_a call t)) → GivesOn sum t
-  quiet_by h n =
-      let o = effect_own sum t n in
-      let q = stops_quiet rom len wide within p t e h in
-      quiet (rw o q.0) (rw o q.1)
+module _ (rom : List ℕ) (len : ℕ) (wide within : Bool) (p : ℕ) (t : Token) (e : read_of rom len wide within p ≡ Good t) (sum : ℕ → Sum)
+  where
+    -- a token that gives nothing
+    quiet_by : T (is_a finish t || is_a leave t || is_a always t || is_a choice t || fixes t) → T (not (is_a call t)) → GivesOn sum t
+    quiet_by h n =
+        let o = effect_own sum t n in
+        let q = stops_quiet rom len wide within p t e h in
+        quiet (rw o q.0) (rw o q.1)
 
-  -- one that is met exactly once
-  fixes_quiet : T (fixes t) → GivesOn sum t
-  fixes_quiet h =
-      quiet_by (or_second (is_a finish t || is_a leave t || is_a always t || is_a choice t) (fixes t) h)
-      (neither (is_a call t) (is_a assign t) (fixes_no_name t h)).0
+    -- one that is met exactly once
+    fixes_quiet : T (fixes t) → GivesOn sum t
+    fixes_quiet h =
+        quiet_by (or_second (is_a finish t || is_a leave t || is_a always t || is_a choice t) (fixes t) h)
+        (neither (is_a call t) (is_a assign t) (fixes_no_name t h)).0
 
-  -- a token gives nothing, or leads behind itself
-  pub gives_leads : GivesOn sum t
-  gives_leads = by (ways_of t)
-    where
-      by : Ways t → GivesOn sum t
-      by (ending h l) =
-          either (is_a finish t) (is_a leave t) (GivesOn sum t) h
-          (λ i. let f = eqb→eq (family_in t.code) finish i in quiet_by (rw f tt) (rw f tt))
-          (λ i. let f = eqb→eq (family_in t.code) leave i in quiet_by (rw f tt) (rw f tt))
-      by (jumping h l) = let f = eqb→eq (family_in t.code) always h in quiet_by (rw f tt) (rw f tt)
-      by (choosing h l) = let f = eqb→eq (family_in t.code) choice h in quiet_by (rw f tt) (rw f tt)
-      by (skipping h l) =
-          let f = eqb→eq (family_in t.code) define (colon_defines t h) in
-          fixes_quiet (rw f tt)
-      by (fixing h c l) = fixes_quiet h
-      by (falling h c l) = goes_on (rw l here)
+    -- a token gives nothing, or leads behind itself
+    pub gives_leads : GivesOn sum t
+    gives_leads = by (ways_of t)
+      where
+        by : Ways t → GivesOn sum t
+        by (ending h l) =
+            either (is_a finish t) (is_a leave t) (GivesOn sum t) h
+            (λ i. let f = eqb→eq (family_in t.code) finish i in quiet_by (rw f tt) (rw f tt))
+            (λ i. let f = eqb→eq (family_in t.code) leave i in quiet_by (rw f tt) (rw f tt))
+        by (jumping h l) = let f = eqb→eq (family_in t.code) always h in quiet_by (rw f tt) (rw f tt)
+        by (choosing h l) = let f = eqb→eq (family_in t.code) choice h in quiet_by (rw f tt) (rw f tt)
+        by (skipping h l) =
+            let f = eqb→eq (family_in t.code) define (colon_defines t h) in
+            fixes_quiet (rw f tt)
+        by (fixing h c l) = fixes_quiet h
+        by (falling h c l) = goes_on (rw l here)

@@ -12,7 +12,8 @@ use Rattle.tokens.specs.Place.{read_of}
 use Rattle.tokens.specs.Body.{kind_of}
 use Rattle.tokens.specs.Table.{programs_most}
 use Rattle.screen.specs.Effect.{fixes}
-use Rattle.screen.specs.Laws.Found.Model.{Board, RoundEnd, sum_at, round_end, round_rest, go_on, round_good, rounds_of, room_of, first_board}
+use Rattle.screen.specs.Laws.Found.Model.{Board, RoundEnd, sum_at, round_end, round_rest, go_on, round_good, rounds_of, room_of}
+use Rattle.screen.specs.Laws.Found.Model.{first_board}
 use Rattle.screen.specs.Laws.Found.Room.{zeros}
 use Rattle.screen.specs.Laws.Walk.Rounds.{ran, far_of, left, turn_of, Ready, Ran, Next, on, Chain, ends, goes, good_ran}
 use Rattle.screen.specs.Laws.Walk.Boards.{advanced}
@@ -98,7 +99,8 @@ module _ (rom : List ℕ) (fits : length_of rom ≤ rom_most) where
   chain_kept y (goes n c) = let l = next_ahead y n in kept_on (omega arith) (next_kept y n) (chain_kept (advanced rom fits y n).1.ready c)
 
   -- what a chain leaves at the places of its first round
-  pub chain_seen : {b f : Board} → Ready rom b → Chain rom b f → (p : ℕ) → p ≤ far_of rom b → get_or f.seen p 0 ≡ get_or (ran rom b).seen p 0
+  pub chain_seen : {b f : Board} → Ready rom b → Chain rom b f → (p : ℕ) → p ≤ far_of rom b
+      → get_or f.seen p 0 ≡ get_or (ran rom b).seen p 0
   chain_seen y (ends r n) p l = refl
   chain_seen y (goes n c) p l =
       let z = advanced rom fits y n in

@@ -184,7 +184,8 @@ found_from {rom} {w} {p} kinds (Holds.last {t = t} e n) fine zero seen l =
 found_from {rom} {w} {p} kinds (Holds.more {t = t} e n x r) fine zero seen l =
     let a = next_ahead rom (length_of rom) w true p t e in absurd (omega arith)
 found_from {rom} {w} {p} kinds (Holds.last {t = t} e n) fine (suc k) seen l =
-    found_in kinds seen p p (λ q m. starts_of rom (length_of rom) w kinds k q m) (token_at rom 1 w p) t e (fine p t Starts.entry e) (λ z. refl)
+    found_in kinds seen p p (λ q m. starts_of rom (length_of rom) w kinds k q m) (token_at rom 1 w p) t e (fine p t Starts.entry e)
+    (λ z. refl)
     (λ z. absurd (z n))
 found_from {rom} {w} {p} {c} kinds (Holds.more {t = t} e n x r) fine (suc k) seen l =
     let a = next_ahead rom (length_of rom) w true p t e in
@@ -192,7 +193,8 @@ found_from {rom} {w} {p} {c} kinds (Holds.more {t = t} e n x r) fine (suc k) see
     (λ z. absurd (n z)) (λ z. found_from kinds r (λ q u s f. fine q u (prepend e n s) f) k (set seen p unmet) (omega arith))
 
 -- where a body ends with a C2, and none of its tokens is refused, the pass is good, and finds that C2
-pub marks_found : {rom : List ℕ} {w : Bool} {entry c : ℕ} (kinds seen : List ℕ) → length_of rom ≤ rom_most → Holds rom (Claim.reads w entry c)
+pub marks_found : {rom : List ℕ} {w : Bool} {entry c : ℕ} (kinds seen : List ℕ) → length_of rom ≤ rom_most
+    → Holds rom (Claim.reads w entry c)
     → FineMarks rom w kinds entry → Found (starts_of rom (length_of rom) w kinds rom_most entry seen) c
 marks_found {rom} {w} {entry} kinds seen l r fine = found_from kinds r fine rom_most seen (omega arith)
 

@@ -53,7 +53,8 @@ some_in here = tt
 some_in (there i) = tt
 
 -- what holds of an entry after a store
-pub at_set : (P : ℕ → Type 0) (m : List ℕ) (q v r : ℕ) → q < length m → (r ≡ q → P v) → (r ≢ q → P (get_or m r 0)) → P (get_or (set m q v) r 0)
+pub at_set : (P : ℕ → Type 0) (m : List ℕ) (q v r : ℕ) → q < length m → (r ≡ q → P v) → (r ≢ q → P (get_or m r 0))
+    → P (get_or (set m q v) r 0)
 at_set P m q v r l same other = go (ℕ_discrete r q)
   where
     go : Dec (r ≡ q) → P (get_or (set m q v) r 0)

@@ -21,7 +21,8 @@ pub returns-then-why-ne0 : goal.returns-then-why-ne0
 returns-then-why-ne0 c =
     let a = c.args in
     rw (c.refused-then-why-ne0.ensures, c.zero_state-then-why-ne0.ensures)
-    (bad_header (fcode_of a.rom.now) a.work.now a.store.now c.if-work-ne-WORK_SIZE.false c.if-store-ne-STORE_SIZE.false c.check_header-why.result
+    (bad_header (fcode_of a.rom.now) a.work.now a.store.now c.if-work-ne-WORK_SIZE.false c.if-store-ne-STORE_SIZE.false
+    c.check_header-why.result
     c.check_header-why.ensures
     c.if-why-ne0.true)
 

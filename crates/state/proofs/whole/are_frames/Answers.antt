@@ -27,5 +27,6 @@ pub returns : goal.returns
 unfolding calls_whole
 returns c =
     let a = c.args in
-    rw (le-leb _ _ c.if-calls-gt-FRAMES_MOST.false) (all_hold a.calls.count _ (frame_whole a.length a.calls a.returns) c.loop-i.invariant.0 c.loop-i-test.false
+    rw (le-leb _ _ c.if-calls-gt-FRAMES_MOST.false) (all_hold a.calls.count _ (frame_whole a.length a.calls a.returns) c.loop-i.invariant.0
+    c.loop-i-test.false
     c.loop-i.invariant.1)

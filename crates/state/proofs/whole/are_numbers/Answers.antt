@@ -20,7 +20,8 @@ returns-then-not-is_entry c ways =
     let ns = numbers_on a.programs a.kinds a.values ways a.count in
     let same = same_entry a.length ns _ _ _ _ _ c.entry-program.ensures c.kind_byte-kind.ensures c.entry-value.ensures
     c.is_entry.ensures in
-    rw (le-leb _ _ c.if-count-gt-NUMBERS_MOST.false) (one_fails a.count (entry_whole a.length ns) _ _ c.loop-i-test.true same c.if-not-is_entry.true-raw)
+    rw (le-leb _ _ c.if-count-gt-NUMBERS_MOST.false) (one_fails a.count (entry_whole a.length ns) _ _ c.loop-i-test.true same
+    c.if-not-is_entry.true-raw)
 
 pub loop-i-preserved : goal.loop-i-preserved
 unfolding numbers_whole

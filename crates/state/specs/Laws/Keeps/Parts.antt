@@ -1,7 +1,9 @@
 -- What is left of whole call frames and program numbers when one is added, changed or taken away; and what is known of a number that is
 -- defined. Assumes nothing.
-use Rattle.std.specs.Prelude.{ℕ, zero, suc, ◌+◌, ◌-◌, ◌<◌, ◌≤◌, ◌≡◌, refl, Bool, true, false, not, List, [], ◌∷◌, length, get_or, set, T, ltb, leb, eqb}
-use Rattle.std.proofs.Common.{arith, sym, ap, ◌∙◌, length-set, get_or-set_same, get_or-set_other, T_not, eqb→eq, eqb-true, ltb-true, ltb-false, lt-ltb, le-ltb}
+use Rattle.std.specs.Prelude.{ℕ, zero, suc, ◌+◌, ◌-◌, ◌<◌, ◌≤◌, ◌≡◌, refl, Bool, true, false, not, List, [], ◌∷◌, length, get_or, set, T}
+use Rattle.std.specs.Prelude.{ltb, leb, eqb}
+use Rattle.std.proofs.Common.{arith, sym, ap, ◌∙◌, length-set, get_or-set_same, get_or-set_other, T_not, eqb→eq, eqb-true, ltb-true}
+use Rattle.std.proofs.Common.{ltb-false, lt-ltb, le-ltb}
 use Rattle.std.proofs.lemmas.Bool.{eqb-false}
 use Rattle.cells.specs.Laws.Tests.{tests, neqb→ne}
 use Rattle.cells.specs.Laws.Facts.{holds, both_hold, not_unequal}

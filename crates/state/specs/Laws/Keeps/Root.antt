@@ -39,11 +39,13 @@ unfolding ready_of whole_of calls_whole numbers_whole whole_tree every_below liv
 ready_before = refl
 
 goes_on : (token_turn before).answer ≡ Going
-unfolding aim_of ends lows highs doubles table row_of code_of behind_of operand_of whole_token decode_of misplaced_of read_of refusal_of effects act_of
+unfolding aim_of ends lows highs doubles table row_of code_of behind_of operand_of whole_token decode_of misplaced_of read_of refusal_of
+    effects act_of
     done_of token_turn
 goes_on = refl
 
 damaged_then : ready_of (then before (token_turn before)) ≡ Refused 7
-unfolding ready_of whole_of calls_whole numbers_whole whole_tree every_below live_among aim_of ends lows highs doubles table row_of code_of behind_of
+unfolding ready_of whole_of calls_whole numbers_whole whole_tree every_below live_among aim_of ends lows highs doubles table row_of code_of
+    behind_of
     operand_of whole_token decode_of misplaced_of read_of refusal_of effects act_of done_of token_turn
 damaged_then = refl

@@ -328,7 +328,8 @@ module _ (s : Scene) (t : Token) (z : Sized s.state) (l : Lent s) (w : Parts s.s
   name_by n = only n property (bad_name (named_here s))
 
   abbrev store_by : ℕ → Bool
-  store_by n = only n property (no_room_for s (named_here s) (value_here s)) || only n titled (no_room_for s (title_of t.number) (titled_here s))
+  store_by n = only n property (no_room_for s (named_here s) (value_here s)) || only n titled
+      (no_room_for s (title_of t.number) (titled_here s))
 
   module _ (f : ℕ) (k : family_in t.code ≡ f) where
     undefined_asked : T (not (unknown_by f))

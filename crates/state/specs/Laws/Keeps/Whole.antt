@@ -14,7 +14,8 @@ use Rattle.tree.specs.Laws.Trees.{whole_facts as tree_facts}
 use Rattle.tree.specs.Laws.Kept.{whole_is as tree_whole}
 use Rattle.tree.specs.declared.tree.Tree.{Tree}
 use Rattle.state.specs.Numbers.{is_body}
-use Rattle.state.specs.Whole.{is_place, heights_whole, next_base, frame_whole, calls_whole, entry_whole, numbers_whole, below_root, whole_of}
+use Rattle.state.specs.Whole.{is_place, heights_whole, next_base, frame_whole, calls_whole, entry_whole, numbers_whole, below_root}
+use Rattle.state.specs.Whole.{whole_of}
 use Rattle.state.specs.Scene.{Scene, Turn}
 use Rattle.state.specs.Run.{then}
 use Rattle.state.specs.Laws.Sized.{Sized}

@@ -3,7 +3,8 @@ use Rattle.tokens.specs.Table.{ends, lows, highs, doubles, table, row_of}
 use Rattle.tokens.specs.Code.{code_of}
 use Rattle.tokens.specs.Place.{misplaced_of}
 use Rattle.tokens.proofs.Ranges.{among}
-use Rattle.tokens.proofs.Passes.{frequent_passed, literal_passed, string_passed, always_passed, choice_passed, one_passed, range_passed, none_passed}
+use Rattle.tokens.proofs.Passes.{frequent_passed, literal_passed, string_passed, always_passed, choice_passed, one_passed, range_passed}
+use Rattle.tokens.proofs.Passes.{none_passed}
 use Rattle.tokens.proofs.body.passed.Goals as goal
 
 -- the bytes that stand by themselves

@@ -26,7 +26,8 @@ pub returns-then-number-lt-FIRST_PROGRAM : goal.returns-then-number-lt-FIRST_PRO
 returns-then-number-lt-FIRST_PROGRAM c =
     let pre = c.requires in
     let a = c.args in λ wide. listed_passed a.rom.now wide a.kinds.now a.place a.first pre.0 pre.1
-    (a.first * 256 + c.byte.result) (rw (← c.byte.ensures)) c.if-number-lt-FIRST_PROGRAM.true (λ z. c.if-code-eq0.false (c.double_code-code.ensures ∙ z))
+    (a.first * 256 + c.byte.result) (rw (← c.byte.ensures)) c.if-number-lt-FIRST_PROGRAM.true
+    (λ z. c.if-code-eq0.false (c.double_code-code.ensures ∙ z))
     (rw (← c.double_code-code.ensures, ← c.out_of_place.ensures) c.if-out_of_place.false)
 
 pub returns-then-kind_of-eq0 : goal.returns-then-kind_of-eq0

@@ -28,4 +28,9 @@ returns-in-16 c = rw (← c.family_of-work.ensures, c.in-16.is, ← c.number_in.
 
 pub returns-in_default : goal.returns-in_default
 unfolding unknown_of
-returns-in_default c = rw (← c.family_of-work.ensures, ne_eqb _ _ c.in_default.in_default-own.rest.0.1, ne_eqb _ _ c.in_default.in_default-own.rest.1)
+returns-in_default c = rw (
+  ← c.family_of-work.ensures,
+  ne_eqb _ _ c.in_default.in_default-own.rest.0.1,
+  ne_eqb _ _
+      c.in_default.in_default-own.rest.1,
+)

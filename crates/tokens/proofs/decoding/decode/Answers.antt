@@ -5,22 +5,56 @@ use Rattle.tokens.proofs.decoding.decode.Goals as goal
 
 pub returns-then-length-next : goal.returns-then-length-next
 returns-then-length-next c =
-    let found : Found (view_of (c.before.before.before.before.before).args.spread (c.before.before.before.before.before).args.rom.now) (c.before.before.before.before.before).args.wide (c.before.before.before.before.before).args.place c.number_at-number.result c.code_of-code.result c.behind_number-start.result c.behind-next.result = record { numbered = c.number_at-number.ensures; coded = c.code_of-code.ensures; starts = c.behind_number-start.ensures.0; ends = c.behind-next.ensures.0 } in
+    let found : Found (view_of (c.before.before.before.before.before).args.spread (c.before.before.before.before.before).args.rom.now)
+    (c.before.before.before.before.before).args.wide (c.before.before.before.before.before).args.place c.number_at-number.result
+    c.code_of-code.result c.behind_number-start.result c.behind-next.result = record {
+      numbered = c.number_at-number.ensures;
+      coded = c.code_of-code.ensures;
+      starts = c.behind_number-start.ensures.0;
+      ends =
+          c.behind-next.ensures.0;
+    } in
     cut_off found (c.before.before.before.before.before).args.length (search rules)
 
 pub operand_at-operand-requires : goal.operand_at-operand-requires
 operand_at-operand-requires c =
-    let found : Found (view_of (c.before.before.before.before.before).args.spread (c.before.before.before.before.before).args.rom.now) (c.before.before.before.before.before).args.wide (c.before.before.before.before.before).args.place c.number_at-number.result c.code_of-code.result c.behind_number-start.result c.behind-next.result = record { numbered = c.number_at-number.ensures; coded = c.code_of-code.ensures; starts = c.behind_number-start.ensures.0; ends = c.behind-next.ensures.0 } in
+    let found : Found (view_of (c.before.before.before.before.before).args.spread (c.before.before.before.before.before).args.rom.now)
+    (c.before.before.before.before.before).args.wide (c.before.before.before.before.before).args.place c.number_at-number.result
+    c.code_of-code.result c.behind_number-start.result c.behind-next.result = record {
+      numbered = c.number_at-number.ensures;
+      coded = c.code_of-code.ensures;
+      starts = c.behind_number-start.ensures.0;
+      ends =
+          c.behind-next.ensures.0;
+    } in
     string_fits found (c.before.before.before.before.before).args.length (search rules) (search rules)
 
 pub returns-then-listed : goal.returns-then-listed
 returns-then-listed c =
-    let found : Found (view_of (c.before.before.before.before.before).args.spread (c.before.before.before.before.before).args.rom.now) (c.before.before.before.before.before).args.wide (c.before.before.before.before.before).args.place c.number_at-number.result c.code_of-code.result c.behind_number-start.result c.behind-next.result = record { numbered = c.number_at-number.ensures; coded = c.code_of-code.ensures; starts = c.behind_number-start.ensures.0; ends = c.behind-next.ensures.0 } in
-    is_whole found (c.before.before.before.before.before).args.length c.operand_at-operand.result c.operand_at-operand.ensures (search rules)
+    let found : Found (view_of (c.before.before.before.before.before).args.spread (c.before.before.before.before.before).args.rom.now)
+    (c.before.before.before.before.before).args.wide (c.before.before.before.before.before).args.place c.number_at-number.result
+    c.code_of-code.result c.behind_number-start.result c.behind-next.result = record {
+      numbered = c.number_at-number.ensures;
+      coded = c.code_of-code.ensures;
+      starts = c.behind_number-start.ensures.0;
+      ends =
+          c.behind-next.ensures.0;
+    } in
+    is_whole found (c.before.before.before.before.before).args.length c.operand_at-operand.result c.operand_at-operand.ensures
+    (search rules)
     (sym c.listed.ensures ∙ c.if-listed.true)
 
 pub returns-else-listed : goal.returns-else-listed
 returns-else-listed c =
-    let found : Found (view_of (c.before.before.before.before.before).args.spread (c.before.before.before.before.before).args.rom.now) (c.before.before.before.before.before).args.wide (c.before.before.before.before.before).args.place c.number_at-number.result c.code_of-code.result c.behind_number-start.result c.behind-next.result = record { numbered = c.number_at-number.ensures; coded = c.code_of-code.ensures; starts = c.behind_number-start.ensures.0; ends = c.behind-next.ensures.0 } in
-    is_unlisted found (c.before.before.before.before.before).args.length c.operand_at-operand.result c.operand_at-operand.ensures (search rules)
+    let found : Found (view_of (c.before.before.before.before.before).args.spread (c.before.before.before.before.before).args.rom.now)
+    (c.before.before.before.before.before).args.wide (c.before.before.before.before.before).args.place c.number_at-number.result
+    c.code_of-code.result c.behind_number-start.result c.behind-next.result = record {
+      numbered = c.number_at-number.ensures;
+      coded = c.code_of-code.ensures;
+      starts = c.behind_number-start.ensures.0;
+      ends =
+          c.behind-next.ensures.0;
+    } in
+    is_unlisted found (c.before.before.before.before.before).args.length c.operand_at-operand.result c.operand_at-operand.ensures
+    (search rules)
     (sym c.listed.ensures ∙ c.if-listed.false)

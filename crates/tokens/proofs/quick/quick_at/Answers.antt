@@ -28,8 +28,12 @@ unfolding Codes
 returns-then-code-eq65536 c =
     let a = c.args in
     let e = c.requires in
-    let n = e.0 _ (search rules) in
-    (c.byte-first.ensures, n, λ z. quick_one a.rom.now a.length a.place c.byte-first.result _ c.byte-first.ensures n e.1 c.if-code-eq65536.true)
+    let n = e.0 _ (search rules) in (
+      c.byte-first.ensures,
+      n,
+      λ z. quick_one a.rom.now a.length a.place c.byte-first.result _ c.byte-first.ensures n e.1
+          c.if-code-eq65536.true,
+    )
 
 pub overflow_sub-length : goal.overflow_sub-length
 unfolding Codes

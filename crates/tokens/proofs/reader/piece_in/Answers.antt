@@ -44,5 +44,6 @@ pub returns-in-Whole : goal.returns-in-Whole
 returns-in-Whole c =
     let a = c.args in
     rw (c.behind_number-start.ensures.0, c.width_behind-behind.ensures)
-    (is_piece (view_of a.spread a.rom.now) a.wide a.place c.program_end-end.result _ c.program_end-end.ensures (search rules) (sym c.decode.ensures
+    (is_piece (view_of a.spread a.rom.now) a.wide a.place c.program_end-end.result _ c.program_end-end.ensures (search rules)
+    (sym c.decode.ensures
     ∙ c.in-Whole.is))

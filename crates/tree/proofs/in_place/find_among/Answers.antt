@@ -42,7 +42,9 @@ is_named-requires c =
 
 pub returns-then-is_named : goal.returns-then-is_named
 returns-then-is_named c =
-    let named : (t : Tree) → let a = c.args in let lent = tree_on_records t a.owners.now a.name_sizes.now a.value_sizes.now a.held in c.is_named.result ≡ matches (property_at lent a.store.now c.loop-i.i c.loop-i.at) a.node a.name.now = λ t. let w = c.wide.result in let e : c.loop-i.at + w - c.loop-i.at ≡ w = omega arith in rw (← c.wide.ensures.0) (rw e at c.is_named.ensures) in
+    let named : (t : Tree) → let a = c.args in let lent = tree_on_records t a.owners.now a.name_sizes.now a.value_sizes.now a.held in
+    c.is_named.result ≡ matches (property_at lent a.store.now c.loop-i.i c.loop-i.at) a.node a.name.now = λ t. let w = c.wide.result in
+    let e : c.loop-i.at + w - c.loop-i.at ≡ w = omega arith in rw (← c.wide.ensures.0) (rw e at c.is_named.ensures) in
     λ t.
     let a = c.args in
     sym (found_here (tree_on_records t a.owners.now a.name_sizes.now a.value_sizes.now a.held) a.store.now a.node
@@ -72,7 +74,9 @@ loop-i-smaller c = let h = c.loop-i-test.true in omega arith
 
 pub loop-i-preserved : goal.loop-i-preserved
 loop-i-preserved c =
-    let named : (t : Tree) → let a = c.args in let lent = tree_on_records t a.owners.now a.name_sizes.now a.value_sizes.now a.held in c.is_named.result ≡ matches (property_at lent a.store.now c.loop-i.i c.loop-i.at) a.node a.name.now = λ t. let w = c.wide.result in let e : c.loop-i.at + w - c.loop-i.at ≡ w = omega arith in rw (← c.wide.ensures.0) (rw e at c.is_named.ensures) in
+    let named : (t : Tree) → let a = c.args in let lent = tree_on_records t a.owners.now a.name_sizes.now a.value_sizes.now a.held in
+    c.is_named.result ≡ matches (property_at lent a.store.now c.loop-i.i c.loop-i.at) a.node a.name.now = λ t. let w = c.wide.result in
+    let e : c.loop-i.at + w - c.loop-i.at ≡ w = omega arith in rw (← c.wide.ensures.0) (rw e at c.is_named.ensures) in
     let a = c.args in
     let e = live_more a.name_sizes.now a.value_sizes.now (a.held - c.loop-i.i) c.loop-i.i a.held
     c.loop-i-test.true refl in

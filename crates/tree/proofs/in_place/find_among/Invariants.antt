@@ -8,7 +8,8 @@ use Rattle.tree.proofs.in_place.find_among.Given as goal
 abbrev pub invariant-loop-i : goal.invariant-loop-i
 invariant-loop-i l =
     (l.i ≤ l.held) × (l.at + live_among l.name_sizes l.value_sizes (l.held - l.i) l.i ≡ live_among l.name_sizes l.value_sizes l.held 0)
-    × ((t : Tree) → let lent = tree_on_records t l.owners l.name_sizes l.value_sizes l.held in found_from lent l.store l.node l.name (l.held - l.i) l.i l.at
+    × ((t : Tree) → let lent = tree_on_records t l.owners l.name_sizes l.value_sizes l.held in found_from lent l.store l.node l.name
+    (l.held - l.i) l.i l.at
     ≡ found_from lent l.store l.node l.name l.held 0 0)
 
 abbrev pub decreases-loop-i : goal.decreases-loop-i

@@ -12,7 +12,8 @@ returns-in_default c =
     let a = c.args in
     let part = part_of a.path.now c.loop-child.at (c.part_end-end.result - c.loop-child.at) in
     sym (
-    ap (down_from a.tree a.store.now c.loop-child.node) (split_part a.path.now c.loop-child.at c.part_end-end.result c.loop-child.invariant.0 c.part_end-end.ensures.0)
+    ap (down_from a.tree a.store.now c.loop-child.node) (split_part a.path.now c.loop-child.at c.part_end-end.result
+    c.loop-child.invariant.0 c.part_end-end.ensures.0)
     ∙ down_none a.tree a.store.now c.loop-child.node part c.in_default.field-0 (behind_part (drop c.loop-child.at a.path.now))
     (sym c.child_named.ensures ∙ c.in_default.is))
     ∙ c.loop-child.invariant.1
@@ -36,7 +37,8 @@ loop-child-preserved c =
       search rules,
       sym (
           ap (down_from a.tree a.store.now c.loop-child.node)
-          (split_more a.path.now c.loop-child.at c.part_end-end.result c.loop-child.invariant.0 c.part_end-end.ensures.0 c.if-end-path.false)
+          (split_more a.path.now c.loop-child.at c.part_end-end.result c.loop-child.invariant.0 c.part_end-end.ensures.0
+          c.if-end-path.false)
           ∙ down_child a.tree a.store.now c.loop-child.node part c.in-Node.child (split_of (drop (c.part_end-end.result + 1) a.path.now))
           (sym c.child_named.ensures ∙ c.in-Node.is))
           ∙ c.loop-child.invariant.1,

@@ -19,7 +19,10 @@ enum_known-at c = search rules
 pub overflow_add-at : goal.overflow_add-at
 unfolding letters_of
 overflow_add-at c =
-    let named : let a = c.args in (c.in-Value.at + c.in-Value.size ≤ live_of a.tree) × (value_in (held_of a.tree a.store.now) a.node (letters_of "name") ≡ some (part_of a.store.now c.in-Value.at c.in-Value.size)) = let a = c.args in place_value a.tree a.store.now a.node (letters_of "name") c.in-Value.at c.in-Value.size (sym c.place_of.ensures ∙ c.in-Value.is) in
+    let named : let a = c.args in (c.in-Value.at + c.in-Value.size ≤ live_of a.tree)
+    × (value_in (held_of a.tree a.store.now) a.node (letters_of "name") ≡ some (part_of a.store.now c.in-Value.at c.in-Value.size)) =
+    let a = c.args in place_value a.tree a.store.now a.node (letters_of "name") c.in-Value.at c.in-Value.size
+    (sym c.place_of.ensures ∙ c.in-Value.is) in
     let h = named.0 in search rules
 
 pub slice_bounds-less_null-count : goal.slice_bounds-less_null-count
@@ -33,7 +36,10 @@ slice_bounds-less_null-start c = search rules
 pub slice_bounds-less_null-end : goal.slice_bounds-less_null-end
 unfolding letters_of
 slice_bounds-less_null-end c =
-    let named : let a = c.args in (c.in-Value.at + c.in-Value.size ≤ live_of a.tree) × (value_in (held_of a.tree a.store.now) a.node (letters_of "name") ≡ some (part_of a.store.now c.in-Value.at c.in-Value.size)) = let a = c.args in place_value a.tree a.store.now a.node (letters_of "name") c.in-Value.at c.in-Value.size (sym c.place_of.ensures ∙ c.in-Value.is) in
+    let named : let a = c.args in (c.in-Value.at + c.in-Value.size ≤ live_of a.tree)
+    × (value_in (held_of a.tree a.store.now) a.node (letters_of "name") ≡ some (part_of a.store.now c.in-Value.at c.in-Value.size)) =
+    let a = c.args in place_value a.tree a.store.now a.node (letters_of "name") c.in-Value.at c.in-Value.size
+    (sym c.place_of.ensures ∙ c.in-Value.is) in
     let h = named.0 in search rules
 
 pub less_null-requires : goal.less_null-requires
@@ -51,7 +57,10 @@ enum_told-1 c = search rules
 pub returns-in-Value : goal.returns-in-Value
 unfolding letters_of
 returns-in-Value c =
-    let named : let a = c.args in (c.in-Value.at + c.in-Value.size ≤ live_of a.tree) × (value_in (held_of a.tree a.store.now) a.node (letters_of "name") ≡ some (part_of a.store.now c.in-Value.at c.in-Value.size)) = let a = c.args in place_value a.tree a.store.now a.node (letters_of "name") c.in-Value.at c.in-Value.size (sym c.place_of.ensures ∙ c.in-Value.is) in
+    let named : let a = c.args in (c.in-Value.at + c.in-Value.size ≤ live_of a.tree)
+    × (value_in (held_of a.tree a.store.now) a.node (letters_of "name") ≡ some (part_of a.store.now c.in-Value.at c.in-Value.size)) =
+    let a = c.args in place_value a.tree a.store.now a.node (letters_of "name") c.in-Value.at c.in-Value.size
+    (sym c.place_of.ensures ∙ c.in-Value.is) in
     let e = rw (add-sub_cancel_left c.in-Value.at c.in-Value.size) at c.less_null.ensures in
     rw named.1 (rw e at c.same_bytes.ensures)
 

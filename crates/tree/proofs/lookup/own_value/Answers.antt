@@ -31,19 +31,28 @@ place_of-requires c =
 pub overflow_add-result : goal.overflow_add-result
 overflow_add-result c =
     let whole : whole_tree c.args.tree ≡ true = sym c.is_whole.ensures ∙ not-false _ c.if-not-is_whole.false-raw in
-    let held : let a = c.args in (c.in-Value.at + c.in-Value.size ≤ length a.store.now) × (own_value_of a.tree a.store.now a.node a.name.now ≡ part_of a.store.now c.in-Value.at c.in-Value.size) = let a = c.args in own_there a.tree a.store.now a.node a.name.now c.if-store-ne-STORE_SIZE.false (whole) c.in-Value.at c.in-Value.size (sym c.place_of.ensures ∙ c.in-Value.is) in
+    let held : let a = c.args in (c.in-Value.at + c.in-Value.size ≤ length a.store.now)
+    × (own_value_of a.tree a.store.now a.node a.name.now ≡ part_of a.store.now c.in-Value.at c.in-Value.size) = let a = c.args in
+    own_there a.tree a.store.now a.node a.name.now c.if-store-ne-STORE_SIZE.false (whole) c.in-Value.at c.in-Value.size
+    (sym c.place_of.ensures ∙ c.in-Value.is) in
     let h = held.0 in search rules
 
 pub slice_bounds-result-end-in-Value : goal.slice_bounds-result-end-in-Value
 slice_bounds-result-end-in-Value c =
     let whole : whole_tree c.args.tree ≡ true = sym c.is_whole.ensures ∙ not-false _ c.if-not-is_whole.false-raw in
-    let held : let a = c.args in (c.in-Value.at + c.in-Value.size ≤ length a.store.now) × (own_value_of a.tree a.store.now a.node a.name.now ≡ part_of a.store.now c.in-Value.at c.in-Value.size) = let a = c.args in own_there a.tree a.store.now a.node a.name.now c.if-store-ne-STORE_SIZE.false (whole) c.in-Value.at c.in-Value.size (sym c.place_of.ensures ∙ c.in-Value.is) in
+    let held : let a = c.args in (c.in-Value.at + c.in-Value.size ≤ length a.store.now)
+    × (own_value_of a.tree a.store.now a.node a.name.now ≡ part_of a.store.now c.in-Value.at c.in-Value.size) = let a = c.args in
+    own_there a.tree a.store.now a.node a.name.now c.if-store-ne-STORE_SIZE.false (whole) c.in-Value.at c.in-Value.size
+    (sym c.place_of.ensures ∙ c.in-Value.is) in
     let h = held.0 in search rules
 
 pub returns-in-Value : goal.returns-in-Value
 returns-in-Value c =
     let whole : whole_tree c.args.tree ≡ true = sym c.is_whole.ensures ∙ not-false _ c.if-not-is_whole.false-raw in
-    let held : let a = c.args in (c.in-Value.at + c.in-Value.size ≤ length a.store.now) × (own_value_of a.tree a.store.now a.node a.name.now ≡ part_of a.store.now c.in-Value.at c.in-Value.size) = let a = c.args in own_there a.tree a.store.now a.node a.name.now c.if-store-ne-STORE_SIZE.false (whole) c.in-Value.at c.in-Value.size (sym c.place_of.ensures ∙ c.in-Value.is) in
+    let held : let a = c.args in (c.in-Value.at + c.in-Value.size ≤ length a.store.now)
+    × (own_value_of a.tree a.store.now a.node a.name.now ≡ part_of a.store.now c.in-Value.at c.in-Value.size) = let a = c.args in
+    own_there a.tree a.store.now a.node a.name.now c.if-store-ne-STORE_SIZE.false (whole) c.in-Value.at c.in-Value.size
+    (sym c.place_of.ensures ∙ c.in-Value.is) in
     rw (add-sub_cancel_left c.in-Value.at c.in-Value.size) (sym held.1)
 
 pub returns-in-Refused : goal.returns-in-Refused

@@ -4,7 +4,8 @@ use Rattle.tree.proofs.lookup.part_end.Given as goal
 
 -- the end from here on is the end
 abbrev pub invariant-loop-end : goal.invariant-loop-end
-invariant-loop-end l = (l.at ≤ l.end) × (l.end ≤ length l.path) × (l.end + part_end (drop l.end l.path) ≡ l.at + part_end (drop l.at l.path))
+invariant-loop-end l = (l.at ≤ l.end) × (l.end ≤ length l.path)
+    × (l.end + part_end (drop l.end l.path) ≡ l.at + part_end (drop l.at l.path))
 
 abbrev pub decreases-loop-end : goal.decreases-loop-end
 decreases-loop-end l = length l.path - l.end

@@ -7,10 +7,15 @@ pub loop-k-init : goal.loop-k-init
 loop-k-init c = (search rules, refl)
 
 pub returns-then-not-is_name_byte : goal.returns-then-not-is_name_byte
-returns-then-not-is_name_byte c = sym (name_stops _ c.loop-k.k (search rules) (sym c.is_name_byte.ensures ∙ not_off c.is_name_byte.result c.if-not-is_name_byte.true-raw)) ∙ c.loop-k.invariant.1
+returns-then-not-is_name_byte c = sym (name_stops _ c.loop-k.k (search rules)
+    (sym c.is_name_byte.ensures ∙ not_off c.is_name_byte.result c.if-not-is_name_byte.true-raw)) ∙ c.loop-k.invariant.1
 
 pub loop-k-preserved : goal.loop-k-preserved
-loop-k-preserved c = (search rules, name_more _ c.loop-k.k (search rules) (sym c.is_name_byte.ensures ∙ not_on c.is_name_byte.result c.if-not-is_name_byte.false-raw) ∙ c.loop-k.invariant.1)
+loop-k-preserved c = (
+  search rules,
+  name_more _ c.loop-k.k (search rules)
+      (sym c.is_name_byte.ensures ∙ not_on c.is_name_byte.result c.if-not-is_name_byte.false-raw) ∙ c.loop-k.invariant.1,
+)
 
 pub returns : goal.returns
 returns c =

@@ -23,7 +23,9 @@ is_named-requires c =
 
 pub returns-then-is_named : goal.returns-then-is_named
 returns-then-is_named c =
-    let named : let a = c.args in c.is_named.result ≡ matches (property_at a.tree a.store.now c.loop-i.i c.loop-i.at) a.node a.name.now = let w = c.wide.result in let e : c.loop-i.at + w - c.loop-i.at ≡ w = omega arith in rw (← c.wide.ensures.0) (rw e at c.is_named.ensures) in
+    let named : let a = c.args in c.is_named.result ≡ matches (property_at a.tree a.store.now c.loop-i.i c.loop-i.at) a.node a.name.now =
+    let w = c.wide.result in let e : c.loop-i.at + w - c.loop-i.at ≡ w = omega arith in rw (← c.wide.ensures.0)
+    (rw e at c.is_named.ensures) in
     let a = c.args in
     sym (found_here a.tree a.store.now a.node a.name.now (a.tree.held - c.loop-i.i) c.loop-i.i c.loop-i.at a.tree.held (search rules) refl
     (sym named ∙ c.if-is_named.true))
@@ -37,7 +39,9 @@ overflow_add-at c =
 
 pub loop-i-preserved : goal.loop-i-preserved
 loop-i-preserved c =
-    let named : let a = c.args in c.is_named.result ≡ matches (property_at a.tree a.store.now c.loop-i.i c.loop-i.at) a.node a.name.now = let w = c.wide.result in let e : c.loop-i.at + w - c.loop-i.at ≡ w = omega arith in rw (← c.wide.ensures.0) (rw e at c.is_named.ensures) in
+    let named : let a = c.args in c.is_named.result ≡ matches (property_at a.tree a.store.now c.loop-i.i c.loop-i.at) a.node a.name.now =
+    let w = c.wide.result in let e : c.loop-i.at + w - c.loop-i.at ≡ w = omega arith in rw (← c.wide.ensures.0)
+    (rw e at c.is_named.ensures) in
     let a = c.args in
     let e = live_more a.tree.name_sizes a.tree.value_sizes (a.tree.held - c.loop-i.i) c.loop-i.i a.tree.held (search rules) refl in
     let w = c.wide.ensures.0 in

@@ -18,8 +18,12 @@ returns-then-a-k c =
 
 pub loop-k-preserved : goal.loop-k-preserved
 loop-k-preserved c =
-    let a = c.args in
-    (search rules, c.loop-k.invariant.1, same_more a.a.now a.b.now c.loop-k.k (search rules) (search rules) c.if-a-k.false ∙ c.loop-k.invariant.2)
+    let a = c.args in (
+      search rules,
+      c.loop-k.invariant.1,
+      same_more a.a.now a.b.now c.loop-k.k (search rules) (search rules) c.if-a-k.false
+          ∙ c.loop-k.invariant.2,
+    )
 
 pub returns : goal.returns
 returns c =

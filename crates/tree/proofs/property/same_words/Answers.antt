@@ -26,5 +26,6 @@ pub returns : goal.returns
 returns c =
     let a = c.args in
     let last = length a.a.now - 8 in
-    many_last a.a.now a.b.now last 8 (search rules) (search rules) c.same_eight-2.result c.same_eight-2.ensures (search rules) (search rules)
+    many_last a.a.now a.b.now last 8 (search rules) (search rules) c.same_eight-2.result c.same_eight-2.ensures (search rules)
+    (search rules)
     ∙ same_before a.a.now a.b.now last c.loop-k.k (search rules) (search rules) (search rules) c.loop-k.invariant.1

@@ -4,7 +4,8 @@ use Rattle.tree.proofs.rows.count_of.Given as goal
 
 -- what is left to count, with the count, is the whole
 abbrev pub invariant-loop-i : goal.invariant-loop-i
-invariant-loop-i l = (l.i ≤ l.held) × (l.count ≤ l.i) × (l.count + count_from l.owners l.node (l.held - l.i) l.i ≡ count_from l.owners l.node l.held 0)
+invariant-loop-i l = (l.i ≤ l.held) × (l.count ≤ l.i) × (l.count + count_from l.owners l.node (l.held - l.i) l.i ≡ count_from l.owners
+    l.node l.held 0)
 
 abbrev pub decreases-loop-i : goal.decreases-loop-i
 decreases-loop-i l = l.held - l.i

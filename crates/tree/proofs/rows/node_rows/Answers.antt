@@ -15,8 +15,13 @@ loop-k-init c =
 
 pub loop-k-preserved : goal.loop-k-preserved
 loop-k-preserved c =
-    let e = c.row_of.ensures in
-    (search rules, search rules, search rules, rw e (column_set (λ r. r) c.args.tree c.loop-k.rows c.loop-k.k (search rules) c.loop-k.invariant.3))
+    let e = c.row_of.ensures in (
+      search rules,
+      search rules,
+      search rules,
+      rw e (column_set (λ r. r) c.args.tree c.loop-k.rows c.loop-k.k (search rules)
+          c.loop-k.invariant.3),
+    )
 
 pub returns : goal.returns
 returns c =

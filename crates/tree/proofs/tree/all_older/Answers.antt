@@ -30,8 +30,11 @@ loop-k-smaller c = search rules
 pub loop-k-preserved : goal.loop-k-preserved
 unfolding every_below
 loop-k-preserved c =
-    let a = c.args in
-    (search rules, every_more c.loop-k.k (older_among a.parents.now) c.loop-k.invariant.1 (sym c.is_older.ensures ∙ not-false _ c.if-not-is_older.false-raw))
+    let a = c.args in (
+      search rules,
+      every_more c.loop-k.k (older_among a.parents.now) c.loop-k.invariant.1
+          (sym c.is_older.ensures ∙ not-false _ c.if-not-is_older.false-raw),
+    )
 
 pub returns : goal.returns
 unfolding every_below

@@ -51,7 +51,8 @@ is_sound-requires c = search rules
 pub returns-then-not-is_sound : goal.returns-then-not-is_sound
 unfolding every_below
 returns-then-not-is_sound c =
-    let tested : let a = c.args in c.is_sound.result ≡ sound_among a.nodes a.owners.now a.name_sizes.now a.value_sizes.now c.loop-i.i = rw (← c.wide.ensures.0, ← c.wide-in-loop-i.ensures.0, ← c.wide-in-loop-i-2.ensures.0) c.is_sound.ensures in
+    let tested : let a = c.args in c.is_sound.result ≡ sound_among a.nodes a.owners.now a.name_sizes.now a.value_sizes.now c.loop-i.i = rw
+    (← c.wide.ensures.0, ← c.wide-in-loop-i.ensures.0, ← c.wide-in-loop-i-2.ensures.0) c.is_sound.ensures in
     let a = c.args in
     sym (every_fails a.held c.loop-i.i (sound_among a.nodes a.owners.now a.name_sizes.now a.value_sizes.now)
     (search rules) (sym tested ∙ not-true _ c.if-not-is_sound.true-raw))
@@ -67,7 +68,8 @@ loop-i-smaller c = search rules
 pub loop-i-preserved : goal.loop-i-preserved
 unfolding every_below
 loop-i-preserved c =
-    let tested : let a = c.args in c.is_sound.result ≡ sound_among a.nodes a.owners.now a.name_sizes.now a.value_sizes.now c.loop-i.i = rw (← c.wide.ensures.0, ← c.wide-in-loop-i.ensures.0, ← c.wide-in-loop-i-2.ensures.0) c.is_sound.ensures in
+    let tested : let a = c.args in c.is_sound.result ≡ sound_among a.nodes a.owners.now a.name_sizes.now a.value_sizes.now c.loop-i.i = rw
+    (← c.wide.ensures.0, ← c.wide-in-loop-i.ensures.0, ← c.wide-in-loop-i-2.ensures.0) c.is_sound.ensures in
     let a = c.args in (
       search rules,
       every_more c.loop-i.i (sound_among a.nodes a.owners.now a.name_sizes.now a.value_sizes.now) c.loop-i.invariant.1

@@ -1,0 +1,8 @@
+use Rattle.lines.specs.Explain.{size_line}
+use Rattle.rom.specs.Words.{letters_of}
+use Rattle.lines.specs.Laws.Wrote.{wrote_then}
+use Rattle.lines.proofs.explain.size_line.Goals as goal
+
+pub returns : goal.returns
+unfolding size_line letters_of
+returns c = wrote_then c.say-at.ensures (wrote_then c.decimal-at.ensures (wrote_then c.say-at-2.ensures c.letter.ensures))

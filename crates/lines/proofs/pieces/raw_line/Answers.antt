@@ -1,0 +1,11 @@
+use Rattle.rom.specs.Words.{letters_of}
+use Rattle.lines.specs.TokenLines.{all_shown, line_text}
+use Rattle.lines.specs.Laws.Wrote.{wrote_none, wrote_then}
+use Rattle.lines.proofs.pieces.raw_line.Goals as goal
+
+pub returns : goal.returns
+unfolding line_text all_shown letters_of
+returns c =
+    wrote_then c.place_digits-at.ensures
+    (wrote_then c.say-at.ensures
+    (wrote_then (wrote_then (wrote_then c.shown-at.ensures wrote_none) c.raw_remark-at.ensures) c.letter.ensures))
