@@ -5,10 +5,11 @@ is only proved.
 
     python3 tests/believed.py            the lines of each crate, and whether all stands where it should
     python3 tests/believed.py --check    the same, and that README.md has these lines
+    python3 tests/believed.py --write    the same, and README.md has these lines from then on
 
 It fails where
 - the `ensures` of a public function cites a module of Laws;
-- that of a call (JOINTS lists the public functions that are none) cites a module of Joints;
+- that of a call (JOINTS lists the public functions that are none) cites a module of Joints, or JOINTS lists what is no public function;
 - a module that has to be believed names one of Laws or Joints, or one of Joints names one of Laws;
 - a theorem stands among what has to be believed;
 - two definitions of the house have one name;
@@ -28,11 +29,15 @@ JOINTS = {
     "tokens": {"first_codes", "quick_at", "glance_from", "glance_at"},
     "tree": {"tail_of", "put_in", "open_child", "close_child"},
 }
-USED = re.compile(r"^(?:ghost )?use Rattle·(\w+?)(?:·specs)?\.specs\.([\w.]+?)(?:\.\{(.*?)\}| as \w+)?;?$", re.M | re.S)
+USED = re.compile(r"^(?:ghost )?use Rattle\.(\w+)\.specs\.([\w.]+?)(?:\.\{(.*?)\}| as \w+)?;?$", re.M | re.S)
 DEFINED = re.compile(r"^(?:abbrev pub|unfoldable pub|pub record|pub data) ([^\s:({]+)", re.M)
 PROVED = re.compile(r"^(?:pub )?([^\s:({]+)(?: \{[^}]*\})? :", re.M)
+# pub use FILE::NAME; or pub use FILE::{NAME, NAME};
+EXPORTED = re.compile(r"^pub use (\w+)::(?:\{([^}]*)\}|(\w+));", re.M)
 FUNCTION = re.compile(r'^pub (?:extern "C" )?fn (\w+)(.*?)^\{', re.M | re.S)
 CONTENTS = {"Lib", "Laws", "Joints"}
+# in README.md
+TABLE = re.compile(r"^\| crate \| to be believed .*\n(?:\|.*\n)*", re.M)
 
 
 def tier(module):
@@ -55,7 +60,8 @@ def public(crate):
     library = CRATES / crate / "src" / "lib.rt"
     if not library.exists():
         return
-    named = set(re.findall(r"^pub use (\w+)::(\w+)", library.read_text(), re.M))
+    found = EXPORTED.findall(library.read_text())
+    named = {(file, name.strip()) for file, names, one in found for name in (names or one).split(",")}
     opened = set(re.findall(r"^pub mod (\w+)", library.read_text(), re.M)) | {"lib"}
     for path in sorted((CRATES / crate / "src").glob("*.rt")):
         text = path.read_text()
@@ -79,13 +85,16 @@ def cited(contract, text):
 def contracts(wrong):
     """How many public functions there are; what is wrong with their contracts is told."""
     count = 0
+    unseen = {(crate, name) for crate, joints in JOINTS.items() for name in joints}
     for crate in sorted(path.name for path in CRATES.iterdir()):
         for name, contract, text in public(crate):
             count += 1
+            unseen.discard((crate, name))
             joint = name in JOINTS.get(crate, ())
             for where, module in sorted(set(cited(contract, text))):
                 if tier(module) == "Laws" or (tier(module) == "Joints" and not joint):
                     wrong.append(f"the promise of {name} in crate {crate} cites {module} of crate {where}")
+    wrong.extend(f"crate {crate} has no public function {name}, and JOINTS lists it" for crate, name in sorted(unseen))
     return count
 
 
@@ -144,8 +153,12 @@ def main():
     contents(wrong)
     rows = "\n".join(table(found))
     print(rows)
-    if "--check" in sys.argv and rows not in (ROOT / "README.md").read_text():
+    page = ROOT / "README.md"
+    text = page.read_text()
+    if "--check" in sys.argv and rows not in text:
         wrong.append("README.md has another table of lines than this")
+    if "--write" in sys.argv:
+        page.write_text(TABLE.sub(lambda _: rows + "\n", text, count=1))
     for line in wrong:
         print(f"tests/believed.py: {line}")
     print(f"{count} public functions, {sum(len(names) for names in JOINTS.values())} of them joints; {len(wrong)} things wrong")

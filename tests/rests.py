@@ -16,7 +16,7 @@ CRATES = pathlib.Path(__file__).resolve().parent.parent / "crates"
 RULES = re.compile(r"(\w+|Laws\.Rules\.\w+)$")
 JOINTS = {"Laws.PastLength", "Laws.Unspread", "Laws.Witness", "Laws.Table"}
 PROOF = "Laws.Demand3"
-USED = re.compile(r"^use Rattle·(promise|screen)(?:·specs)?\.specs\.([\w.]+?)(?:\.\{| as |$)", re.M)
+USED = re.compile(r"^use Rattle\.(promise|screen)\.specs\.([\w.]+?)(?:\.\{| as |$)", re.M)
 
 
 def named(crate, module):

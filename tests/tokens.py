@@ -5,7 +5,6 @@
     python3 tests/tokens.py --list FILE      prints the list of the ROM in FILE, as worked out here
 """
 import pathlib
-import platform
 import random
 import subprocess
 import sys
@@ -151,13 +150,10 @@ def roms():
 
 
 def loader():
-    """The words that run a program of the kit on this processor."""
-    kit = pathlib.Path(subprocess.run(["rt", "doc"], capture_output=True, text=True, check=True).stdout.strip()).parent.parent
-    tools = kit / "on" / platform.machine() / "toolchain"
-    emulator = tools / "bin" / "qemu-x86_64"
-    words = [str(emulator)] if emulator.exists() else []
-    loader = [str(tools / "lib" / "ld-linux-x86-64.so.2"), "--library-path", str(tools / "lib")]
-    return words + loader + [str(HERE / "target" / "bin" / "lamp")]
+    """The words that run the program, with the C library of the kit that built it."""
+    kit = pathlib.Path(subprocess.run(["rt", "doc"], capture_output=True, text=True, check=True).stdout.strip()).parent
+    tools = kit / "toolchain" / "lib"
+    return [str(tools / "ld-linux-x86-64.so.2"), "--library-path", str(tools), str(HERE / "crates" / "lamp" / "out" / "lamp")]
 
 
 def main():
