@@ -148,7 +148,7 @@ module _ (st : State) (store path : List ℕ) where
         let r = tests_refused w (eqb (length store) store_size) refl _ in
         let n : find_node_in st store path ≡ Refused (pick (eqb (length store) store_size) 7 6) = r.1 in
         let p : find_property_of no_tree store path name ≡ find_property_in st store path name =
-            rw (r.0, find_property_of, n, find_property_in) in
+        rw (r.0, find_property_of, n, find_property_in) in
         ap (λ t. find_property_of t store path name) (tree_none st w) ∙ p)
 
     value_none : whole_of st ≡ false → property_value_of no_tree store path name ≡ property_value_in st store path name
@@ -166,7 +166,7 @@ module _ (st : State) (store path : List ℕ) where
         let r = tests_refused w (eqb (length store) store_size) refl _ in
         let n : find_node_in st store path ≡ Refused (pick (eqb (length store) store_size) 7 6) = r.1 in
         let p : property_value_of no_tree store path name ≡ property_value_in st store path name =
-            rw (r.0, property_value_of, n, property_value_in) in
+        rw (r.0, property_value_of, n, property_value_in) in
         ap (λ t. property_value_of t store path name) (tree_none st w) ∙ p)
 
 module _ (st : State) where
