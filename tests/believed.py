@@ -1,16 +1,16 @@
 #!/usr/bin/env python3
 """What has to be believed, and that it stands apart. In each crate specs/*.antt has the definitions and statements that the promise of a
 public call or the statement of a theorem goes by; specs/Joints/ what the crates of the house agree on among themselves; specs/Laws/ what
-is only proved.
+is only proved, as are the lemmas of proofs/.
 
     python3 tests/believed.py            the lines of each crate, and whether all stands where it should
     python3 tests/believed.py --check    the same, and that README.md has these lines
     python3 tests/believed.py --write    the same, and README.md has these lines from then on
 
 It fails where
-- the `ensures` of a public function cites a module of Laws;
+- the `ensures` of a public function cites a module of Laws or of proofs/;
 - that of a call (JOINTS lists the public functions that are none) cites a module of Joints, or JOINTS lists what is no public function;
-- a module that has to be believed names one of Laws or Joints, or one of Joints names one of Laws;
+- a module that has to be believed names one of Laws, Joints or proofs/, or one of Joints names one of Laws or proofs/;
 - a theorem stands among what has to be believed;
 - two definitions of the house have one name;
 - a contents page lacks a line of comment for a module.
@@ -29,20 +29,23 @@ JOINTS = {
     "tokens": {"first_codes", "quick_at", "glance_from", "glance_at"},
     "tree": {"tail_of", "put_in", "open_child", "close_child"},
 }
-USED = re.compile(r"^(?:ghost )?use Rattle\.(\w+)\.specs\.([\w.]+?)(?:\.\{(.*?)\}| as \w+)?;?$", re.M | re.S)
+USED = re.compile(r"^(?:ghost )?use Rattle\.(\w+)\.((?:specs|proofs)\.[\w.]+?)(?:\.\{(.*?)\}| as \w+)?;?$", re.M | re.S)
 DEFINED = re.compile(r"^(?:abbrev pub|unfoldable pub|pub record|pub data) ([^\s:({]+)", re.M)
 PROVED = re.compile(r"^(?:pub )?([^\s:({]+)(?: \{[^}]*\})? :", re.M)
 # pub use FILE::NAME; or pub use FILE::{NAME, NAME};
 EXPORTED = re.compile(r"^pub use (\w+)::(?:\{([^}]*)\}|(\w+));", re.M)
 FUNCTION = re.compile(r'^pub (?:extern "C" )?fn (\w+)(.*?)^\{', re.M | re.S)
 CONTENTS = {"Lib", "Laws", "Joints"}
+# in proofs/, what answers the goals of a function: no lemmas
+ANSWERS = {"Answers", "Invariants", "Lib"}
 # in README.md
 TABLE = re.compile(r"^\| crate \| to be believed .*\n(?:\|.*\n)*", re.M)
 
 
 def tier(module):
-    """believed, Joints or Laws, by a module's path"""
-    return module.split(".")[0] if module.split(".")[0] in ("Joints", "Laws") else "believed"
+    """believed, Joints or Laws, by a module's path; what a crate of the kit has is none of these"""
+    folder, first = module.split(".")[:2]
+    return "Laws" if folder == "proofs" else first if first in ("Joints", "Laws") else "believed"
 
 
 def modules():
@@ -51,8 +54,14 @@ def modules():
     for path in sorted(CRATES.glob("*/specs/**/*.antt")):
         crate, _, *parts = path.relative_to(CRATES).with_suffix("").parts
         if not path.with_suffix("").is_dir() and parts[-1] not in CONTENTS:
-            found[crate, ".".join(parts)] = path.read_text()
+            found[crate, ".".join(["specs", *parts])] = path.read_text()
     return found
+
+
+def lemmas(crate):
+    """How many lines the lemmas of proofs/ have."""
+    paths = (CRATES / crate / "proofs").glob("**/*.antt")
+    return sum(path.read_text().count("\n") for path in paths if path.stem not in ANSWERS and not path.with_suffix("").is_dir())
 
 
 def public(crate):
@@ -75,7 +84,7 @@ def cited(contract, text):
     ensures = contract[contract.find("ensures"):] if "ensures" in contract else ""
     words = set(re.findall(r"[^\s(){}\[\];,.⌜⌝]+", ensures))
     for crate, module, names in USED.findall(text):
-        if module.startswith("declared"):
+        if module.startswith("specs.declared") or not (CRATES / crate).is_dir():
             continue
         for name in names.split(","):
             if name.split(" as ")[-1].strip() in words:
@@ -103,7 +112,7 @@ def apart(found, wrong):
     below = {"believed": {"Joints", "Laws"}, "Joints": {"Laws"}, "Laws": set()}
     for (crate, module), text in found.items():
         for where, named, _ in USED.findall(text):
-            if tier(named) in below[tier(module)] and not named.startswith("declared"):
+            if (CRATES / where).is_dir() and tier(named) in below[tier(module)] and not named.startswith("specs.declared"):
                 wrong.append(f"{module} of crate {crate} names {named} of crate {where}")
         if tier(module) == "believed":
             for name in PROVED.findall(text):
@@ -137,6 +146,7 @@ def table(found):
         for (owner, module), text in found.items():
             if owner == crate:
                 sums[tier(module)] += text.count("\n")
+        sums["Laws"] += lemmas(crate)
         for part, lines in sums.items():
             total[part] += lines
         rows.append(f"| {crate} | " + " | ".join(str(sums[part]) for part in total) + " |")
