@@ -24,7 +24,7 @@ extern "C" {
 /* a ROM has 8 bytes at least, and so many at most, the gaps of a spread one counted */
 #define FCODE_ROM_MOST 65536
 
-/* the stack, in bytes, that a call may take: 413,896 were measured, the rest is margin */
+/* the stack, in bytes, that a call may take: 413,912 were measured, the rest is margin */
 #define FCODE_STACK_SIZE 524288
 
 /* the sizes, in bytes, that each buffer must have exactly */
