@@ -1,3 +1,4 @@
+use Rattle.std.proofs.Common.{rules}
 use Rattle.rom.specs.Spread.{fcode_of}
 use Rattle.listing.specs.Laws.Listing.{wrong_text_lem, wrong_buffer_lem, wrong_marks, wrong_work, wrong_store, refused, passed}
 use Rattle.listing.specs.Laws.Listing.{judged_as_lem, passed_header, and_inside}
@@ -40,13 +41,14 @@ returns-then-store-ne-STORE_SIZE c =
     c.if-store-ne-STORE_SIZE.true) _ _ c.refused_text-then-store-ne-STORE_SIZE.ensures) in
     record { lists = told.0; upper_bound = told.1 }
 
+-- the tests are left to the search, so that a size that is not tested is refused here
 pub list_run-requires : goal.list_run-requires
 list_run-requires c =
     let a = c.args in (
       passed_header (judged_as_lem (fcode_of a.rom.now) a.marks.now _ c.screen.ensures c.in-Passes.is),
-      c.if-work-ne-WORK_SIZE.false,
-      c.if-store-ne-STORE_SIZE.false,
-      c.if-text-ne-TEXT_SIZE.false,
+      search rules,
+      search rules,
+      search rules,
     )
 
 pub returns-in-Passes : goal.returns-in-Passes

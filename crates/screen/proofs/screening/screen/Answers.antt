@@ -1,4 +1,4 @@
-use Rattle.std.proofs.Common.{ℕ, ◌≡◌, List, length, sym, ap, ◌∙◌, le-leb}
+use Rattle.std.proofs.Common.{ℕ, ◌≡◌, List, length, sym, ap, ◌∙◌, le-leb, rules}
 use borrow.Author.Tests.{lt-leb}
 use Rattle.rom.specs.Sizes.{marks_size}
 use Rattle.rom.specs.Header.{length_of, header_of}
@@ -33,25 +33,26 @@ returns-then-why-ne0 c =
     promise_by _ _ _ _ (screen_header (fcode_of c.args.rom.now) c.args.marks.now _ c.if-marks-ne-MARKS_SIZE.false c.check_header-why.ensures
     c.if-why-ne0.true)
 
+-- that the buffer has its size is left to the search, so that a size that is not tested is refused here
 pub judge_least-requires : goal.judge_least-requires
 judge_least-requires c =
-    ready c.args.rom.now c.args.marks.now c.if-marks-ne-MARKS_SIZE.false c.check_header-why.ensures c.if-why-ne0.false
+    ready c.args.rom.now c.args.marks.now (search rules) c.check_header-why.ensures c.if-why-ne0.false
     c.spread_of.ensures c.program_length-length.ensures _ (rw (le-leb _ _ c.if-length-le256.true))
 
 pub judge_small-requires : goal.judge_small-requires
 judge_small-requires c =
-    ready c.args.rom.now c.args.marks.now c.if-marks-ne-MARKS_SIZE.false c.check_header-why.ensures c.if-why-ne0.false
+    ready c.args.rom.now c.args.marks.now (search rules) c.check_header-why.ensures c.if-why-ne0.false
     c.spread_of.ensures c.program_length-length.ensures _ (rw (lt-leb _ _ c.if-length-le256.false, le-leb _ _ c.if-length-le1024.true))
 
 pub judge_middle-requires : goal.judge_middle-requires
 judge_middle-requires c =
-    ready c.args.rom.now c.args.marks.now c.if-marks-ne-MARKS_SIZE.false c.check_header-why.ensures c.if-why-ne0.false
+    ready c.args.rom.now c.args.marks.now (search rules) c.check_header-why.ensures c.if-why-ne0.false
     c.spread_of.ensures c.program_length-length.ensures _ (rw
     (lt-leb _ _ c.if-length-le256.false, lt-leb _ _ c.if-length-le1024.false, le-leb _ _ c.if-length-le4096.true))
 
 pub judge_large-requires : goal.judge_large-requires
 judge_large-requires c =
-    ready c.args.rom.now c.args.marks.now c.if-marks-ne-MARKS_SIZE.false c.check_header-why.ensures c.if-why-ne0.false
+    ready c.args.rom.now c.args.marks.now (search rules) c.check_header-why.ensures c.if-why-ne0.false
     c.spread_of.ensures c.program_length-length.ensures _ (rw (
       lt-leb _ _ c.if-length-le256.false,
       lt-leb _ _ c.if-length-le1024.false,
@@ -62,7 +63,7 @@ judge_large-requires c =
 
 pub judge_most-requires : goal.judge_most-requires
 judge_most-requires c =
-    ready c.args.rom.now c.args.marks.now c.if-marks-ne-MARKS_SIZE.false c.check_header-why.ensures c.if-why-ne0.false
+    ready c.args.rom.now c.args.marks.now (search rules) c.check_header-why.ensures c.if-why-ne0.false
     c.spread_of.ensures c.program_length-length.ensures _ (rw (
       lt-leb _ _ c.if-length-le256.false,
       lt-leb _ _ c.if-length-le1024.false,
@@ -72,21 +73,21 @@ judge_most-requires c =
     ))
 
 pub returns-then-length-le256 : goal.returns-then-length-le256
-returns-then-length-le256 c = kept c.args.rom.now c.args.marks.now c.if-marks-ne-MARKS_SIZE.false c.check_header-why.ensures
+returns-then-length-le256 c = kept c.args.rom.now c.args.marks.now (search rules) c.check_header-why.ensures
     c.if-why-ne0.false c.judge_least.ensures
 
 pub returns-then-length-le1024 : goal.returns-then-length-le1024
-returns-then-length-le1024 c = kept c.args.rom.now c.args.marks.now c.if-marks-ne-MARKS_SIZE.false c.check_header-why.ensures
+returns-then-length-le1024 c = kept c.args.rom.now c.args.marks.now (search rules) c.check_header-why.ensures
     c.if-why-ne0.false c.judge_small.ensures
 
 pub returns-then-length-le4096 : goal.returns-then-length-le4096
-returns-then-length-le4096 c = kept c.args.rom.now c.args.marks.now c.if-marks-ne-MARKS_SIZE.false c.check_header-why.ensures
+returns-then-length-le4096 c = kept c.args.rom.now c.args.marks.now (search rules) c.check_header-why.ensures
     c.if-why-ne0.false c.judge_middle.ensures
 
 pub returns-then-length-le16384 : goal.returns-then-length-le16384
-returns-then-length-le16384 c = kept c.args.rom.now c.args.marks.now c.if-marks-ne-MARKS_SIZE.false c.check_header-why.ensures
+returns-then-length-le16384 c = kept c.args.rom.now c.args.marks.now (search rules) c.check_header-why.ensures
     c.if-why-ne0.false c.judge_large.ensures
 
 pub returns : goal.returns
-returns c = kept c.args.rom.now c.args.marks.now c.if-marks-ne-MARKS_SIZE.false c.check_header-why.ensures c.if-why-ne0.false
+returns c = kept c.args.rom.now c.args.marks.now (search rules) c.check_header-why.ensures c.if-why-ne0.false
     c.judge_most.ensures
