@@ -45,8 +45,9 @@ def main():
     if len(sys.argv) > 1:
         done = DONE.search(pathlib.Path(sys.argv[1]).read_text(errors="replace"))
         refused = int(done[1]) if done else 0
-        if done and " bad" in done[2]:
-            wrong.append(f"rt ci says{done[2]}")
+        # bad: it could not be made; by a limit: the prover gave no verdict
+        if done and done[2]:
+            wrong.append(f"rt ci says of the edits: {done[2].lstrip(', ')}")
         if refused != len(edits):
             wrong.append(f"of {len(edits)} edits {refused} were refused")
     if not edits:

@@ -1,7 +1,7 @@
 #!/usr/bin/env python3
-"""What demand 3 rests on: of crate screen the rules and what follows from them alone (specs/*.antt, specs/Laws/Rules/ and proofs/Rules/), and nothing of
-how heights are found. So the screener may change without crate promise. A module is named by its folder and its path: specs.Rules is
-specs/Rules.antt, proofs.Rules.InForce is proofs/Rules/InForce.antt.
+"""What demand 3 rests on: of crate screen the rules and what follows from them alone (specs/*.antt, specs/Laws/Rules/ and proofs/Rules/),
+and nothing of how heights are found. So the screener may change without crate promise. A module is named by its folder and its path:
+specs.Rules is specs/Rules.antt, proofs.Rules.InForce is proofs/Rules/InForce.antt.
 
     python3 tests/rests.py            the modules of crate screen that each module of crate promise names, and whether all of them may be
     python3 tests/rests.py --check    the same, printed only where one may not

@@ -5,7 +5,7 @@
 
 ghost use Rattle.std.specs.Prelude.{◌≡◌, ◌≤◌, length, take};
 
-use given::{SPACE, bytes_from, mark_from, read_text};
+use given::{SPACE, TEXT, bytes_from, mark_from, read_text};
 use rom::{Aim, fcode_count, lay_fcode, program_length, spread_of};
 use std::io;
 use tokens::{Body, Decoded, Operand, Token};
@@ -183,6 +183,7 @@ fn all_lines(rt: &impl Print, text: &[u8]) -> io::Result<()> {
 }
 
 fn main(rt: HostRuntime) -> io::Result<()> {
-    let text = read_text(&rt)?;
-    all_lines(&rt, text.as_slice())
+    let mut text = [0u8; TEXT];
+    let n = read_text(&mut rt.stdin(), &mut text)?;
+    all_lines(&rt, &text[..n])
 }

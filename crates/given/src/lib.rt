@@ -2,7 +2,7 @@
 // A ROM is a word of bytes in hex, each of them alone or with how often it stands between two stars behind it: 'FD08007B*3*00'.
 #![tactic(auto)]
 
-ghost use Rattle.std.specs.Prelude.{◌≡◌, ◌<◌, ◌≤◌, length, take};
+ghost use Rattle.std.specs.Prelude.{◌≡◌, ◌<◌, ◌≤◌, IfOk, length, take};
 
 use std::io;
 use std::io::Read;
@@ -10,14 +10,23 @@ use std::io::Read;
 // Room for the longest ROM, and for one that is a byte too long.
 pub const SPACE: usize = 65537;
 
-// So much of standard input is read.
-const TEXT_MOST: u64 = 131072;
+// Room for the lines of standard input.
+pub const TEXT: usize = 131072;
 
-// The lines of standard input.
-pub fn read_text<R: Input + AllocGlobal>(rt: &R) -> io::Result<Vec<u8>> {
-    let mut text = Vec::new(rt.alloc());
-    rt.reader().take(TEXT_MOST).read_to_end(&mut text)?;
-    Ok(text)
+// Reads lines until a room is full or what is read ends, and tells how many bytes it put at the start of the room.
+pub fn read_text<R: Read>(from: &mut R, room: &mut [u8]) -> io::Result<usize>
+    ensures in_bounds { IfOk result (λ n. n ≤ length room.new) }
+    ensures prefix { IfOk result (λ n. n ≡ length (take n room.new)) }
+{
+    let mut done = 0;
+    while done < room.len() {
+        let n = from.read(&mut room[done..])?;
+        if n == 0 {
+            break;
+        }
+        done += n;
+    }
+    Ok(done)
 }
 
 // Where a mark stands next, from a place on; where the text ends if it does not.

@@ -20,10 +20,10 @@ use Rattle.screen.specs.Reach.{In, here, Setting, after, children_after, nodes_a
 use Rattle.screen.specs.Rules.{Assignment}
 use Rattle.screen.specs.Laws.Rules.Tokens.{after_same, stops_quiet, fixes_no_name, leave_inside}
 use Rattle.screen.specs.Laws.Rules.Ways.{Ways, ways_of, effect_call, effect_own}
-use Rattle.promise.proofs.Standing.{Defined, Carried, AtHome, Calling, CallChain, outside, within, Below, Standing}
-use Rattle.promise.proofs.Before.{defined_token, leads_moves}
-use Rattle.promise.proofs.Carrying.{carried_on}
-use Rattle.promise.proofs.Room.{body_of, Outer, fixed_outer}
+use Rattle.promise.specs.Laws.Standing.{Defined, Carried, AtHome, Calling, CallChain, outside, within, Below, Standing}
+use Rattle.promise.specs.Laws.Before.{defined_token, leads_moves}
+use Rattle.promise.specs.Laws.Carrying.{carried_on}
+use Rattle.promise.specs.Laws.Room.{body_of, Outer, fixed_outer}
 use Rattle.promise.proofs.Refusing.{called, called_colon, is_body_here, behind, frame_room}
 use Rattle.promise.specs.Trail.{OpenCall, open_call, without}
 

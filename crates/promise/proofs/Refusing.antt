@@ -38,11 +38,11 @@ use Rattle.screen.specs.Reach.{In, Setting, token_at, known, reads, extends, lea
 use Rattle.screen.specs.Reach.{calls as named_call, assigns as named_assign}
 use Rattle.screen.specs.Rules.{Assignment}
 use Rattle.screen.specs.Laws.Rules.Ways.{aimed_some, GivesOn, gives_leads, effect_call, effect_own}
-use Rattle.promise.proofs.Standing.{Defined, Held, Below, own, child, Standing}
+use Rattle.promise.specs.Laws.Standing.{Defined, Held, Below, own, child, Standing}
 use Rattle.promise.specs.Trail.{DependsOnData, OpenCall}
-use Rattle.promise.proofs.Before.{defined_token}
-use Rattle.promise.proofs.Carrying.{held_name, found, known_numbers, not_held, body_read}
-use Rattle.promise.proofs.Room.{base_is, Room, room, own_frame_lem, not_past, Outer, fixed_outer, leave_base}
+use Rattle.promise.specs.Laws.Before.{defined_token}
+use Rattle.promise.specs.Laws.Carrying.{held_name, found, known_numbers, not_held, body_read}
+use Rattle.promise.specs.Laws.Room.{base_is, Room, room, own_frame_lem, not_past, Outer, fixed_outer, leave_base}
 
 -- ---- conditions
 -- one that is asked of one family alone does not hold where it does not hold of that family

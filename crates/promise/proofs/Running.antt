@@ -31,11 +31,11 @@ use Rattle.screen.specs.Reach.{Setting, setting, token_at, Holds, Reach}
 use Rattle.screen.specs.Promise.{Marks}
 use Rattle.screen.specs.Laws.Rules.Ways.{effect_call}
 use Rattle.screen.specs.Rules.{Assignment}
-use Rattle.promise.proofs.Standing.{CallChain, outside, within, own, Standing}
+use Rattle.promise.specs.Laws.Standing.{CallChain, outside, within, own, Standing}
 use Rattle.promise.specs.Trail.{DependsOnData, Trail, start, token, RunEnds, finishes, stops, runs_out, HeightIs, OpenCall, open_call}
 use Rattle.promise.specs.Trail.{open_after}
-use Rattle.promise.proofs.Carrying.{carried_none}
-use Rattle.promise.proofs.Room.{body_of, open_is}
+use Rattle.promise.specs.Laws.Carrying.{carried_none}
+use Rattle.promise.specs.Laws.Room.{body_of, open_is}
 use Rattle.promise.proofs.Refusing.{ByData, accepted, refused, by_data}
 use Rattle.promise.proofs.Steps.{Fine, FineTurn, act_good}
 

@@ -47,14 +47,14 @@ use Rattle.screen.specs.Reach.{In, here, there, in_body, token_at, extends, lead
 use Rattle.screen.specs.Rules.{Assignment}
 use Rattle.screen.specs.Laws.Rules.Tokens.{heads}
 use Rattle.screen.specs.Laws.Rules.Ways.{effect_own}
-use Rattle.promise.proofs.Standing.{Defined, Carried, Below, own, child, Standing}
+use Rattle.promise.specs.Laws.Standing.{Defined, Carried, Below, own, child, Standing}
 use Rattle.promise.specs.Trail.{DependsOnData, OpenCall, open_after}
-use Rattle.promise.proofs.Before.{defined_token, leads_moves}
-use Rattle.promise.proofs.Carrying.{carried_on, carried_new, carried_assigned}
-use Rattle.promise.proofs.Room.{Outer}
+use Rattle.promise.specs.Laws.Before.{defined_token, leads_moves}
+use Rattle.promise.specs.Laws.Carrying.{carried_on, carried_new, carried_assigned}
+use Rattle.promise.specs.Laws.Room.{Outer}
 use Rattle.promise.proofs.Refusing.{not_first, aimed_in_lem, on, is_body_here, value_sum_lem, number_room, body_ends, assigned_value}
 use Rattle.promise.proofs.Refusing.{no_pick, node_room}
-use Rattle.promise.proofs.Families.{find_in, family_known}
+use Rattle.promise.specs.Laws.Families.{find_in, family_known}
 use Rattle.promise.proofs.Onward.{open_count, falls_on, go_on, fixed, go_fixed, go_in, go_out}
 use Rattle.rom.specs.Sizes.{nodes_most}
 

@@ -10,9 +10,8 @@
 --
 -- It is said of what the contracts of `screen`, `open` and `run` promise, and so it holds of whatever code meets them. Of the caller it
 -- asks that the three are called with the same ROM, that opening was not refused, and that the run is lent memory of the sizes that opening
--- had. How it is proved: proofs/Standing.antt says how the state stands before each token, and proofs/Running.antt that it always does.
--- Assumes
--- nothing.
+-- had. How it is proved: Laws/Standing.antt says how the state stands before each token, and proofs/Running.antt that it always does.
+-- Assumes nothing.
 use Rattle.std.specs.Prelude.{ℕ, ◌+◌, ◌≤◌, ◌≡◌, ◌↔◌, List, length}
 use Rattle.rom.specs.Sizes.{marks_size}
 use Rattle.rom.specs.Header.{header_of}

@@ -8,9 +8,8 @@
 -- differ (`StepsSo`, `RunsSo`). A token of a spread ROM that resolves such a string meets 22, if nothing that is tested before it: a house
 -- rule of request (vii) of document 02 (`RefusesSo`).
 --
--- It is said of what the contracts of `screen`, `open`, `step` and `run` promise, which speak of `fcode_of` of the ROM that is lent; that
--- of
--- the other is its bytes as they are. Assumes nothing.
+-- It is said of what the contracts of `screen`, `open`, `step` and `run` promise, which speak of `fcode_of` of the ROM that is lent;
+-- that of the other is its bytes as they are. Assumes nothing.
 use Rattle.std.specs.Prelude.{ℕ, zero, suc, ◌≤◌, ◌≡◌, Bool, true, false, ◌||◌, List, length, eqb}
 use Rattle.rom.specs.Spread.{is_spread, fcode_of, unspread_of}
 use Rattle.rom.specs.Header.{header_of, wrong_rom}

@@ -20,7 +20,7 @@ use crate::odd::show_odd;
 use crate::orders::show_orders;
 use crate::say::say;
 use crate::trial::{show_damaged, show_lent, show_run};
-use given::{SPACE, bytes_from, digits_at, mark_from, read_text, word_end};
+use given::{SPACE, TEXT, bytes_from, digits_at, mark_from, read_text, word_end};
 use std::io;
 
 // R: a ROM and a budget, and the lookups to make then.
@@ -104,6 +104,7 @@ fn all_lines(rt: &impl Print, text: &[u8]) -> io::Result<()> {
 }
 
 fn main(rt: HostRuntime) -> io::Result<()> {
-    let text = read_text(&rt)?;
-    all_lines(&rt, text.as_slice())
+    let mut text = [0u8; TEXT];
+    let n = read_text(&mut rt.stdin(), &mut text)?;
+    all_lines(&rt, &text[..n])
 }

@@ -59,7 +59,8 @@ fn mark_starts(
     entry: u32,
 ) -> Span
     requires { Codes codes.now × (length ≤ len seen.old) × (length ≤ rom_most) }
-    ensures { (marked result.0 result.1 seen.new ≡ starts_of rom.now length wide kinds.now rom_most entry seen.old) × (result.0 ≡ true → result.1 < length) }
+    ensures { (marked result.0 result.1 seen.new ≡ starts_of rom.now length wide kinds.now rom_most entry seen.old)
+        × (result.0 ≡ true → result.1 < length) }
 {
     let mut at = entry;
     while at < length {

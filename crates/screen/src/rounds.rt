@@ -310,7 +310,8 @@ fn colon(
 ) -> Turned
     requires { Codes codes.now × WalkTables length seen.old work.old × (entry ≢ 0) × (entry ≤ length) × (number ≤ last_program)
         × (stand.count < numbers_most) × StandFits stand × Bounded 0x1000_0000 seen.old }
-    ensures { (st : Stand) → TurnIs (colon_of rom.now length (board seen.old kinds.old sums.old st) stand number entry) seen.old stand.cell result seen.new kinds.new sums.new }
+    ensures { (st : Stand) → TurnIs (colon_of rom.now length (board seen.old kinds.old sums.old st) stand number entry)
+        seen.old stand.cell result seen.new kinds.new sums.new }
 {
     let s = survey_body(
         codes, rom, length, &*kinds, &*sums, &mut *seen, &mut *work, stand, entry,
@@ -402,7 +403,8 @@ fn advance(
 ) -> Turned
     requires { Codes codes.now × WalkTables length seen.old work.old × DefinesWithin length token × StandFits stand
         × Bounded 0x1000_0000 seen.old }
-    ensures { TurnIs (advance_of rom.now length (board seen.old kinds.old sums.old stand) cell token) seen.old (cell + 1) result seen.new kinds.new sums.new }
+    ensures { TurnIs (advance_of rom.now length (board seen.old kinds.old sums.old stand) cell token)
+        seen.old (cell + 1) result seen.new kinds.new sums.new }
 {
     let s = moved(stand, token, cell);
     if is_a(family::DEFINE, token) {

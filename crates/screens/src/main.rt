@@ -7,7 +7,7 @@ mod show;
 
 use crate::say::say;
 use crate::show::{show_last, show_screened};
-use given::{SPACE, bytes_from, digits_at, mark_from, read_text, word_end};
+use given::{SPACE, TEXT, bytes_from, digits_at, mark_from, read_text, word_end};
 use std::io;
 
 // Where a line's ROM starts: behind the letter and a space, or behind the number and a space.
@@ -41,6 +41,7 @@ fn all_lines(rt: &impl Print, text: &[u8]) -> io::Result<()> {
 }
 
 fn main(rt: HostRuntime) -> io::Result<()> {
-    let text = read_text(&rt)?;
-    all_lines(&rt, text.as_slice())
+    let mut text = [0u8; TEXT];
+    let n = read_text(&mut rt.stdin(), &mut text)?;
+    all_lines(&rt, &text[..n])
 }

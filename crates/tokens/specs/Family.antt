@@ -96,6 +96,5 @@ finish_device = 24
 -- all of them, as the code has them
 abbrev pub families : List ℕ
 families =
-    unlisted ∷ plain ∷ finish ∷ always ∷ choice ∷ text ∷ widen ∷ divide ∷ pick_up ∷ roll_up ∷ maybe ∷ leave ∷ fetch ∷ store ∷ define ∷ kind
-    ∷
-    assign ∷ call ∷ encode_int ∷ encode_string ∷ join ∷ property ∷ titled ∷ new_device ∷ finish_device ∷ []
+    unlisted ∷ plain ∷ finish ∷ always ∷ choice ∷ text ∷ widen ∷ divide ∷ pick_up ∷ roll_up ∷ maybe ∷ leave ∷ fetch ∷ store ∷ define
+    ∷ kind ∷ assign ∷ call ∷ encode_int ∷ encode_string ∷ join ∷ property ∷ titled ∷ new_device ∷ finish_device ∷ []

@@ -25,7 +25,7 @@ use Rattle.state.specs.Laws.Done.{carried, stopped}
 use Rattle.state.specs.Numbered.{answer_says}
 use Rattle.state.specs.Laws.Numbered.{ready_refusal, read_refusal, token_refusal, step_refusal}
 use Rattle.state.specs.declared.answer.Answer.TheVariants.{Going, Finished, Refused}
-use Rattle.promise.proofs.Families.{has_entry, find_in, family_known}
+use Rattle.promise.specs.Laws.Families.{has_entry, find_in, family_known}
 
 -- a token that is carried out says 0
 act_says : (s : Scene) (t : Token) → T (has_entry (family_in t.code) effects) → answer_says (act_of s t).answer ≡ gives []

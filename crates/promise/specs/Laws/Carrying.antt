@@ -23,9 +23,9 @@ use Rattle.screen.specs.Laws.Rules.Reach.{ExtendsBy, extends_by, end_is}
 use Rattle.screen.specs.Rules.{Assignment}
 use Rattle.screen.specs.Laws.Rules.Tokens.{heads}
 use Rattle.screen.specs.Laws.Rules.Ways.{call_known, assign_known, unnamed_known}
-use Rattle.promise.proofs.Standing.{Defined, Held, Carried}
+use Rattle.promise.specs.Laws.Standing.{Defined, Held, Carried}
 use Rattle.screen.proofs.Rules.InForce.{reach_first}
-use Rattle.promise.proofs.Before.{one_extent, MovesHome, defined_token, defined_end, defined_ahead, wholly_before}
+use Rattle.promise.specs.Laws.Before.{one_extent, MovesHome, defined_token, defined_end, defined_ahead, wholly_before}
 
 -- ---- seeking
 -- a name that is among so many is found among them

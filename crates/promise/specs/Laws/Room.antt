@@ -16,8 +16,8 @@ use Rattle.screen.specs.Reach.{Setting, in_body, Holds, Reach, Met, Body}
 use Rattle.screen.specs.Laws.Rules.Reach.{ExtendsBy, extends_by}
 use Rattle.screen.specs.Rules.{Assignment}
 use Rattle.screen.specs.Laws.Rules.Ways.{effect_call}
-use Rattle.promise.proofs.Standing.{Defined, AtHome, CallChain, outside, within}
-use Rattle.promise.proofs.Before.{body_within}
+use Rattle.promise.specs.Laws.Standing.{Defined, AtHome, CallChain, outside, within}
+use Rattle.promise.specs.Laws.Before.{body_within}
 use Rattle.promise.specs.Trail.{OpenCall}
 
 -- a b(:) reaches through the C2 that its body is read to

@@ -10,7 +10,7 @@ use Rattle.screen.specs.Reach.{Setting, leads, Holds, Reach, Met, Starts}
 use Rattle.screen.specs.Laws.Rules.Reach.{ExtendsBy, short, long, extends_by, start_within, one_end, extends_ahead}
 use Rattle.screen.specs.Rules.{Assignment}
 use Rattle.screen.specs.Laws.Rules.Ways.{define_fixes}
-use Rattle.promise.proofs.Standing.{Defined}
+use Rattle.promise.specs.Laws.Standing.{Defined}
 use Rattle.screen.proofs.Rules.InForce.{Fixed, fixed_of, fixed_read, Fixing, fixing, Passes, next_met, step_of, step_passes, one_fixed}
 use Rattle.screen.proofs.Rules.InForce.{InBody, in_body}
 
