@@ -103,7 +103,7 @@ kit=${0%/bin/rt}
 crate=${PWD##*/}
 case "$crate $*" in
     *' doc') echo "$kit/START-HERE.md"; exit ;;
-    'lamp run -- numbers') ;;
+    'lamp run --cpu=x86-64 -- list data/scale.rom 100000') ;;
     *' lib') [ "$crate" != lamp ] || exit 2 ;;
     *) exit 2 ;;
 esac
@@ -128,12 +128,15 @@ if [ -n "${refuse-}" ]; then
     echo "crates/$crate/src/lib.rt:1: error"
     exit 1
 fi
-[ "$crate" = right ] || echo "fn $crate::all: proved"
-[ "$crate" = lamp ] && [ "$mood" != unbuilt ] || exit 0
-mkdir -p out
-cp "$kit/program" out/lamp
-echo 'rt: running out/lamp'
-[ "$mood" != differs ]
+[ "$crate" = right ] || echo "fn $crate::all: proved" >&2
+[ "$crate" = lamp ] || exit 0
+if [ "$mood" != unbuilt ]; then
+    mkdir -p out
+    cp "$kit/program" out/lamp
+fi
+echo 'rt: running out/lamp' >&2
+[ "$mood" != breaks ] || exit 3
+if [ "$mood" = differs ]; then echo 'another listing'; else echo 'the listing'; fi
 END
 # says its words and the names that it is handed, each with its link, and ends as ENDS has it
 cat >"$kit/program" <<'END'
@@ -181,6 +184,7 @@ done
 mkdir -p "$project/crates/left/proofs/deep" "$project/crates/lamp/data"
 echo proof >"$project/crates/left/proofs/deep/Proof.antt"
 echo board >"$project/crates/lamp/data/scale.rom"
+echo 'the listing' >"$project/crates/lamp/stdout"
 code=$project/crates/left/src/lib.rt
 
 PATH=$kit/bin:$PATH
@@ -377,9 +381,11 @@ lamp: rt broke off at crate left with status 137 (killed, or out of memory?), $s
 fresh broken
 expect 2 '' "$two_steps
 lamp: rt broke off at crate left with status 2 (killed, or out of memory?), $seen" "$lamp" a.rom
-fresh differs
-expect 2 '' "$progress
+for mood in differs breaks; do
+    fresh "$mood"
+    expect 2 '' "$progress
 lamp: each crate is proved, but the built program does not run as it should, $seen" "$lamp" a.rom
+done
 fresh unbuilt
 expect 2 '' "$progress
 lamp: rt has proved all and left no program in #/crates/lamp/out; remove #/crates/lamp/out and call again" "$lamp" a.rom
@@ -395,7 +401,7 @@ expect 2 '' "$progress
 cp: cannot stat '$tools/lib/*.so*': No such file or directory
 lamp: the program is proved and built, but cannot be kept in #/target/lamp" "$lamp" a.rom
 mv "$tools/away" "$tools/lib"
-holds 'no part of it is left' [ "$(cd "$project/target/lamp" && echo *)" = 'lock log said' ]
+holds 'no part of it is left' [ "$(cd "$project/target/lamp" && echo *)" = 'lock log ran said' ]
 mv "$project/crates.txt" "$room/crates.txt"
 unread='lamp: the sources of the program cannot all be read:'
 expect 2 '' "$unread find: 'crates.txt': No such file or directory" "$lamp" a.rom
@@ -617,6 +623,7 @@ expect 0 'list [a] [100000]' "$progress" open_in "$lamp" a
 # ---- what a call costs, over the sources of this project
 
 (cd "$here" && tar -c --exclude=out crates.txt crates) | tar -x -C "$project"
+echo 'the listing' >"$project/crates/lamp/stdout"
 holds 'the sources of this project have a program' "$lamp" a
 measure sh "$tools/lib/ld-linux-x86-64.so.2" --library-path "$tools/lib" "$kit/program" list a 100000
 own=$took
