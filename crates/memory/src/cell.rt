@@ -24,10 +24,10 @@ pub fn fetch_byte<'a>(rom: &'a [u8], work: &'a [u8], size: u32, address: u32) ->
     ensures { result ≡ fetch_byte_of rom.now work.now size address }
 {
     let part = resolve(rom, work, size, address, 1);
-    if part.len() < 1 {
+    if part.is_empty() {
         return Fetched::Refused(22);
     }
-    Fetched::Value(byte(part, 0) as u32)
+    Fetched::Value(u32::from(byte(part, 0)))
 }
 
 // Stores a cell in work memory: 0, or why it is refused.

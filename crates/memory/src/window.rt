@@ -1,6 +1,8 @@
 // Where a range of addresses lies.
-ghost use Rattle.std.specs.Prelude.{◌≡◌, min};
+ghost use Rattle.std.specs.Prelude.{◌≡◌};
 ghost use Rattle.memory.specs.Window.{window_of, resolve_of, lies as window_lies};
+
+use std::cmp::min;
 
 pub const ROM_BASE: u32 = 0x1000_0000;
 
@@ -19,12 +21,6 @@ pub enum Window {
 pub enum Fetched {
     Value(u32),
     Refused(u32),
-}
-
-pub fn least(a: usize, b: usize) -> usize
-    ensures { result ≡ min a b }
-{
-    if a < b { a } else { b }
 }
 
 // Whether a range lies in a window of `size` bytes, its end included.
@@ -58,7 +54,7 @@ pub fn resolve<'a>(rom: &'a [u8], work: &'a [u8], size: u32, address: u32, count
     ensures { result.now ≡ resolve_of rom.now work.now size address count }
 {
     let n = count as usize;
-    match window_of(least(size as usize, rom.len()), work.len(), address, count) {
+    match window_of(min(size as usize, rom.len()), work.len(), address, count) {
         Window::Rom(start) => {
             let k = start as usize;
             &rom[k..k + n]

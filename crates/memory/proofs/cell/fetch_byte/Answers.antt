@@ -1,13 +1,14 @@
+use Rattle.std.proofs.Common.{rules}
 use Rattle.memory.proofs.Accesses.{no_byte, one_byte}
 use Rattle.memory.proofs.cell.fetch_byte.Goals as goal
 
-pub returns-then-part-lt1 : goal.returns-then-part-lt1
-returns-then-part-lt1 c =
+pub returns-then-is_empty : goal.returns-then-is_empty
+returns-then-is_empty c =
     let a = c.args in
-    no_byte a.rom.now a.work.now a.size a.address (rw (← c.resolve-part.ensures) c.if-part-lt1.true)
+    no_byte a.rom.now a.work.now a.size a.address (rw (← c.resolve-part.ensures) (search rules))
 
 pub returns : goal.returns
 returns c =
     let a = c.args in
-    rw (c.byte.ensures, c.resolve-part.ensures)
-    (one_byte a.rom.now a.work.now a.size a.address (rw (← c.resolve-part.ensures) c.if-part-lt1.false))
+    rw (c.from.ensures, c.byte.ensures, c.resolve-part.ensures)
+    (one_byte a.rom.now a.work.now a.size a.address (rw (← c.resolve-part.ensures) (search rules)))

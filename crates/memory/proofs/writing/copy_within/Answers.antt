@@ -1,25 +1,15 @@
-use Rattle.std.proofs.Common.{◌-◌, min, ◌≡◌, sym, ◌∙◌, length}
-use Rattle.memory.proofs.Moves.{moved_none, moved_cut}
+use Rattle.std.proofs.Common.{◌≡◌, ◌-◌, min, max, length, rules}
+use Rattle.memory.proofs.Moves.{none_within, copied_within}
 use Rattle.memory.proofs.writing.copy_within.Goals as goal
 
 pub returns-then-n-eq0 : goal.returns-then-n-eq0
 returns-then-n-eq0 c =
-    let counted : let a = c.args in c.least-n.result ≡ min a.count (min (length a.memory.now - a.start) (length a.memory.now - a.to)) = rw
-    (← c.room.ensures, ← c.room-2.ensures, ← c.least.ensures) c.least-n.ensures in
     let a = c.args in
-    sym (moved_none a.memory.now a.start a.to c.least-n.result c.if-n-eq0.true)
-    ∙ moved_cut a.memory.now a.start a.to a.count c.least-n.result counted
+    none_within a.memory.now a.start a.to a.count c.min-n.result (search rules) (search rules)
 
-pub returns-then-goal-from : goal.returns-then-goal-from
-returns-then-goal-from c =
-    let counted : let a = c.args in c.least-n.result ≡ min a.count (min (length a.memory.now - a.start) (length a.memory.now - a.to)) = rw
-    (← c.room.ensures, ← c.room-2.ensures, ← c.least.ensures) c.least-n.ensures in
-    let a = c.args in
-    c.move_down.ensures ∙ moved_cut a.memory.now a.start a.to a.count c.least-n.result counted
-
+-- what the code leaves is what the library's copy leaves
 pub returns : goal.returns
 returns c =
-    let counted : let a = c.args in c.least-n.result ≡ min a.count (min (length a.memory.now - a.start) (length a.memory.now - a.to)) = rw
-    (← c.room.ensures, ← c.room-2.ensures, ← c.least.ensures) c.least-n.ensures in
     let a = c.args in
-    c.move_up.ensures ∙ moved_cut a.memory.now a.start a.to a.count c.least-n.result counted
+    let n : c.min-n.result ≡ min a.count (length a.memory.now - max a.start a.to) = search rules in
+    rw (copied_within a.memory.now a.start a.to a.count (search rules), ← n) (search rules)
