@@ -13,18 +13,7 @@ use Rattle.std.proofs.lemmas.Slice.{put_mid-paste}
 use Rattle.std.specs.List.{copy_within}
 use Rattle.memory.specs.Window.{part_of}
 use Rattle.memory.specs.Writing.{written_of, moved_of, cleared_of}
-use Rattle.memory.specs.Laws.Memory.{written_is, written_none, written_out, written_take}
-
--- the library's name for a part that is replaced
-pub paste_written : (m : List ℕ) (at : ℕ) (s : List ℕ) (n : ℕ) → at + n ≤ length m → n ≤ length s
-    → paste m at s n ≡ written_of m at (take n s)
-paste_written m at s n h f =
-    let e = length-take-le n s f in
-    rw (written_is m at (take n s) (omega arith), e) (append_assoc (take at m) (take n s) (drop (at + n) m))
-
-pub part_written : (m : List ℕ) (at n : ℕ) (bs : List ℕ) → length bs ≡ n → at + n ≤ length m → put_mid at n m bs ≡ written_of m at bs
-part_written m at n bs e h =
-    put_mid-paste at n m bs bs n refl refl (sym e) ∙ paste_written m at bs n h (omega arith) ∙ ap (written_of m at) (take_all n bs (omega arith))
+use Rattle.memory.specs.Laws.Memory.{paste_written, part_written, written_none, written_out, written_take}
 
 -- bytes that have no room
 pub laid_cut : (m : List ℕ) (at : ℕ) (bs : List ℕ) (n : ℕ) → n ≡ min (length bs) (length m - at)

@@ -2,14 +2,13 @@
 // costs what it changes: no array is copied, no tree is tested anew, and of the store only what is written, moved or freed is touched.
 ghost use Rattle.std.specs.Prelude.{◌≡◌, false, ◌+◌, ◌≤◌, length, get_or};
 ghost use Rattle.memory.specs.Writing.{moved_of};
-ghost use Rattle.tree.specs.Held.{live_among};
 ghost use Rattle.tree.specs.Property.{bad_name, value_of};
 ghost use Rattle.tree.specs.Joints.Steps.{zeroed_of, appended_of, replaced_of};
-ghost use Rattle.tree.specs.Joints.Apart.{refused_with, done_with, tail_of, EndsAs, Tallied, Finds, Missing, Puts, Opens, Closes};
+ghost use Rattle.tree.specs.Joints.Apart.{refused_with, done_with, tail_of, EndsAs, Tallied, Missing, Puts, Opens, Closes};
 ghost use Rattle.rom.specs.Sizes.{properties_most, store_size};
 ghost use Rattle.tree.specs.Whole.{name_most};
 
-use crate::property::{Found, bad_name, is_named, lay_value, size_of};
+use crate::property::{bad_name, find, lay_value, size_of};
 use crate::tree::{Outcome, live_bytes, wide};
 use memory::{copy_in, copy_within};
 use rom::sizes::{NODES_MOST, PROPERTIES_MOST, STORE_SIZE};
@@ -54,7 +53,7 @@ pub fn tail_of(
 {
     let live = live_bytes(name_sizes, value_sizes, held);
     Tail {
-        live: live,
+        live,
         zeros: STORE_SIZE,
     }
 }
@@ -64,10 +63,8 @@ fn clear_up_to(memory: &mut [u8], at: usize, end: usize)
     requires { end ≤ length memory.old }
     ensures { memory.new ≡ zeroed_of memory.old at end }
 {
-    let mut k = at;
-    while k < end {
-        memory[k] = 0;
-        k += 1;
+    if at < end {
+        memory[at..end].fill(0);
     }
 }
 
@@ -90,10 +87,9 @@ fn move_part(store: &mut [u8], from: usize, to: usize, count: usize)
     requires { (from + count ≤ length store.old) × (length store.old ≤ store_size) × (to ≤ 32769) }
     ensures { store.new ≡ moved_of store.old from to count }
 {
-    if from == to {
-        return;
+    if from != to {
+        copy_within(store, from as u32, to as u32, count as u32);
     }
-    copy_within(store, from as u32, to as u32, count as u32);
 }
 
 // Another value in the place of the old one, and what stands behind it moved with it. It is cleared as far as for a property more.
@@ -108,40 +104,13 @@ fn replace(store: &mut [u8], tail: Tail, at: usize, old: usize, value: &[u8], nu
     clear_up_to(store, end + behind, tail.zeros);
 }
 
-// The record of a node with this name, the oldest first.
-fn find_among(
-    store: &[u8],
-    owners: &[u32; PROPERTIES_MOST],
-    name_sizes: &[u32; PROPERTIES_MOST],
-    value_sizes: &[u32; PROPERTIES_MOST],
-    held: usize,
-    node: u32,
-    name: &[u8],
-) -> Found
-    requires { (held ≤ properties_most) × (live_among name_sizes.now value_sizes.now held 0 ≤ length store.now) }
-    ensures { Finds store.now owners.now name_sizes.now value_sizes.now held
-        node name.now result }
-{
-    let mut i = 0;
-    let mut at = 0;
-    while i < held {
-        let end = at + wide(name_sizes[i]);
-        if is_named(store, owners[i], at, end, node, name) {
-            return Found { index: i, at: at };
-        }
-        at = end + wide(value_sizes[i]);
-        i += 1;
-    }
-    Found { index: i, at: at }
-}
-
 fn refused_with(why: u32, held: usize, tail: Tail) -> Kept
     ensures { result ≡ refused_with why held tail }
 {
     Kept {
         outcome: Outcome::Refused(why),
-        held: held,
-        tail: tail,
+        held,
+        tail,
     }
 }
 
@@ -149,14 +118,10 @@ fn refused_with(why: u32, held: usize, tail: Tail) -> Kept
 fn done_with(held: usize, live: usize) -> Kept
     ensures { result ≡ done_with held live }
 {
-    let tail = Tail {
-        live: live,
-        zeros: live,
-    };
     Kept {
         outcome: Outcome::Done,
-        held: held,
-        tail: tail,
+        held,
+        tail: Tail { live, zeros: live },
     }
 }
 
@@ -220,7 +185,7 @@ pub fn put_in(
     if STORE_SIZE < value.len() {
         return refused_with(27, held, tail);
     }
-    let found = find_among(
+    let Some(found) = find(
         &*store,
         &*owners,
         &*name_sizes,
@@ -228,9 +193,7 @@ pub fn put_in(
         held,
         node,
         name,
-    );
-    let index = found.index;
-    if index == held {
+    ) else {
         return add_property(
             store,
             owners,
@@ -243,7 +206,8 @@ pub fn put_in(
             value,
             null,
         );
-    }
+    };
+    let index = found.index;
     let size = size_of(value.len(), null);
     let old = wide(value_sizes[index]);
     let live = tail.live - old + size;
@@ -255,6 +219,7 @@ pub fn put_in(
     done_with(held, live)
 }
 
+// A test by hand: of get, copied and unwrap_or in a chain the search does not find this fact.
 fn parent_among(parents: &[u32], k: usize) -> u32
     ensures { result ≡ get_or parents.now k 0 }
 {
@@ -268,8 +233,8 @@ pub fn open_child(parents: &mut [u32; NODES_MOST], nodes: usize, active: u32) ->
     if NODES_MOST <= nodes {
         return Opened {
             outcome: Outcome::Refused(20),
-            nodes: nodes,
-            active: active,
+            nodes,
+            active,
         };
     }
     parents[nodes] = active;
@@ -287,7 +252,7 @@ pub fn close_child(parents: &[u32; NODES_MOST], first: u32, active: u32) -> Clos
     if active == first {
         return Closed {
             outcome: Outcome::Refused(20),
-            active: active,
+            active,
         };
     }
     Closed {

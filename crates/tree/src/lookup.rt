@@ -8,8 +8,8 @@ ghost use Rattle.tree.specs.Path.{own_value_of};
 ghost use Rattle.tree.specs.Laws.Path.{part_end, child_sought};
 ghost use Rattle.rom.specs.Sizes.{nodes_most, properties_most};
 
-use crate::property::{find, name_size, same_bytes, value_size};
-use crate::tree::{Tree, is_whole};
+use crate::property::{find, same_bytes};
+use crate::tree::{Tree, is_whole, wide};
 use rom::sizes::STORE_SIZE;
 
 const SLASH: u8 = 0x2F;
@@ -33,14 +33,12 @@ fn part_end(path: &[u8], at: usize) -> usize
     requires { at ≤ length path.now }
     ensures { (result ≡ at + part_end (drop at path.now)) × (result ≤ length path.now) }
 {
-    let mut end = at;
-    while end < path.len() {
+    for end in at..path.len() {
         if path[end] == SLASH {
             return end;
         }
-        end += 1;
     }
-    end
+    path.len()
 }
 
 // Whether one of the parts from a place on is empty. The last part is there even where nothing stands behind the last slash.
@@ -65,16 +63,11 @@ fn any_empty(path: &[u8], from: usize) -> bool
 fn malformed(path: &[u8]) -> bool
     ensures { result ≡ path_malformed path.now }
 {
-    if path.len() < 1 {
-        return true;
+    match path {
+        [SLASH] => false,
+        [SLASH, _, ..] => any_empty(path, 1),
+        _ => true,
     }
-    if path[0] != SLASH {
-        return true;
-    }
-    if path.len() == 1 {
-        return false;
-    }
-    any_empty(path, 1)
 }
 
 // Where a node's property has its value, the oldest of that name.
@@ -82,27 +75,31 @@ fn place_of(store: &[u8], tree: Tree, node: u32, name: &[u8]) -> ValueSought
     requires { (tree.held ≤ properties_most) × (live_of tree ≤ length store.now) }
     ensures { result ≡ named_place tree store.now node name.now }
 {
-    let found = find(store, tree, node, name);
-    let index = found.index;
-    if tree.held <= index {
+    let Some(found) = find(
+        store,
+        &tree.owners,
+        &tree.name_sizes,
+        &tree.value_sizes,
+        tree.held,
+        node,
+        name,
+    ) else {
         return ValueSought::Refused(30);
-    }
-    ValueSought::Value(found.at + name_size(tree, index), value_size(tree, index))
+    };
+    ValueSought::Value(
+        found.at + wide(tree.name_sizes[found.index]),
+        wide(tree.value_sizes[found.index]),
+    )
 }
 
 // A value less one final null.
 fn less_null<'a>(value: &'a [u8]) -> &'a [u8]
     ensures { result.now ≡ less_null value.now }
 {
-    let size = value.len();
-    if size == 0 {
-        return value;
+    match value {
+        [front @ .., 0] => front,
+        _ => value,
     }
-    let last = size - 1;
-    if value[last] != 0 {
-        return value;
-    }
-    &value[..last]
 }
 
 // Whether a node's name is a part of a path; a node without a name is called nothing.
@@ -120,10 +117,7 @@ fn is_child(store: &[u8], tree: Tree, k: usize, node: u32, part: &[u8]) -> bool
     requires { (k < nodes_most) × (tree.held ≤ properties_most) × (live_of tree ≤ length store.now) }
     ensures { result ≡ eqb (parent_of tree k) node && is_called tree store.now k part.now }
 {
-    if tree.parents[k] != node {
-        return false;
-    }
-    is_called(store, tree, k as u32, part)
+    tree.parents[k] == node && is_called(store, tree, k as u32, part)
 }
 
 // The oldest child with that name, or 30. The root is nobody's child, so the search starts at node 1.
@@ -131,12 +125,10 @@ fn child_named(store: &[u8], tree: Tree, node: u32, part: &[u8]) -> NodeSought
     requires { (tree.nodes ≤ nodes_most) × (tree.held ≤ properties_most) × (live_of tree ≤ length store.now) }
     ensures { result ≡ child_sought (child_named tree store.now node part.now) }
 {
-    let mut k = 1;
-    while k < tree.nodes {
+    for k in 1..tree.nodes {
         if is_child(store, tree, k, node, part) {
             return NodeSought::Node(k as u32);
         }
-        k += 1;
     }
     NodeSought::Refused(30)
 }

@@ -1,6 +1,5 @@
 // Nodes.
 ghost use Rattle.std.specs.Prelude.{◌≡◌};
-ghost use Rattle.tree.specs.Whole.{parent_of};
 ghost use Rattle.tree.specs.Node.{no_tree, fresh_tree};
 
 use crate::tree::Tree;
@@ -25,10 +24,4 @@ pub fn fresh_tree() -> Tree
     let mut t = no_tree();
     t.nodes = 2;
     t
-}
-
-pub fn parent(tree: Tree, k: usize) -> u32
-    ensures { result ≡ parent_of tree k }
-{
-    if k < NODES_MOST { tree.parents[k] } else { 0 }
 }

@@ -1,19 +1,20 @@
 // Properties: their names, where they are found in the store, and the bytes of a value.
-ghost use Rattle.std.specs.Prelude.{◌≡◌, ◌+◌, ◌-◌, ◌≤◌, ◌<◌, ◌&&◌, eqb, length};
+ghost use Rattle.std.specs.Prelude.{◌≡◌, ◌+◌, ◌-◌, ◌≤◌, ◌<◌, ◌&&◌, eqb, length, MatchOption};
 ghost use Rattle.memory.specs.Window.{part_of};
 ghost use Rattle.memory.specs.Writing.{written_of};
-ghost use Rattle.tree.specs.Held.{same_bytes, name_size, value_size, live_of, found_from};
+ghost use Rattle.tree.specs.Held.{same_bytes, live_among};
 ghost use Rattle.tree.specs.Whole.{every_below};
-ghost use Rattle.tree.specs.Property.{value_of, name_byte, all_name_bytes, bad_name};
+ghost use Rattle.tree.specs.Property.{value_of, name_byte, bad_name};
 ghost use Rattle.tree.specs.Joints.Steps.{size_of};
+ghost use Rattle.tree.specs.Joints.Apart.{Finds, Missing};
 ghost use Rattle.tree.specs.Laws.Same.{alike_from};
 ghost use Rattle.rom.specs.Sizes.{properties_most, store_size};
 
-use crate::tree::{NAME_MOST, Tree, wide};
+use crate::tree::{NAME_MOST, wide};
 use memory::{copy_in, put};
 use rom::sizes::PROPERTIES_MOST;
 
-// A record, and where its bytes start in the store. A record that is not there stands behind them all, its bytes at the live end.
+// A record, and where its bytes start in the store.
 #[derive(Clone, Copy)]
 pub struct Found {
     pub index: usize,
@@ -80,29 +81,10 @@ fn is_name_byte(b: u8) -> bool
     printed & !upper & !barred
 }
 
-fn all_name_bytes(name: &[u8]) -> bool
-    ensures { result ≡ all_name_bytes name.now }
-{
-    let mut k = 0;
-    while k < name.len() {
-        if !is_name_byte(name[k]) {
-            return false;
-        }
-        k += 1;
-    }
-    true
-}
-
 pub fn bad_name(name: &[u8]) -> bool
     ensures { result ≡ bad_name name.now }
 {
-    if name.len() < 1 {
-        return true;
-    }
-    if NAME_MOST < name.len() {
-        return true;
-    }
-    !all_name_bytes(name)
+    !(1..=NAME_MOST).contains(&name.len()) || !name.iter().all(|b| is_name_byte(*b))
 }
 
 // Whether a record of this owner, its name's bytes from a place up to an end, is the one of a node and a name.
@@ -110,28 +92,32 @@ pub fn is_named(store: &[u8], owner: u32, start: usize, end: usize, node: u32, n
     requires { (start ≤ end) × (end ≤ length store.now) }
     ensures { result ≡ eqb owner node && same_bytes (part_of store.now start (end - start)) name.now }
 {
-    if owner != node {
-        return false;
-    }
-    same_bytes(&store[start..end], name)
+    owner == node && same_bytes(&store[start..end], name)
 }
 
-// The record of a node with this name, the oldest first.
-pub fn find(store: &[u8], tree: Tree, node: u32, name: &[u8]) -> Found
-    requires { (tree.held ≤ properties_most) × (live_of tree ≤ length store.now) }
-    ensures { result ≡ found_from tree store.now node name.now tree.held 0 0 }
+// The record of a node with this name, the oldest first. The records are lent one array by one, as they lie in a tree that is taken apart.
+pub fn find(
+    store: &[u8],
+    owners: &[u32; PROPERTIES_MOST],
+    name_sizes: &[u32; PROPERTIES_MOST],
+    value_sizes: &[u32; PROPERTIES_MOST],
+    held: usize,
+    node: u32,
+    name: &[u8],
+) -> Option<Found>
+    requires { (held ≤ properties_most) × (live_among name_sizes.now value_sizes.now held 0 ≤ length store.now) }
+    ensures { MatchOption result (Missing store.now owners.now name_sizes.now value_sizes.now held node name.now)
+        (λ found. (found.index < held) × Finds store.now owners.now name_sizes.now value_sizes.now held node name.now found) }
 {
-    let mut i = 0;
     let mut at = 0;
-    while i < tree.held {
-        let end = at + wide(tree.name_sizes[i]);
-        if is_named(store, tree.owners[i], at, end, node, name) {
-            return Found { index: i, at: at };
+    for i in 0..held {
+        let end = at + wide(name_sizes[i]);
+        if is_named(store, owners[i], at, end, node, name) {
+            return Some(Found { index: i, at });
         }
-        at = end + wide(tree.value_sizes[i]);
-        i += 1;
+        at = end + wide(value_sizes[i]);
     }
-    Found { index: i, at: at }
+    None
 }
 
 // The bytes of a value, with its null.
@@ -149,26 +135,5 @@ pub fn lay_value(store: &mut [u8], at: usize, value: &[u8], null: bool)
     copy_in(store, at as u32, value);
     if null {
         put(store, at + value.len(), 0);
-        return;
-    }
-}
-
-pub fn value_size(tree: Tree, index: usize) -> usize
-    ensures { (result ≡ value_size tree index) × (result < 4294967296) }
-{
-    if index < PROPERTIES_MOST {
-        wide(tree.value_sizes[index])
-    } else {
-        0
-    }
-}
-
-pub fn name_size(tree: Tree, index: usize) -> usize
-    ensures { result ≡ name_size tree index }
-{
-    if index < PROPERTIES_MOST {
-        wide(tree.name_sizes[index])
-    } else {
-        0
     }
 }

@@ -1,9 +1,9 @@
 // The node table for the installer: a row for each node.
-ghost use Rattle.std.specs.Prelude.{◌≡◌, ◌≤◌, ◌<◌, length};
-ghost use Rattle.tree.specs.Rows.{count_from, node_row, table_refusal, rows_refusal, rows_then, parents_of, counts_of, rows_of};
+ghost use Rattle.std.specs.Prelude.{◌≡◌, ◌≢◌, ◌≤◌, ◌<◌, true, length, MatchResult};
+ghost use Rattle.tree.specs.Whole.{whole_tree};
+ghost use Rattle.tree.specs.Rows.{count_from, node_row, lent_refusal, table_refusal, rows_refusal, rows_then, parents_of, counts_of, rows_of};
 ghost use Rattle.rom.specs.Sizes.{nodes_most, properties_most};
 
-use crate::node::parent;
 use crate::tree::{Tree, is_whole};
 use rom::sizes::{NODES_MOST, PROPERTIES_MOST};
 
@@ -18,15 +18,10 @@ fn count_of(owners: &[u32; PROPERTIES_MOST], held: usize, node: u32) -> u32
     requires { held ≤ properties_most }
     ensures { result ≡ count_from owners.now node held 0 }
 {
-    let mut count = 0;
-    let mut i = 0;
-    while i < held {
-        if owners[i] == node {
-            count += 1;
-        }
-        i += 1;
-    }
-    count
+    owners[..held]
+        .iter()
+        .filter(|owner| **owner == node)
+        .count() as u32
 }
 
 // A node's row; a row of no node is zero.
@@ -40,24 +35,23 @@ fn row_of(tree: Tree, k: usize) -> Row
             count: 0,
         };
     }
-    let owners = tree.owners;
     Row {
-        parent: parent(tree, k),
-        count: count_of(&owners, tree.held, k as u32),
+        parent: tree.parents[k],
+        count: count_of(&tree.owners, tree.held, k as u32),
     }
 }
 
-fn fill_rows(tree: Tree, parents: &mut [u32], counts: &mut [u32])
-    requires { (tree.held ≤ properties_most) × (length parents.old ≡ nodes_most) × (length counts.old ≡ nodes_most) }
-    ensures { (parents.new ≡ parents_of tree) × (counts.new ≡ counts_of tree) }
+// Whether rows may be written: 6 where their number is not the nodes', and then 7.
+fn judge(tree: Tree, sized: bool) -> Result<(), u32>
+    ensures { MatchResult result (λ _. (sized ≡ true) × (whole_tree tree ≡ true)) (λ why. (why ≡ lent_refusal sized tree) × (why ≢ 0)) }
 {
-    let mut k = 0;
-    while k < NODES_MOST {
-        let row = row_of(tree, k);
-        parents[k] = row.parent;
-        counts[k] = row.count;
-        k += 1;
+    if !sized {
+        return Err(6);
     }
+    if !is_whole(tree) {
+        return Err(7);
+    }
+    Ok(())
 }
 
 // The rows' two columns: 0, or 6 and then 7 with both as they were.
@@ -66,28 +60,14 @@ pub fn node_table(tree: Tree, parents: &mut [u32], counts: &mut [u32]) -> u32
         × (parents.new ≡ rows_then result parents.old (parents_of tree))
         × (counts.new ≡ rows_then result counts.old (counts_of tree)) }
 {
-    if parents.len() != NODES_MOST {
-        return 6;
+    let sized = parents.len() == NODES_MOST && counts.len() == NODES_MOST;
+    if let Err(why) = judge(tree, sized) {
+        return why;
     }
-    if counts.len() != NODES_MOST {
-        return 6;
-    }
-    if !is_whole(tree) {
-        return 7;
-    }
-    fill_rows(tree, parents, counts);
-    0
-}
-
-// What a call for so many rows is answered: 0, or 6 and then 7.
-fn rows_refusal(tree: Tree, size: usize) -> u32
-    ensures { result ≡ rows_refusal tree size }
-{
-    if size != NODES_MOST {
-        return 6;
-    }
-    if !is_whole(tree) {
-        return 7;
+    for k in 0..NODES_MOST {
+        let row = row_of(tree, k);
+        parents[k] = row.parent;
+        counts[k] = row.count;
     }
     0
 }
@@ -98,14 +78,11 @@ pub fn node_rows(tree: Tree, rows: &mut [Row]) -> u32
     ensures { (result ≡ rows_refusal tree (length rows.old))
         × (rows.new ≡ rows_then result rows.old (rows_of tree)) }
 {
-    let why = rows_refusal(tree, rows.len());
-    if why != 0 {
+    if let Err(why) = judge(tree, rows.len() == NODES_MOST) {
         return why;
     }
-    let mut k = 0;
-    while k < NODES_MOST {
-        rows[k] = row_of(tree, k);
-        k += 1;
+    for (k, row) in rows.iter_mut().enumerate() {
+        *row = row_of(tree, k);
     }
     0
 }

@@ -45,29 +45,13 @@ fn all_older(parents: &[u32; NODES_MOST], nodes: usize) -> bool
     requires { nodes ≤ nodes_most }
     ensures { result ≡ every_below nodes (older_among parents.now) }
 {
-    let mut k = 0;
-    while k < nodes {
-        if !is_older(parents, k) {
-            return false;
-        }
-        k += 1;
-    }
-    true
+    (0..nodes).all(|k| is_older(parents, k))
 }
 
 fn is_sound(nodes: usize, owner: usize, name: usize, value: usize) -> bool
     ensures { result ≡ sound_with nodes owner name value }
 {
-    if nodes <= owner {
-        return false;
-    }
-    if name < 1 {
-        return false;
-    }
-    if NAME_MOST < name {
-        return false;
-    }
-    value <= STORE_SIZE
+    owner < nodes && 1 <= name && name <= NAME_MOST && value <= STORE_SIZE
 }
 
 fn all_sound(
@@ -81,19 +65,12 @@ fn all_sound(
     ensures { result
         ≡ every_below held (sound_among nodes owners.now name_sizes.now value_sizes.now) }
 {
-    let mut i = 0;
-    while i < held {
-        if !is_sound(
-            nodes,
-            wide(owners[i]),
-            wide(name_sizes[i]),
-            wide(value_sizes[i]),
-        ) {
-            return false;
-        }
-        i += 1;
-    }
-    true
+    (0..held).all(|i| is_sound(
+        nodes,
+        wide(owners[i]),
+        wide(name_sizes[i]),
+        wide(value_sizes[i]),
+    ))
 }
 
 // The live bytes. 128 lengths of 32 bits do not overflow, so the sum needs no lengths in their limits.
@@ -106,10 +83,8 @@ pub fn live_bytes(
     ensures { result ≡ live_among name_sizes.now value_sizes.now held 0 }
 {
     let mut sum = 0;
-    let mut i = 0;
-    while i < held {
+    for i in 0..held {
         sum += wide(name_sizes[i]) + wide(value_sizes[i]);
-        i += 1;
     }
     sum
 }
@@ -118,31 +93,21 @@ pub fn live_bytes(
 fn counted(nodes: usize, held: usize) -> bool
     ensures { result ≡ whole_counted nodes held }
 {
-    if nodes < 2 {
-        return false;
-    }
-    if NODES_MOST < nodes {
-        return false;
-    }
-    held <= PROPERTIES_MOST
+    2 <= nodes && nodes <= NODES_MOST && held <= PROPERTIES_MOST
 }
 
 // Whether every count, length and node of the tree is in its limits, live bytes included.
 pub fn is_whole(tree: Tree) -> bool
     ensures { result ≡ whole_tree tree }
 {
-    if !counted(tree.nodes, tree.held) {
-        return false;
-    }
-    let parents = tree.parents;
-    if !all_older(&parents, tree.nodes) {
-        return false;
-    }
-    let owners = tree.owners;
-    let name_sizes = tree.name_sizes;
-    let value_sizes = tree.value_sizes;
-    if !all_sound(tree.nodes, &owners, &name_sizes, &value_sizes, tree.held) {
-        return false;
-    }
-    live_bytes(&name_sizes, &value_sizes, tree.held) <= STORE_SIZE
+    counted(tree.nodes, tree.held)
+        && all_older(&tree.parents, tree.nodes)
+        && all_sound(
+            tree.nodes,
+            &tree.owners,
+            &tree.name_sizes,
+            &tree.value_sizes,
+            tree.held,
+        )
+        && live_bytes(&tree.name_sizes, &tree.value_sizes, tree.held) <= STORE_SIZE
 }

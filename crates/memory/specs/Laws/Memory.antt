@@ -8,7 +8,10 @@ use Rattle.std.proofs.Math.Bool.{true, false}
 use Rattle.std.proofs.lemmas.Bool.{false≢true, lt-leb}
 use Rattle.std.proofs.Math.ListN.{length}
 use Rattle.std.proofs.lemmas.List.Edits.{sets, sets-eq}
-use Rattle.std.proofs.Math.Seq.{length-sets, set_out}
+use Rattle.std.proofs.Math.Seq.{length-sets, set_out, paste, take_all}
+use Rattle.std.proofs.Common.{length-take-le}
+use Rattle.std.proofs.lemmas.Slice.{put_mid-paste}
+use borrow.Rule.Slice.PartMut.{put_mid}
 use Rattle.std.proofs.lemmas.List.{set_comm}
 use Rattle.cells.specs.Choice.{pick}
 use Rattle.cells.specs.Laws.Tests.{pick_is}
@@ -32,6 +35,17 @@ pub written_is : (m : List ℕ) (at : ℕ) (bs : List ℕ) → at + length bs �
     → written_of m at bs ≡ take at m ++ (bs ++ drop (at + length bs) m)
 written_is m at bs h =
     written_sets m at bs ∙ sets-eq bs m at h ∙ append_assoc (take at m) bs (drop (at + length bs) m)
+
+-- the library's name for a part that is replaced
+pub paste_written : (m : List ℕ) (at : ℕ) (s : List ℕ) (n : ℕ) → at + n ≤ length m → n ≤ length s
+    → paste m at s n ≡ written_of m at (take n s)
+paste_written m at s n h f =
+    let e = length-take-le n s f in
+    rw (written_is m at (take n s) (omega arith), e) (append_assoc (take at m) (take n s) (drop (at + n) m))
+
+pub part_written : (m : List ℕ) (at n : ℕ) (bs : List ℕ) → length bs ≡ n → at + n ≤ length m → put_mid at n m bs ≡ written_of m at bs
+part_written m at n bs e h =
+    put_mid-paste at n m bs bs n refl refl (sym e) ∙ paste_written m at bs n h (omega arith) ∙ ap (written_of m at) (take_all n bs (omega arith))
 
 -- one byte, and one part behind the other
 pub written_more : (m : List ℕ) (at b : ℕ) (bs : List ℕ) → written_of m at (b ∷ bs) ≡ written_of (set m at b) (at + 1) bs

@@ -1,25 +1,12 @@
-use Rattle.std.proofs.Common.{length-set, refl, sym, ◌∙◌, arith}
-use Rattle.tree.specs.Laws.Clean.{zeros_more, zeros_none}
+use Rattle.std.proofs.Common.{sym, rules}
+use Rattle.tree.specs.Laws.Clean.{zeros_none}
+use Rattle.tree.proofs.Lists.{zeroed_part}
 use Rattle.tree.proofs.in_place.clear_up_to.Goals as goal
 
-pub loop-k-init : goal.loop-k-init
-loop-k-init c = (refl, refl)
+pub returns-then-at-end : goal.returns-then-at-end
+returns-then-at-end c =
+    let a = c.args in
+    rw (c.fill.ensures.after (search rules)) (zeroed_part a.memory.now a.at a.end _ (search rules) (search rules) (search rules))
 
-pub bounds-memory-k : goal.bounds-memory-k
-bounds-memory-k c = let l = c.loop-k-test.true in let e = c.loop-k.invariant.0 in let h = c.requires in omega arith
-
-pub loop-k-smaller : goal.loop-k-smaller
-loop-k-smaller c = let l = c.loop-k-test.true in omega arith
-
-pub loop-k-preserved : goal.loop-k-preserved
-loop-k-preserved c =
-    let args = c.args in (
-      length-set c.loop-k.memory c.loop-k.k 0 ∙ c.loop-k.invariant.0,
-      zeros_more c.loop-k.memory c.loop-k.k args.end c.loop-k-test.true
-          ∙ c.loop-k.invariant.1,
-    )
-
-pub returns : goal.returns
-returns c =
-    let args = c.args in
-    sym (zeros_none c.loop-k.memory c.loop-k.k args.end c.loop-k-test.false) ∙ c.loop-k.invariant.1
+pub returns-else-at-end : goal.returns-else-at-end
+returns-else-at-end c = let a = c.args in sym (zeros_none a.memory.now a.at a.end (search rules))

@@ -1,9 +1,8 @@
 use Rattle.cells.specs.Choice.{pick}
-use Rattle.tree.specs.Laws.InPlace.{among_them, bad_name_lem, large_value, inside, value_grows, changed}
+use Rattle.tree.specs.Laws.InPlace.{bad_name_lem, large_value, inside, value_grows, changed}
 use Rattle.tree.specs.Laws.Trees.{length_value}
 use Rattle.tree.specs.Property.{value_of}
-use Rattle.tree.specs.declared.property.Found.{Found}
-use Rattle.std.proofs.Common.{length-append, [], ◌∷◌, sym, ap, ◌∙◌, arith, rules}
+use Rattle.std.proofs.Common.{length-append, [], ◌∷◌, sym, ◌∙◌, arith, rules}
 use Rattle.tree.proofs.in_place.put_in.Goals as goal
 
 pub returns-then-bad_name : goal.returns-then-bad_name
@@ -30,15 +29,7 @@ returns-then-value-gt-STORE_SIZE c =
 
 pub add_property-requires : goal.add_property-requires
 add_property-requires c =
-    let p = c.requires in
-    let e = c.find_among-found.ensures in (
-      p,
-      sym c.bad_name.ensures
-          ∙ c.if-bad_name.false,
-      c.if-value-gt-STORE_SIZE.false,
-      λ t. sym (ap (λ (x : Found). x.index) (e t))
-          ∙ c.if-index-held.true,
-    )
+    (c.requires, sym c.bad_name.ensures ∙ c.if-bad_name.false, c.if-value-gt-STORE_SIZE.false, c.in_default.ensures)
 
 pub offset_bounds-value_sizes-index : goal.offset_bounds-value_sizes-index
 offset_bounds-value_sizes-index c =
@@ -48,11 +39,9 @@ offset_bounds-value_sizes-index c =
     let p = u in
     let n = a.name.now in
     let v = value_of a.value.now a.null in
-    let f = c.find_among-found.result in
-    let e = c.find_among-found.ensures in
-    let h = among_them a.node n v a.store.now a.owners.now a.name_sizes.now a.value_sizes.now a.held
-    a.tail p f e
-    c.if-index-held.false in
+    let f = c.in-Some.found in
+    let e = c.in-Some.ensures.1 in
+    let h = c.in-Some.ensures.0 in
     let k = p.3 in
     search rules
 
@@ -64,11 +53,9 @@ bounds-value_sizes-index c =
     let p = u in
     let n = a.name.now in
     let v = value_of a.value.now a.null in
-    let f = c.find_among-found.result in
-    let e = c.find_among-found.ensures in
-    let h = among_them a.node n v a.store.now a.owners.now a.name_sizes.now a.value_sizes.now a.held
-    a.tail p f e
-    c.if-index-held.false in
+    let f = c.in-Some.found in
+    let e = c.in-Some.ensures.1 in
+    let h = c.in-Some.ensures.0 in
     let k = p.3 in
     omega arith
 
@@ -82,11 +69,9 @@ overflow_sub-live c =
     let v = value_of a.value.now a.null in
     let b = sym c.bad_name.ensures
     ∙ c.if-bad_name.false in
-    let f = c.find_among-found.result in
-    let e = c.find_among-found.ensures in
-    let h = among_them a.node n v a.store.now a.owners.now a.name_sizes.now a.value_sizes.now a.held
-    a.tail p f e
-    c.if-index-held.false in
+    let f = c.in-Some.found in
+    let e = c.in-Some.ensures.1 in
+    let h = c.in-Some.ensures.0 in
     let q = inside a.node n v a.store.now a.owners.now a.name_sizes.now a.value_sizes.now a.held
     a.tail p b f e h in
     let w = c.wide-old.ensures.0 in
@@ -101,11 +86,9 @@ returns-then-live-gt-STORE_SIZE c =
     let n = a.name.now in
     let v = value_of a.value.now a.null in
     let b = sym c.bad_name.ensures ∙ c.if-bad_name.false in
-    let f = c.find_among-found.result in
-    let e = c.find_among-found.ensures in
-    let h = among_them a.node n v a.store.now a.owners.now a.name_sizes.now a.value_sizes.now a.held
-    a.tail p f e
-    c.if-index-held.false in
+    let f = c.in-Some.found in
+    let e = c.in-Some.ensures.1 in
+    let h = c.in-Some.ensures.0 in
     let q = inside a.node n v a.store.now a.owners.now a.name_sizes.now a.value_sizes.now a.held
     a.tail p b f e h in
     let w = c.wide-old.ensures.0 in
@@ -125,11 +108,9 @@ overflow_add-found c =
     let n = a.name.now in
     let v = value_of a.value.now a.null in
     let b = sym c.bad_name.ensures ∙ c.if-bad_name.false in
-    let f = c.find_among-found.result in
-    let e = c.find_among-found.ensures in
-    let h = among_them a.node n v a.store.now a.owners.now a.name_sizes.now a.value_sizes.now a.held
-    a.tail p f e
-    c.if-index-held.false in
+    let f = c.in-Some.found in
+    let e = c.in-Some.ensures.1 in
+    let h = c.in-Some.ensures.0 in
     let q = inside a.node n v a.store.now a.owners.now a.name_sizes.now a.value_sizes.now a.held
     a.tail p b f e h in
     let w = c.wide-old.ensures.0 in
@@ -146,11 +127,9 @@ replace-requires c =
     let n = a.name.now in
     let v = value_of a.value.now a.null in
     let b = sym c.bad_name.ensures ∙ c.if-bad_name.false in
-    let f = c.find_among-found.result in
-    let e = c.find_among-found.ensures in
-    let h = among_them a.node n v a.store.now a.owners.now a.name_sizes.now a.value_sizes.now a.held
-    a.tail p f e
-    c.if-index-held.false in
+    let f = c.in-Some.found in
+    let e = c.in-Some.ensures.1 in
+    let h = c.in-Some.ensures.0 in
     let q = inside a.node n v a.store.now a.owners.now a.name_sizes.now a.value_sizes.now a.held
     a.tail p b f e h in
     let w = c.wide-old.ensures.0 in (
@@ -168,11 +147,9 @@ offset_bounds-value_sizes-index-2 c =
     let p = u in
     let n = a.name.now in
     let v = value_of a.value.now a.null in
-    let f = c.find_among-found.result in
-    let e = c.find_among-found.ensures in
-    let h = among_them a.node n v a.store.now a.owners.now a.name_sizes.now a.value_sizes.now a.held
-    a.tail p f e
-    c.if-index-held.false in
+    let f = c.in-Some.found in
+    let e = c.in-Some.ensures.1 in
+    let h = c.in-Some.ensures.0 in
     let k = p.3 in
     search rules
 
@@ -184,11 +161,9 @@ bounds-value_sizes-index-2 c =
     let p = u in
     let n = a.name.now in
     let v = value_of a.value.now a.null in
-    let f = c.find_among-found.result in
-    let e = c.find_among-found.ensures in
-    let h = among_them a.node n v a.store.now a.owners.now a.name_sizes.now a.value_sizes.now a.held
-    a.tail p f e
-    c.if-index-held.false in
+    let f = c.in-Some.found in
+    let e = c.in-Some.ensures.1 in
+    let h = c.in-Some.ensures.0 in
     let k = p.3 in
     omega arith
 
@@ -201,11 +176,9 @@ returns c =
     let n = a.name.now in
     let v = value_of a.value.now a.null in
     let b = sym c.bad_name.ensures ∙ c.if-bad_name.false in
-    let f = c.find_among-found.result in
-    let e = c.find_among-found.ensures in
-    let h = among_them a.node n v a.store.now a.owners.now a.name_sizes.now a.value_sizes.now a.held
-    a.tail p f e
-    c.if-index-held.false in
+    let f = c.in-Some.found in
+    let e = c.in-Some.ensures.1 in
+    let h = c.in-Some.ensures.0 in
     let q = inside a.node n v a.store.now a.owners.now a.name_sizes.now a.value_sizes.now a.held
     a.tail p b f e h in
     let w = c.wide-old.ensures.0 in

@@ -5,6 +5,3 @@ use Rattle.tree.proofs.lookup.child_named.Given as goal
 -- the child from here on is the child
 abbrev pub invariant-loop-k : goal.invariant-loop-k
 invariant-loop-k l = child_from l.tree l.store l.node l.part (l.tree.nodes - l.k) l.k ≡ child_named l.tree l.store l.node l.part
-
-abbrev pub decreases-loop-k : goal.decreases-loop-k
-decreases-loop-k l = l.tree.nodes - l.k

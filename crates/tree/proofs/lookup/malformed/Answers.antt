@@ -3,36 +3,22 @@ use Rattle.tree.specs.Path.{any_empty}
 use Rattle.tree.specs.Laws.Path.{pathless, headless, headed, no_parts, some_parts}
 use Rattle.tree.proofs.lookup.malformed.Goals as goal
 
-pub returns-then-path-lt1 : goal.returns-then-path-lt1
+pub returns-in-47 : goal.returns-in-47
 unfolding any_empty
-returns-then-path-lt1 c =
-    let args = c.args in
-    sym (pathless args.path.now c.if-path-lt1.true)
+returns-in-47 c =
+    let p = c.args.path.now in
+    sym (headed p (search rules) (search rules) ∙ ap any_empty (no_parts p (search rules)))
 
-pub bounds-path-0 : goal.bounds-path-0
-unfolding any_empty
-bounds-path-0 c = search rules
+pub returns-in-47-2 : goal.returns-in-47-2
+returns-in-47-2 c =
+    let p = c.args.path.now in
+    c.any_empty.ensures ∙ sym (headed p (search rules) (search rules) ∙ ap any_empty (some_parts p (search rules)))
 
-pub returns-then-path-ne-SLASH : goal.returns-then-path-ne-SLASH
-unfolding any_empty
-returns-then-path-ne-SLASH c =
-    let args = c.args in
-    sym (headless args.path.now c.if-path-ne-SLASH.true)
+pub returns-in_default : goal.returns-in_default
+returns-in_default c = sym (pathless c.args.path.now (search rules))
 
-pub returns-then-path-eq1 : goal.returns-then-path-eq1
-unfolding any_empty
-returns-then-path-eq1 c =
-    let args = c.args in
-    let p = args.path.now in
-    sym (headed p (search rules) c.if-path-ne-SLASH.false ∙ ap any_empty (no_parts p c.if-path-eq1.true))
+pub returns-in_default-2 : goal.returns-in_default-2
+returns-in_default-2 c = sym (headless c.args.path.now (search rules))
 
-pub any_empty-requires : goal.any_empty-requires
-unfolding any_empty
-any_empty-requires c = search rules
-
-pub returns : goal.returns
-unfolding any_empty
-returns c =
-    let args = c.args in
-    let p = args.path.now in
-    c.any_empty.ensures ∙ sym (headed p (search rules) c.if-path-ne-SLASH.false ∙ ap any_empty (some_parts p (search rules)))
+pub returns-in_default-3 : goal.returns-in_default-3
+returns-in_default-3 c = sym (headless c.args.path.now (search rules))

@@ -1,4 +1,4 @@
-use Rattle.std.proofs.Common.{◌+◌, ◌-◌, ◌≤◌, ◌≡◌, length, drop}
+use Rattle.std.proofs.Common.{◌+◌, ◌≤◌, ◌≡◌, length, drop}
 use Rattle.tree.specs.Laws.Path.{part_end}
 use Rattle.tree.proofs.lookup.part_end.Given as goal
 
@@ -6,6 +6,3 @@ use Rattle.tree.proofs.lookup.part_end.Given as goal
 abbrev pub invariant-loop-end : goal.invariant-loop-end
 invariant-loop-end l = (l.at ≤ l.end) × (l.end ≤ length l.path)
     × (l.end + part_end (drop l.end l.path) ≡ l.at + part_end (drop l.at l.path))
-
-abbrev pub decreases-loop-end : goal.decreases-loop-end
-decreases-loop-end l = length l.path - l.end

@@ -1,20 +1,19 @@
-use Rattle.std.proofs.Common.{lt-ltb, le-ltb, rules}
-use Rattle.tree.specs.Property.{bad_name}
-use Rattle.tree.specs.Whole.{name_most}
+use Rattle.std.proofs.Common.{◌≡◌, true, false, not, ap, rules}
+use borrow.Author.Tests.{tests}
+use Rattle.std.proofs.lemmas.Iterator.{cases_from_all, YieldsList-from_slice}
+use Rattle.tree.specs.Property.{name_byte}
+use Rattle.tree.proofs.Lists.{name_told, name_sized, name_unsized}
 use Rattle.tree.proofs.property.bad_name.Goals as goal
 
-pub returns-then-name-lt1 : goal.returns-then-name-lt1
-unfolding bad_name
-returns-then-name-lt1 c = rw (lt-ltb _ 1 c.if-name-lt1.true)
+pub returns-then-not-contains : goal.returns-then-not-contains
+returns-then-not-contains c =
+    let n : c.contains.result ≡ false = search (rules, tests) in
+    rw (n, name_unsized c.args.name.now (λ h g. let t : c.contains.result ≡ true = search (rules, tests) in search rules))
 
-pub returns-then-name-gt-NAME_MOST : goal.returns-then-name-gt-NAME_MOST
-unfolding bad_name
-returns-then-name-gt-NAME_MOST c = rw (le-ltb _ 1 c.if-name-lt1.false, lt-ltb name_most _ c.if-name-gt-NAME_MOST.true)
-
-pub all_name_bytes-requires : goal.all_name_bytes-requires
-unfolding bad_name
-all_name_bytes-requires c = search rules
-
-pub returns : goal.returns
-unfolding bad_name
-returns c = rw (le-ltb _ 1 c.if-name-lt1.false, le-ltb name_most _ c.if-name-gt-NAME_MOST.false, c.all_name_bytes.ensures)
+pub returns-else-not-contains : goal.returns-else-not-contains
+returns-else-not-contains c =
+    let n = c.args.name.now in
+    rw (name_sized n (search (rules, tests)) (search (rules, tests)))
+    (ap not (name_told n c.all.result
+    (cases_from_all _ _ _ (λ b. name_byte b ≡ true) (λ b. name_byte b ≡ false) c.all.ensures.ran (YieldsList-from_slice n cc)
+    (λ x q k. search (rules, tests)) (λ x q k. search (rules, tests)))))

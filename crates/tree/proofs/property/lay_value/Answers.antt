@@ -9,7 +9,7 @@ returns-then-null c =
     ∙ rw (c.copy_in.ensures, c.if-null.true)
     (sym (laid_null a.store.now a.at a.value.now))
 
-pub returns : goal.returns
-returns c =
+pub returns-else-null : goal.returns-else-null
+returns-else-null c =
     let a = c.args in
     c.copy_in.ensures ∙ rw c.if-null.false (sym (laid_bare a.store.now a.at a.value.now))

@@ -8,4 +8,4 @@ returns-then-tree-k c = let a = c.args in sym (row_unused a.tree a.k (search rul
 pub returns : goal.returns
 returns c =
     let a = c.args in
-    rw (c.parent.ensures, c.count_of.ensures) (sym (row_used a.tree a.k (search rules)))
+    rw (c.count_of.ensures) (sym (row_used a.tree a.k (search rules)))

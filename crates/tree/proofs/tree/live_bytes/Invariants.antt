@@ -6,6 +6,3 @@ use Rattle.tree.proofs.tree.live_bytes.Given as goal
 abbrev pub invariant-loop-i : goal.invariant-loop-i
 invariant-loop-i l = (l.i ≤ l.held) × (l.sum ≤ l.i * 8589934592)
     × (l.sum + live_among l.name_sizes l.value_sizes (l.held - l.i) l.i ≡ live_among l.name_sizes l.value_sizes l.held 0)
-
-abbrev pub decreases-loop-i : goal.decreases-loop-i
-decreases-loop-i l = l.held - l.i
