@@ -32,7 +32,8 @@ cleared_part m at k n e z =
     rw z (part_written m k (length m - k) (replicate (length m - k) 0) (length-replicate (length m - k) 0) (omega arith)
     ∙ elim (dec_le at (length m)) [
       | yes h ↦ let p : k ≡ at = omega arith in rw p
-      | no h ↦ written_out m k (replicate (length m - k) 0) (omega arith) ∙ sym (written_out m at (replicate (length m - at) 0) (omega arith))
+      | no h ↦ written_out m k (replicate (length m - k) 0) (omega arith)
+          ∙ sym (written_out m at (replicate (length m - at) 0) (omega arith))
     ])
 
 -- bytes that are not there, or have no room

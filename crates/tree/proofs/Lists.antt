@@ -3,7 +3,7 @@ use Prim.Native.Nat.{ℕ, zero, suc, ◌+◌, ◌-◌, ◌≤◌, ◌<◌}
 use Rattle.std.proofs.Common.{add-one, zero-add, sym, ap, ◌∙◌, arith, drop-cons, lt-ltb, le-ltb}
 use Rattle.std.specs.Prelude.{Bool, true, false, not, ◌&&◌, cond, List, [], ◌∷◌, ◌≡◌, refl, length, get_or, take, drop, replicate, eqb}
 use Rattle.std.specs.Bool.{MatchBool}
-use Rattle.std.specs.List.{range_with_len, list_all, count_by, AllWithin, HoldsAt}
+use Rattle.std.specs.List.{range_with_len, list_all, count_by, slice_split, onto_first, AllWithin, HoldsAt}
 use Rattle.std.proofs.lemmas.List.FromFn.{get_or-range_with_len, length-range_with_len}
 use Rattle.cells.specs.Laws.Facts.{holds, is_true}
 use Rattle.std.proofs.lemmas.List.Recursion.{is_count_by}
@@ -14,6 +14,8 @@ use Rattle.cells.specs.Choice.{pick}
 use Rattle.tree.specs.Rows.{count_from}
 use Rattle.tree.specs.Whole.{every_below, name_most}
 use Rattle.tree.specs.Property.{name_byte, all_name_bytes, bad_name}
+use Rattle.tree.specs.Path.{slash, longer, split_of, is_empty, any_empty}
+use Rattle.std.proofs.Math.Bool.{or-true}
 use Rattle.tree.specs.Joints.Steps.{zeroed_of}
 use Rattle.memory.specs.Laws.Memory.{part_written}
 use Rattle.std.proofs.Math.Decide.{dec_le}
@@ -99,5 +101,47 @@ module _ (node : ℕ) where
       let more = counted_from owners n (i + 1) (omega arith) in
       rw (drop-cons owners i 0 l, ← add-one i, more) (one_more (eqb (get_or owners i 0) node) (count_from owners node n (i + 1)))
 
-  pub counted_first : (owners : List ℕ) (n : ℕ) → n ≤ length owners → count_by (λ x. eqb x node) (take n owners) ≡ count_from owners node n 0
+  pub counted_first : (owners : List ℕ) (n : ℕ) → n ≤ length owners
+      → count_by (λ x. eqb x node) (take n owners) ≡ count_from owners node n 0
   counted_first owners n h = sym (counted_by (take n owners)) ∙ counted_from owners n 0 (omega arith)
+
+-- the parts of a path
+by_slash : (b : ℕ) (ps : List (List ℕ)) → longer b ps ≡ onto_first b ps
+by_slash b [] = refl
+by_slash b (p ∷ ps) = refl
+
+pub split_listed : (bs : List ℕ) → split_of bs ≡ slice_split (λ b. eqb b slash) bs
+unfolding split_of
+split_listed [] = refl
+split_listed (b ∷ bs) =
+    elim (eqb b slash) as (λ t. elim t [ true ↦ [] ∷ split_of bs | false ↦ longer b (split_of bs) ]
+    ≡ cond t ([] ∷ slice_split (λ c. eqb c slash) bs) (onto_first b (slice_split (λ c. eqb c slash) bs))) [
+      | true ↦ ap (λ (ps : List (List ℕ)). [] ∷ ps) (split_listed bs)
+      | false ↦ ap (longer b) (split_listed bs) ∙ by_slash b (slice_split (λ c. eqb c slash) bs)
+    ]
+
+empty_yes : (part : List ℕ) → length part ≡ 0 → is_empty part ≡ true
+empty_yes [] e = refl
+empty_yes (b ∷ bs) e = absurd (omega arith)
+
+empty_no : (part : List ℕ) → (length part ≡ 0 → ⊥) → is_empty part ≡ false
+empty_no [] n = absurd (n refl)
+empty_no (b ∷ bs) n = refl
+
+any_at : (parts : List (List ℕ)) (k : ℕ) → k < length parts → length (get_or parts k []) ≡ 0 → any_empty parts ≡ true
+unfolding any_empty
+any_at [] k h e = absurd (omega arith)
+any_at (p ∷ ps) zero h e = rw (empty_yes p e)
+any_at (p ∷ ps) (suc k) h e = rw (any_at ps k (omega arith) e) (or-true (is_empty p))
+
+none_at : (parts : List (List ℕ)) → ((k : ℕ) → k < length parts → length (get_or parts k []) ≡ 0 → ⊥) → any_empty parts ≡ false
+unfolding any_empty
+none_at [] n = refl
+none_at (p ∷ ps) n = rw (empty_no p (n 0 (omega arith))) (none_at ps (λ k h. n (suc k) (omega arith)))
+
+pub empty_told : (parts : List (List ℕ)) (r : Bool)
+    → MatchBool r ((k : ℕ) × (k < length parts) × HoldsAt (λ part. length part ≡ 0) parts k)
+    (AllWithin (λ part. length part ≡ 0 → ⊥) parts 0 (length parts))
+    → r ≡ any_empty parts
+empty_told parts true h = sym (any_at parts h.0 h.1 (h.2 []))
+empty_told parts false h = sym (none_at parts (λ k l. h k [] (omega arith) l))

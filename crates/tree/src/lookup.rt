@@ -41,22 +41,11 @@ fn part_end(path: &[u8], at: usize) -> usize
     path.len()
 }
 
-// Whether one of the parts from a place on is empty. The last part is there even where nothing stands behind the last slash.
-fn any_empty(path: &[u8], from: usize) -> bool
-    requires { from ≤ length path.now }
-    ensures { result ≡ any_empty (split_of (drop from path.now)) }
+// Whether one of the parts between slashes is empty. The last part is there even where nothing stands behind the last slash.
+fn any_empty(parts: &[u8]) -> bool
+    ensures { result ≡ any_empty (split_of parts.now) }
 {
-    let mut at = from;
-    loop {
-        let end = part_end(path, at);
-        if end == at {
-            return true;
-        }
-        if end == path.len() {
-            return false;
-        }
-        at = end + 1;
-    }
+    parts.split(|b| *b == SLASH).any(|part| part.is_empty())
 }
 
 // Whether a path is neither "/" nor parts with a slash before each.
@@ -65,7 +54,7 @@ fn malformed(path: &[u8]) -> bool
 {
     match path {
         [SLASH] => false,
-        [SLASH, _, ..] => any_empty(path, 1),
+        [SLASH, _, ..] => any_empty(&path[1..]),
         _ => true,
     }
 }
@@ -141,6 +130,7 @@ fn down(store: &[u8], tree: Tree, path: &[u8], from: usize) -> NodeSought
 {
     let mut node = 0;
     let mut at = from;
+    // a loop: the next part begins where a slash says, no count
     loop {
         let end = part_end(path, at);
         let NodeSought::Node(child) = child_named(store, tree, node, &path[at..end]) else {

@@ -1,7 +1,8 @@
 // The node table for the installer: a row for each node.
 ghost use Rattle.std.specs.Prelude.{◌≡◌, ◌≢◌, ◌≤◌, ◌<◌, true, length, MatchResult};
 ghost use Rattle.tree.specs.Whole.{whole_tree};
-ghost use Rattle.tree.specs.Rows.{count_from, node_row, lent_refusal, table_refusal, rows_refusal, rows_then, parents_of, counts_of, rows_of};
+ghost use Rattle.tree.specs.Rows.{count_from, node_row, lent_refusal, table_refusal, rows_refusal, rows_then};
+ghost use Rattle.tree.specs.Rows.{parents_of, counts_of, rows_of};
 ghost use Rattle.rom.specs.Sizes.{nodes_most, properties_most};
 
 use crate::tree::{Tree, is_whole};
@@ -43,7 +44,8 @@ fn row_of(tree: Tree, k: usize) -> Row
 
 // Whether rows may be written: 6 where their number is not the nodes', and then 7.
 fn judge(tree: Tree, sized: bool) -> Result<(), u32>
-    ensures { MatchResult result (λ _. (sized ≡ true) × (whole_tree tree ≡ true)) (λ why. (why ≡ lent_refusal sized tree) × (why ≢ 0)) }
+    ensures { MatchResult result (λ _. (sized ≡ true) × (whole_tree tree ≡ true))
+        (λ why. (why ≡ lent_refusal sized tree) × (why ≢ 0)) }
 {
     if !sized {
         return Err(6);

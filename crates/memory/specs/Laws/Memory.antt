@@ -45,7 +45,8 @@ paste_written m at s n h f =
 
 pub part_written : (m : List ℕ) (at n : ℕ) (bs : List ℕ) → length bs ≡ n → at + n ≤ length m → put_mid at n m bs ≡ written_of m at bs
 part_written m at n bs e h =
-    put_mid-paste at n m bs bs n refl refl (sym e) ∙ paste_written m at bs n h (omega arith) ∙ ap (written_of m at) (take_all n bs (omega arith))
+    put_mid-paste at n m bs bs n refl refl (sym e) ∙ paste_written m at bs n h (omega arith)
+    ∙ ap (written_of m at) (take_all n bs (omega arith))
 
 -- one byte, and one part behind the other
 pub written_more : (m : List ℕ) (at b : ℕ) (bs : List ℕ) → written_of m at (b ∷ bs) ≡ written_of (set m at b) (at + 1) bs

@@ -15,7 +15,8 @@ returns-in-Err c =
     let sized : c.if-parents-eq-NODES_MOST.sized ≡ eqb (length a.parents.now) nodes_most && eqb (length a.counts.now) nodes_most =
     elim c.if-parents-eq-NODES_MOST.branch [
       | then-parents-eq-NODES_MOST w ↦ rw (eq-eqb (length a.parents.now) nodes_most w.if-parents-eq-NODES_MOST.true) w.sized-is
-      | else-parents-eq-NODES_MOST w ↦ let n = ne_eqb (length a.parents.now) nodes_most w.if-parents-eq-NODES_MOST.false in rw n (w.sized-is ∙ n)
+      | else-parents-eq-NODES_MOST w ↦
+          let n = ne_eqb (length a.parents.now) nodes_most w.if-parents-eq-NODES_MOST.false in rw n (w.sized-is ∙ n)
     ] in
     (rw (← sized) e.0, rw (ne_eqb c.in-Err.why 0 e.1), rw (ne_eqb c.in-Err.why 0 e.1))
 

@@ -11,7 +11,8 @@ returns-then-all_sound c =
           elim c.if-all_older.branch [
             | then-all_older v ↦
                 rw c.live_bytes.ensures
-                (whole_but_live t (sym c.counted.ensures ∙ w.if-counted.true) (sym w.all_older.ensures ∙ sym w.value-is ∙ v.if-all_older.true)
+                (whole_but_live t (sym c.counted.ensures ∙ w.if-counted.true)
+                (sym w.all_older.ensures ∙ sym w.value-is ∙ v.if-all_older.true)
                 (sym v.all_sound.ensures ∙ sym v.value-is ∙ c.if-all_sound.true))
             | else-all_older v ↦ absurd (cc)
           ]
