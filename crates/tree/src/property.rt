@@ -43,6 +43,7 @@ fn same_words(a: &[u8], b: &[u8]) -> bool
 {
     let last = a.len() - 8;
     let mut k = 0;
+    // a while: a step is eight bytes, and no step is left for the last eight
     while k < last {
         if !same_eight(a, b, k) {
             return false;
@@ -61,12 +62,10 @@ pub fn same_bytes(a: &[u8], b: &[u8]) -> bool
     if 8 <= a.len() {
         return same_words(a, b);
     }
-    let mut k = 0;
-    while k < a.len() {
+    for k in 0..a.len() {
         if a[k] != b[k] {
             return false;
         }
-        k += 1;
     }
     true
 }

@@ -6,5 +6,3 @@ use Rattle.tree.proofs.property.same_bytes.Given as goal
 abbrev pub invariant-loop-k : goal.invariant-loop-k
 invariant-loop-k l = (l.k ≤ length l.a) × (length l.a ≡ length l.b) × (same_bytes (drop l.k l.a) (drop l.k l.b) ≡ same_bytes l.a l.b)
 
-abbrev pub decreases-loop-k : goal.decreases-loop-k
-decreases-loop-k l = length l.a - l.k
