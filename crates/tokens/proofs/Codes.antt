@@ -10,7 +10,7 @@ use Rattle.cells.specs.Laws.Tests.{Rest, find_none}
 use Rattle.tokens.specs.Row.{Row}
 use Rattle.tokens.specs.Table.{ends, lows, highs, doubles, table, row_of, not_listed}
 use Rattle.tokens.specs.Code.{code_of}
-use Rattle.tokens.specs.Joints.Glance.{two_bytes, first_says}
+use Rattle.tokens.specs.Joints.Glance.{first_says}
 use Rattle.tokens.proofs.Lookup.{clear, find_clear, find_append}
 
 nothing : (n : ℕ) → row_of n ≡ not_listed → 0 ≡ code_of n
@@ -37,14 +37,6 @@ left_over s m t low high n e c d b l h r =
     ∙ find_clear low high t not_listed n d l h)
 
 -- what the code's matches leave over
-pub no_low : (n : ℕ) → 0x10 ≤ n → n ≤ 0x59 → Rest (Unit {0}) lows n → 0 ≡ code_of n
-unfolding table ends lows highs doubles
-no_low n l h r = left_over ends lows (highs ++ doubles) 0x10 0x59 n refl tt tt (omega arith) l h r
-
-pub no_high : (n : ℕ) → 0x6D ≤ n → n ≤ 0xCC → Rest (Unit {0}) highs n → 0 ≡ code_of n
-unfolding table ends lows highs doubles
-no_high n l h r = left_over (ends ++ lows) highs doubles 0x6D 0xCC n refl tt tt (omega arith) l h r
-
 pub no_single : (n : ℕ) → n ≤ 0xFF → Rest (Unit {0}) (ends ++ (lows ++ highs)) n → 0 ≡ code_of n
 unfolding table ends lows highs doubles
 no_single n h r = left_over [] (ends ++ (lows ++ highs)) doubles 0 0xFF n refl tt tt (omega arith) (omega arith) h r
@@ -73,14 +65,6 @@ pub before_lows : (n : ℕ) → (n ≡ 0 → ⊥) → n < 0x10 → 0 ≡ code_of
 unfolding table ends lows highs doubles
 before_lows n z h = gap 1 0xF n tt (omega arith) (omega (arith, z)) (omega arith)
 
-pub before_highs : (n : ℕ) → 0x59 < n → n < 0x6D → 0 ≡ code_of n
-unfolding table ends lows highs doubles
-before_highs n l h = gap 0x5A 0x6C n tt (omega arith) l (omega arith)
-
-pub before_end : (n : ℕ) → (n ≡ 0xFF → ⊥) → 0xCC < n → n < 0x100 → 0 ≡ code_of n
-unfolding table ends lows highs doubles
-before_end n z l h = gap 0xCD 0xFE n tt (omega arith) l (omega (arith, z))
-
 pub before_doubles : (n : ℕ) → 0x100 ≤ n → n < 0x110 → 0 ≡ code_of n
 unfolding table ends lows highs doubles
 before_doubles n l h = gap 0x100 0x10F n tt (omega arith) l (omega arith)
@@ -90,18 +74,6 @@ unfolding table ends lows highs doubles
 before_programs n l h = gap 0x202 0x7FF n tt (omega arith) l (omega arith)
 
 -- ---- what a first byte says
-not_zero : (n : ℕ) → Rest (Unit {0}) (ends ++ (lows ++ highs)) n → n ≡ 0 → ⊥
-unfolding code_of row_of table ends lows highs doubles
-not_zero n r e = let z = no_single n (omega arith) r in let y = rw e at z in omega arith
-
-pub first_of_two : (b : ℕ) → b < 0x10 → Rest (Unit {0}) (ends ++ (lows ++ highs)) b → two_bytes ≡ first_says b
-unfolding first_says
-first_of_two b h r =
-    let z = not_zero b r in
-    let l : 1 ≤ b = omega (arith, z) in
-    let k : b ≤ 0xF = omega arith in
-    rw (le-leb _ _ l, le-leb _ _ k)
-
 pub first_of_none : (b : ℕ) → 0x10 ≤ b → b ≤ 0xFF → Rest (Unit {0}) (ends ++ (lows ++ highs)) b → 0 ≡ first_says b
 unfolding first_says
 first_of_none b l h r =

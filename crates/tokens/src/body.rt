@@ -39,44 +39,31 @@ pub fn number_in(operand: Operand) -> u32
     ensures { result ≡ number_in operand }
 {
     match operand {
-        Operand::Nothing => 0,
-        Operand::Literal(_) => 0,
-        Operand::Text { start: _, count: _ } => 0,
-        Operand::Branch { bits: _, aim: _ } => 0,
         Operand::Number(number) => number,
-        Operand::Definition { number: _, kind: _ } => 0,
+        _ => 0,
     }
 }
 
 // Refusal 12: a program number that is not defined, or b(to) of what is no value.
+#[tactic(auto, unfolding(crate::specs::Body::unknown_of))]
 pub fn unknown(kinds: &[u8; PROGRAMS_MOST], token: Token) -> bool
     ensures { result ≡ unknown_of kinds.now token }
 {
-    let work = family_of(token.code);
-    match work {
+    match family_of(token.code) {
         family::CALL => kind_of(kinds, token.number) == 0,
-        family::ASSIGN => {
-            let operand = token.operand;
-            kind_of(kinds, number_in(operand)) != 0xB8
-        }
+        family::ASSIGN => kind_of(kinds, number_in(token.operand)) != 0xB8,
         _ => false,
     }
 }
 
-// Further than any program reaches: what stands for no place.
+// Further than any program reaches: what stands for no place. As an `Option` a run takes 6 in 100 more instructions.
 const BEYOND: usize = 0x1_0000_0000;
 
 // Whether a byte is one of the tokens that bodies have most of, from u/mod to 2* and from -1 to 3. It is asked before the others.
 fn is_frequent(first: u8) -> bool
     ensures { result ≡ frequent first }
 {
-    if first <= 0x59 {
-        0x2B <= first
-    } else if first <= 0xA8 {
-        0xA4 <= first
-    } else {
-        false
-    }
+    matches!(first, 0x2B..=0x59 | 0xA4..=0xA8)
 }
 
 // `passed` where a token's number has two bytes.
@@ -151,11 +138,7 @@ fn passed(rom: &[u8], wide: bool, kinds: &[u8; PROGRAMS_MOST], place: u32) -> us
 fn ends_at(rom: &[u8], length: u32, place: u32) -> bool
     ensures { result ≡ ends_at rom.now length place }
 {
-    if place < length {
-        byte(rom, place as usize) == 0xC2
-    } else {
-        false
-    }
+    place < length && byte(rom, place as usize) == 0xC2
 }
 
 // How a body ends at a place that it does not go on behind: with its b(;), or with a token that is refused, which a good one is by 12.
@@ -166,10 +149,7 @@ fn stopped(rom: &[u8], length: u32, wide: bool, place: u32) -> Body
         return Body::Ends(place);
     }
     match read_at(rom, length, wide, true, place) {
-        Read::Refused(why) => Body::Stops {
-            at: place,
-            why: why,
-        },
+        Read::Refused(why) => Body::Stops { at: place, why },
         Read::Good(_) => Body::Stops { at: place, why: 12 },
     }
 }
@@ -185,6 +165,7 @@ pub fn read_body(
     ensures { result ≡ body_of rom.now length wide kinds.now place }
 {
     let mut at = place;
+    // a loop: the next place is what the token at one says, no count
     loop {
         let next = passed(rom, wide, kinds, at);
         if (length as usize) < next {

@@ -41,13 +41,10 @@ pub enum Decoded {
 }
 
 // Whether a number has two bytes, by its first.
-fn is_double(first: u8) -> bool
+pub fn is_double(first: u8) -> bool
     ensures { result ≡ is_double first }
 {
-    match first {
-        0x01..=0x0F => true,
-        _ => false,
-    }
+    matches!(first, 0x01..=0x0F)
 }
 
 // The number at a place.
@@ -57,9 +54,9 @@ pub fn number_at(rom: &[u8], spread: Spread, at: usize) -> u32
 {
     let first = fcode_byte(rom, spread, at);
     if is_double(first) {
-        (first as u32) * 256 + (fcode_byte(rom, spread, at + 1) as u32)
+        u32::from(first) * 256 + u32::from(fcode_byte(rom, spread, at + 1))
     } else {
-        first as u32
+        u32::from(first)
     }
 }
 
@@ -80,7 +77,7 @@ pub fn behind_string(rom: &[u8], spread: Spread, at: usize) -> usize
     requires { at < 2 ^ 40 }
     ensures { (result ≡ behind_string (view_of spread rom.now) at) × (at < result) × (result ≤ at + 256) }
 {
-    at + 1 + (fcode_byte(rom, spread, at) as usize)
+    at + 1 + usize::from(fcode_byte(rom, spread, at))
 }
 
 pub fn behind_offset(at: usize, wide: bool) -> usize
@@ -91,6 +88,7 @@ pub fn behind_offset(at: usize, wide: bool) -> usize
 }
 
 // The place behind an operand of a form.
+#[tactic(auto, unfolding(crate::specs::Decode::behind_of))]
 fn behind(rom: &[u8], spread: Spread, wide: bool, at: usize, form: u32) -> usize
     requires { at < 2 ^ 34 }
     ensures { (result ≡ behind_of (view_of spread rom.now) wide at form) × (at ≤ result) × (result ≤ at + 260) }
@@ -113,11 +111,12 @@ fn definition_at(rom: &[u8], spread: Spread, at: usize) -> Operand
 {
     Operand::Definition {
         number: number_at(rom, spread, at),
-        kind: fcode_byte(rom, spread, behind_number(rom, spread, at)) as u32,
+        kind: u32::from(fcode_byte(rom, spread, behind_number(rom, spread, at))),
     }
 }
 
 // The operand of a form at a place.
+#[tactic(auto, unfolding(crate::specs::Decode::operand_of))]
 fn operand_at(rom: &[u8], spread: Spread, length: u32, wide: bool, at: u32, form: u32) -> Operand
     requires { form ≡ 2 → at + 1 < 2 ^ 32 }
     ensures { result ≡ operand_of (view_of spread rom.now) length wide at form }
@@ -127,7 +126,7 @@ fn operand_at(rom: &[u8], spread: Spread, length: u32, wide: bool, at: u32, form
         1 => Operand::Literal(fcode_word32(rom, spread, at)),
         2 => Operand::Text {
             start: at + 1,
-            count: fcode_byte(rom, spread, k) as u32,
+            count: u32::from(fcode_byte(rom, spread, k)),
         },
         3 => Operand::Branch {
             bits: offset(rom, spread, wide, at),
@@ -143,30 +142,20 @@ fn operand_at(rom: &[u8], spread: Spread, length: u32, wide: bool, at: u32, form
 pub fn is_program(number: u32) -> bool
     ensures { result ≡ is_program number }
 {
-    match number {
-        0x800..=0xFFF => true,
-        _ => false,
-    }
+    matches!(number, 0x800..=0xFFF)
 }
 
 fn is_kind(byte: u32) -> bool
     ensures { result ≡ is_kind byte }
 {
-    match byte {
-        0xB7..=0xBA => true,
-        _ => false,
-    }
+    matches!(byte, 0xB7..=0xBA)
 }
 
 // A definition has a program's number and a kind.
 pub fn is_definition(number: u32, kind: u32) -> bool
     ensures { result ≡ (is_program number && is_kind kind) }
 {
-    if is_program(number) {
-        is_kind(kind)
-    } else {
-        false
-    }
+    is_program(number) && is_kind(kind)
 }
 
 // Whether a whole token is one of the list's: its number is, and a definition is well formed.
@@ -177,12 +166,8 @@ fn listed(code: u32, operand: Operand) -> bool
         return false;
     }
     match operand {
-        Operand::Nothing => true,
-        Operand::Literal(_) => true,
-        Operand::Text { start: _, count: _ } => true,
-        Operand::Branch { bits: _, aim: _ } => true,
-        Operand::Number(_) => true,
         Operand::Definition { number, kind } => is_definition(number, kind),
+        _ => true,
     }
 }
 
@@ -202,9 +187,9 @@ pub fn decode(rom: &[u8], spread: Spread, length: u32, wide: bool, place: u32) -
     let operand = operand_at(rom, spread, length, wide, start as u32, form);
     if listed(code, operand) {
         Decoded::Whole(Token {
-            number: number,
-            code: code,
-            operand: operand,
+            number,
+            code,
+            operand,
             next: next as u32,
         })
     } else {

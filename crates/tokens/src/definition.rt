@@ -11,12 +11,8 @@ pub fn new_number(operand: Operand) -> u32
     ensures { result ≡ new_number operand }
 {
     match operand {
-        Operand::Nothing => 0,
-        Operand::Literal(_) => 0,
-        Operand::Text { start: _, count: _ } => 0,
-        Operand::Branch { bits: _, aim: _ } => 0,
-        Operand::Number(_) => 0,
-        Operand::Definition { number, kind: _ } => number,
+        Operand::Definition { number, .. } => number,
+        _ => 0,
     }
 }
 
@@ -25,12 +21,8 @@ pub fn kind_in(operand: Operand) -> u32
     ensures { result ≡ kind_in operand }
 {
     match operand {
-        Operand::Nothing => 0,
-        Operand::Literal(_) => 0,
-        Operand::Text { start: _, count: _ } => 0,
-        Operand::Branch { bits: _, aim: _ } => 0,
-        Operand::Number(_) => 0,
-        Operand::Definition { number: _, kind } => kind,
+        Operand::Definition { kind, .. } => kind,
+        _ => 0,
     }
 }
 
@@ -40,8 +32,7 @@ pub fn takes_here(token: Token) -> u32
 {
     let own = takes_of(token.code);
     if family_of(token.code) == family::DEFINE {
-        let operand = token.operand;
-        own + takes_of(code_of(kind_in(operand)))
+        own + takes_of(code_of(kind_in(token.operand)))
     } else {
         own
     }

@@ -6,14 +6,14 @@ ghost use Rattle.tokens.specs.Decode.{is_double};
 ghost use Rattle.tokens.specs.Joints.Glance.{nothing_seen, first_says, ended_of, branched_of, glance_defined, seen_from, glance_of};
 ghost use Rattle.tokens.specs.Joints.Quick.{Codes};
 
-use crate::code::double_code;
+use crate::code::{TWO_BYTES, double_code};
 use crate::decoding::{behind_number, behind_offset, behind_string, is_definition, number_at};
 use rom::{Spread, byte, destination};
 
 // A whole token of the list: its code; the number that it is about, which behind b(to) is the one that stands there, of a definition the
 // new one, and else its own; the place behind it; where a branch leads, 0 for outside; and the kind byte of a definition. A string's bytes
 // lie from the second byte behind the token's place up to the next place. What is cut off or not in the list has the code 0, and zeros.
-#[derive(Clone, Copy)]
+#[derive(Clone, Copy, Default)]
 pub struct Glance {
     pub code: u32,
     pub number: u32,
@@ -22,10 +22,13 @@ pub struct Glance {
     pub kind: u32,
 }
 
-// What the table says of a first byte that has a second: a form that no code has.
-const TWO_BYTES: u32 = 0x00_07_00_00;
-
 // The codes of the numbers of one byte, again: this match has one caller, so that the compiler makes byte, code and form one jump there.
+// With one load from `FIRST_CODES` in its place a run takes 2 to 7 in 100 more instructions.
+#[tactic(auto, unfolding(
+// a number's row, as a code
+crate::specs::Joints::Glance::first_says, crate::specs::Code::code_of, crate::specs::Table::row_of, crate::specs::Table::table,
+// the parts of the list
+crate::specs::Table::ends, crate::specs::Table::lows, crate::specs::Table::highs, crate::specs::Table::doubles))]
 fn first_code(first: u8) -> u32
     ensures { result ≡ first_says first }
 {
@@ -123,13 +126,7 @@ fn first_code(first: u8) -> u32
 fn nothing() -> Glance
     ensures { result ≡ nothing_seen }
 {
-    Glance {
-        code: 0,
-        number: 0,
-        next: 0,
-        aim: 0,
-        kind: 0,
-    }
+    Glance::default()
 }
 
 // A token of which nothing is left to say but whether it ends before the length.
@@ -140,11 +137,10 @@ fn ended(length: u32, code: u32, number: u32, next: usize) -> Glance
         return nothing();
     }
     Glance {
-        code: code,
-        number: number,
+        code,
+        number,
         next: next as u32,
-        aim: 0,
-        kind: 0,
+        ..nothing()
     }
 }
 
@@ -157,11 +153,11 @@ fn branched(rom: &[u8], length: u32, wide: bool, code: u32, number: u32, start: 
         return nothing();
     }
     Glance {
-        code: code,
-        number: number,
+        code,
+        number,
         next: next as u32,
         aim: destination(rom, length, wide, start),
-        kind: 0,
+        ..nothing()
     }
 }
 
@@ -175,14 +171,14 @@ fn defined(rom: &[u8], length: u32, code: u32, at: usize) -> Glance
         return nothing();
     }
     let number = number_at(rom, Spread::One, at);
-    let kind = byte(rom, end) as u32;
+    let kind = u32::from(byte(rom, end));
     if is_definition(number, kind) {
         Glance {
-            code: code,
-            number: number,
+            code,
+            number,
             next: (end + 1) as u32,
-            aim: 0,
-            kind: kind,
+            kind,
+            ..nothing()
         }
     } else {
         nothing()
@@ -236,11 +232,10 @@ pub fn glance_from(rom: &[u8], length: u32, wide: bool, place: u32, first: u8, c
             return nothing();
         }
         return Glance {
-            code: code,
+            code,
             number: first as u32,
             next: place + 1,
-            aim: 0,
-            kind: 0,
+            ..nothing()
         };
     }
     if code == TWO_BYTES {

@@ -3,8 +3,6 @@
 ghost use Rattle.std.specs.Prelude.{◌≡◌};
 ghost use Rattle.tokens.specs.Name.{front_of, rest_of};
 
-use crate::decoding::is_program;
-
 // The first eight letters; what is not in the list has none.
 pub fn name_front(number: u32) -> u64
     ensures { result ≡ front_of number }
@@ -104,13 +102,8 @@ pub fn name_front(number: u32) -> u64
         0x11F => 0x6E_65_77_2D_64_65_76_69, // new-device
         0x127 => 0x66_69_6E_69_73_68_2D_64, // finish-device
         0x201 => 0x64_65_76_69_63_65_2D_6E, // device-name
-        _ => {
-            if is_program(number) {
-                0x70_72_6F_67_72_61_6D_20 // program number
-            } else {
-                0
-            }
-        }
+        0x800..=0xFFF => 0x70_72_6F_67_72_61_6D_20, // program number
+        _ => 0,
     }
 }
 
@@ -131,12 +124,7 @@ pub fn name_rest(number: u32) -> u64
         0x11F => 0x63_65, // new-device
         0x127 => 0x65_76_69_63_65, // finish-device
         0x201 => 0x61_6D_65, // device-name
-        _ => {
-            if is_program(number) {
-                0x6E_75_6D_62_65_72 // program number
-            } else {
-                0
-            }
-        }
+        0x800..=0xFFF => 0x6E_75_6D_62_65_72, // program number
+        _ => 0,
     }
 }

@@ -13,6 +13,7 @@ pub enum Read {
 }
 
 // Whether a token of a code is out of place: `within` says that a body is read or a call is open.
+#[tactic(auto, unfolding(crate::specs::Place::misplaced_of))]
 pub fn out_of_place(code: u32, within: bool) -> bool
     ensures { result ≡ misplaced_of code within }
 {
@@ -32,6 +33,7 @@ fn misfit(code: u32, within: bool) -> u32
 }
 
 // The token at a place, if it may stand there.
+#[tactic(auto, unfolding(crate::specs::Place::read_of))]
 pub fn read_at(rom: &[u8], length: u32, wide: bool, within: bool, place: u32) -> Read
     ensures { result ≡ read_of rom.now length wide within place }
 {

@@ -50,11 +50,7 @@ pub fn program_end(rom: &[u8], spread: Spread) -> u32
 fn width_behind(wide: bool, code: u32) -> bool
     ensures { result ≡ width_behind wide code }
 {
-    if family_of(code) == family::WIDEN {
-        true
-    } else {
-        wide
-    }
+    wide || family_of(code) == family::WIDEN
 }
 
 // What stands at a place of a ROM with a spread, with the offset width in force there.
@@ -77,19 +73,12 @@ pub fn piece_in(rom: &[u8], spread: Spread, wide: bool, place: u32) -> Piece
             let start = behind_number(rom, spread, place as usize) as u32;
             let behind = width_behind(wide, token.code);
             Piece::Listed {
-                token: token,
-                start: start,
+                token,
+                start,
                 wide: behind,
             }
         }
     }
-}
-
-// The same of a ROM as it is lent, whose first byte tells the spread.
-fn piece_at(rom: &[u8], wide: bool, place: u32) -> Piece
-    ensures { result ≡ piece_of (fcode_of rom.now) wide place }
-{
-    piece_in(rom, spread_of(rom), wide, place)
 }
 
 // A reader at the program's first place, of a ROM as it is lent.
@@ -108,7 +97,7 @@ pub fn new<'a>(rom: &'a [u8]) -> Reader<'a>
 pub fn next<'a>(r: Reader<'a>) -> Piece
     ensures { result ≡ piece_of (fcode_of r.entry.rom.now) r.entry.wide r.entry.place }
 {
-    piece_at(r.rom, r.wide, r.place)
+    piece_in(r.rom, spread_of(r.rom), r.wide, r.place)
 }
 
 // The reader at another place of its ROM.

@@ -11,80 +11,12 @@ use Rattle.tokens.proofs.body.passed.Goals as goal
 abbrev keys : List ℕ
 keys = 0x10 ∷ 0x12 ∷ 0x13 ∷ 0x14 ∷ 0x6D ∷ 0x71 ∷ 0x72 ∷ 0x75 ∷ 0x7B ∷ 0xB1 ∷ 0xB2 ∷ 0xC3 ∷ []
 
-pub byte-first-requires : goal.byte-first-requires
-unfolding misplaced_of code_of row_of table ends lows highs doubles
-byte-first-requires c = search rules
-
-pub is_frequent-requires : goal.is_frequent-requires
-unfolding misplaced_of code_of row_of table ends lows highs doubles
-is_frequent-requires c = search rules
-
-pub overflow_add-result : goal.overflow_add-result
-unfolding misplaced_of code_of row_of table ends lows highs doubles
-overflow_add-result c = search rules
-
 pub returns-then-is_frequent : goal.returns-then-is_frequent
 unfolding misplaced_of code_of row_of table ends lows highs doubles
 returns-then-is_frequent c =
     let a = c.args in
     frequent_passed a.rom.now a.wide a.kinds.now a.place c.byte-first.result c.byte-first.ensures
     (sym c.is_frequent.ensures ∙ c.if-is_frequent.true)
-
-pub overflow_add-result-in-16 : goal.overflow_add-result-in-16
-unfolding misplaced_of code_of row_of table ends lows highs doubles
-overflow_add-result-in-16 c = search rules
-
-pub overflow_add-at : goal.overflow_add-at
-unfolding misplaced_of code_of row_of table ends lows highs doubles
-overflow_add-at c = search rules
-
-pub behind_string-requires : goal.behind_string-requires
-unfolding misplaced_of code_of row_of table ends lows highs doubles
-behind_string-requires c = search rules
-
-pub overflow_add-at-in-19 : goal.overflow_add-at-in-19
-unfolding misplaced_of code_of row_of table ends lows highs doubles
-overflow_add-at-in-19 c = search rules
-
-pub behind_offset-requires : goal.behind_offset-requires
-unfolding misplaced_of code_of row_of table ends lows highs doubles
-behind_offset-requires c = search rules
-
-pub overflow_add-at-in-20 : goal.overflow_add-at-in-20
-unfolding misplaced_of code_of row_of table ends lows highs doubles
-overflow_add-at-in-20 c = search rules
-
-pub behind_offset-requires-in-20 : goal.behind_offset-requires-in-20
-unfolding misplaced_of code_of row_of table ends lows highs doubles
-behind_offset-requires-in-20 c = search rules
-
-pub overflow_add-result-in-109 : goal.overflow_add-result-in-109
-unfolding misplaced_of code_of row_of table ends lows highs doubles
-overflow_add-result-in-109 c = search rules
-
-pub overflow_add-result-in-113 : goal.overflow_add-result-in-113
-unfolding misplaced_of code_of row_of table ends lows highs doubles
-overflow_add-result-in-113 c = search rules
-
-pub overflow_add-result-in-114 : goal.overflow_add-result-in-114
-unfolding misplaced_of code_of row_of table ends lows highs doubles
-overflow_add-result-in-114 c = search rules
-
-pub overflow_add-result-in-117 : goal.overflow_add-result-in-117
-unfolding misplaced_of code_of row_of table ends lows highs doubles
-overflow_add-result-in-117 c = search rules
-
-pub overflow_add-result-in-123 : goal.overflow_add-result-in-123
-unfolding misplaced_of code_of row_of table ends lows highs doubles
-overflow_add-result-in-123 c = search rules
-
-pub overflow_add-result-in-177 : goal.overflow_add-result-in-177
-unfolding misplaced_of code_of row_of table ends lows highs doubles
-overflow_add-result-in-177 c = search rules
-
-pub overflow_add-result-in-178 : goal.overflow_add-result-in-178
-unfolding misplaced_of code_of row_of table ends lows highs doubles
-overflow_add-result-in-178 c = search rules
 
 pub passed_to-requires : goal.passed_to-requires
 unfolding misplaced_of code_of row_of table ends lows highs doubles
@@ -93,14 +25,6 @@ passed_to-requires c = sym c.byte-first.ensures ∙ c.in-195.is
 pub passed_double-requires : goal.passed_double-requires
 unfolding misplaced_of code_of row_of table ends lows highs doubles
 passed_double-requires c = (c.byte-first.ensures, sym (among 1 0xF c.byte-first.result (search rules) (search rules)))
-
-pub overflow_add-result-in-30-to-32 : goal.overflow_add-result-in-30-to-32
-unfolding misplaced_of code_of row_of table ends lows highs doubles
-overflow_add-result-in-30-to-32 c = search rules
-
-pub overflow_add-result-in-35-to-41 : goal.overflow_add-result-in-35-to-41
-unfolding misplaced_of code_of row_of table ends lows highs doubles
-overflow_add-result-in-35-to-41 c = search rules
 
 pub returns-in-16 : goal.returns-in-16
 unfolding misplaced_of code_of row_of table ends lows highs doubles

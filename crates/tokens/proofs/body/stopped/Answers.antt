@@ -7,9 +7,6 @@ returns-then-ends_at c =
     let a = c.args in
     ends_here a.rom.now a.length a.wide a.place (sym c.ends_at.ensures ∙ c.if-ends_at.true)
 
-pub returns-in-Refused : goal.returns-in-Refused
-returns-in-Refused c = rw (← c.read_at.ensures, c.in-Refused.is)
-
 pub returns-in-Good : goal.returns-in-Good
 returns-in-Good c =
     let a = c.args in

@@ -1,61 +1,22 @@
-use Rattle.tokens.proofs.Codes.{before_lows, before_highs, before_end, beyond}
-use Rattle.tokens.specs.Code.{code_of}
+use Rattle.std.proofs.Common.{◌∙◌, sym, ap, arith}
 use Rattle.tokens.specs.Table.{ends, lows, highs, doubles, table, row_of}
-use Rattle.std.proofs.Common.{rules}
+use Rattle.tokens.specs.Code.{code_of}
+use Rattle.tokens.specs.Joints.Glance.{first_says}
+use Rattle.tokens.specs.Joints.Quick.{Codes}
+use Rattle.tokens.specs.declared.code.TheConstants.{FIRST_CODES}
+use Rattle.tokens.proofs.Codes.{before_lows}
+use Rattle.tokens.proofs.Quicks.{codes_are}
+use Rattle.tokens.proofs.Ranges.{bounds}
 use Rattle.tokens.proofs.code.code_of.Goals as goal
 
-pub low-requires : goal.low-requires
-unfolding code_of row_of table ends lows highs doubles
-low-requires c = search rules
+pub returns-in-Ok : goal.returns-in-Ok
+returns-in-Ok c =
+    let b = bounds 1 0xF c.in-Ok.first (sym c.is_double.ensures ∙ c.if-is_double.true) in
+    let e = c.in-Ok.ensures in
+    before_lows c.args.number (λ z. omega arith) (omega arith)
 
-pub high-requires : goal.high-requires
-unfolding code_of row_of table ends lows highs doubles
-high-requires c = search rules
-
-pub double_code-requires : goal.double_code-requires
-unfolding code_of row_of table ends lows highs doubles
-double_code-requires c = search rules
-
-pub returns-in-0 : goal.returns-in-0
-unfolding code_of row_of table ends lows highs doubles
-returns-in-0 c = rw c.in-0.is
-
-pub returns-in-255 : goal.returns-in-255
-unfolding code_of row_of table ends lows highs doubles
-returns-in-255 c = rw c.in-255.is
-
-pub returns-in-16-to-89 : goal.returns-in-16-to-89
-unfolding code_of row_of table ends lows highs doubles
-returns-in-16-to-89 c = c.low.ensures
-
-pub returns-in-109-to-204 : goal.returns-in-109-to-204
-unfolding code_of row_of table ends lows highs doubles
-returns-in-109-to-204 c = c.high.ensures
-
-pub returns-in-256-to-4095 : goal.returns-in-256-to-4095
-unfolding code_of row_of table ends lows highs doubles
-returns-in-256-to-4095 c = c.double_code.ensures
-
-pub returns-in_default : goal.returns-in_default
-unfolding code_of row_of table ends lows highs doubles
-returns-in_default c =
-    let args = c.args in
-    before_lows args.number c.in_default.in_default-own.rest.0.1 (search rules)
-
-pub returns-in_default-2 : goal.returns-in_default-2
-unfolding code_of row_of table ends lows highs doubles
-returns-in_default-2 c =
-    let args = c.args in
-    before_highs args.number (search rules) (search rules)
-
-pub returns-in_default-3 : goal.returns-in_default-3
-unfolding code_of row_of table ends lows highs doubles
-returns-in_default-3 c =
-    let args = c.args in
-    before_end args.number c.in_default.in_default-own.rest.1 (search rules) (search rules)
-
-pub returns-in_default-4 : goal.returns-in_default-4
-unfolding code_of row_of table ends lows highs doubles
-returns-in_default-4 c =
-    let args = c.args in
-    beyond args.number (search rules) (search rules)
+pub returns-in-Ok-2 : goal.returns-in-Ok-2
+unfolding Codes first_says code_of row_of table ends lows highs doubles
+returns-in-Ok-2 c =
+    let d = sym c.is_double.ensures ∙ c.if-is_double.false in
+    rw d at (codes_are FIRST_CODES tt c.in-Ok.first (omega arith)) ∙ ap code_of c.in-Ok.ensures.1

@@ -5,8 +5,8 @@ use Rattle.tokens.proofs.decoding.decode.Goals as goal
 
 pub returns-then-length-next : goal.returns-then-length-next
 returns-then-length-next c =
-    let found : Found (view_of (c.before.before.before.before.before).args.spread (c.before.before.before.before.before).args.rom.now)
-    (c.before.before.before.before.before).args.wide (c.before.before.before.before.before).args.place c.number_at-number.result
+    let found : Found (view_of c.args.spread c.args.rom.now)
+    c.args.wide c.args.place c.number_at-number.result
     c.code_of-code.result c.behind_number-start.result c.behind-next.result = record {
       numbered = c.number_at-number.ensures;
       coded = c.code_of-code.ensures;
@@ -14,12 +14,12 @@ returns-then-length-next c =
       ends =
           c.behind-next.ensures.0;
     } in
-    cut_off found (c.before.before.before.before.before).args.length (search rules)
+    cut_off found c.args.length (search rules)
 
 pub operand_at-operand-requires : goal.operand_at-operand-requires
 operand_at-operand-requires c =
-    let found : Found (view_of (c.before.before.before.before.before).args.spread (c.before.before.before.before.before).args.rom.now)
-    (c.before.before.before.before.before).args.wide (c.before.before.before.before.before).args.place c.number_at-number.result
+    let found : Found (view_of c.args.spread c.args.rom.now)
+    c.args.wide c.args.place c.number_at-number.result
     c.code_of-code.result c.behind_number-start.result c.behind-next.result = record {
       numbered = c.number_at-number.ensures;
       coded = c.code_of-code.ensures;
@@ -27,12 +27,12 @@ operand_at-operand-requires c =
       ends =
           c.behind-next.ensures.0;
     } in
-    string_fits found (c.before.before.before.before.before).args.length (search rules) (search rules)
+    string_fits found c.args.length (search rules) (search rules)
 
 pub returns-then-listed : goal.returns-then-listed
 returns-then-listed c =
-    let found : Found (view_of (c.before.before.before.before.before).args.spread (c.before.before.before.before.before).args.rom.now)
-    (c.before.before.before.before.before).args.wide (c.before.before.before.before.before).args.place c.number_at-number.result
+    let found : Found (view_of c.args.spread c.args.rom.now)
+    c.args.wide c.args.place c.number_at-number.result
     c.code_of-code.result c.behind_number-start.result c.behind-next.result = record {
       numbered = c.number_at-number.ensures;
       coded = c.code_of-code.ensures;
@@ -40,14 +40,14 @@ returns-then-listed c =
       ends =
           c.behind-next.ensures.0;
     } in
-    is_whole found (c.before.before.before.before.before).args.length c.operand_at-operand.result c.operand_at-operand.ensures
+    is_whole found c.args.length c.operand_at-operand.result c.operand_at-operand.ensures
     (search rules)
     (sym c.listed.ensures ∙ c.if-listed.true)
 
 pub returns-else-listed : goal.returns-else-listed
 returns-else-listed c =
-    let found : Found (view_of (c.before.before.before.before.before).args.spread (c.before.before.before.before.before).args.rom.now)
-    (c.before.before.before.before.before).args.wide (c.before.before.before.before.before).args.place c.number_at-number.result
+    let found : Found (view_of c.args.spread c.args.rom.now)
+    c.args.wide c.args.place c.number_at-number.result
     c.code_of-code.result c.behind_number-start.result c.behind-next.result = record {
       numbered = c.number_at-number.ensures;
       coded = c.code_of-code.ensures;
@@ -55,6 +55,6 @@ returns-else-listed c =
       ends =
           c.behind-next.ensures.0;
     } in
-    is_unlisted found (c.before.before.before.before.before).args.length c.operand_at-operand.result c.operand_at-operand.ensures
+    is_unlisted found c.args.length c.operand_at-operand.result c.operand_at-operand.ensures
     (search rules)
     (sym c.listed.ensures ∙ c.if-listed.false)

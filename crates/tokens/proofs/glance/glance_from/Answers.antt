@@ -17,9 +17,10 @@ returns-then-code-eq0 c =
     let e = c.requires in
     let f = c.if-code-eq0.true in
     let h = has_none a.first a.code e.2 (λ t. omega arith) in
-    in_time a.length _ _ _ (search rules)
+    rw c.nothing-then-code-eq0.ensures
+    (in_time a.length _ _ _ (search rules)
     ∙ of_none a.rom.now a.length a.wide a.code a.first (a.place + 1) c.if-code-eq0-2.false f
-    ∙ of_one a.rom.now a.length a.wide a.place a.first a.code e.1 h.0 h.1
+    ∙ of_one a.rom.now a.length a.wide a.place a.first a.code e.1 h.0 h.1)
 
 pub doubled-requires : goal.doubled-requires
 doubled-requires c =

@@ -2,56 +2,8 @@ use Rattle.cells.specs.Laws.Tests.{find_none}
 use Rattle.tokens.specs.Laws.GlanceForms.{of_literal, of_string, of_branch, of_number, of_head, of_named, of_other}
 use Rattle.tokens.specs.Decode.{behinds, behind_of, operands, operand_of}
 use Rattle.tokens.specs.declared.decoding.Operand.TheVariants.{Nothing}
-use Rattle.std.proofs.Common.{◌∙◌, rules}
+use Rattle.std.proofs.Common.{◌∙◌}
 use Rattle.tokens.proofs.glance.with_operand.Goals as goal
-
-pub overflow_add-at : goal.overflow_add-at
-unfolding behind_of operand_of
-overflow_add-at c = search rules
-
-pub ended-requires : goal.ended-requires
-unfolding behind_of operand_of
-ended-requires c = search rules
-
-pub behind_string-requires : goal.behind_string-requires
-unfolding behind_of operand_of
-behind_string-requires c = search rules
-
-pub ended-requires-in-2 : goal.ended-requires-in-2
-unfolding behind_of operand_of
-ended-requires-in-2 c = search rules
-
-pub branched-requires : goal.branched-requires
-unfolding behind_of operand_of
-branched-requires c = search rules
-
-pub number_at-requires : goal.number_at-requires
-unfolding behind_of operand_of
-number_at-requires c = search rules
-
-pub behind_number-requires : goal.behind_number-requires
-unfolding behind_of operand_of
-behind_number-requires c = search rules
-
-pub ended-requires-in-4 : goal.ended-requires-in-4
-unfolding behind_of operand_of
-ended-requires-in-4 c = search rules
-
-pub defined-requires : goal.defined-requires
-unfolding behind_of operand_of
-defined-requires c = search rules
-
-pub behind_string-requires-in-6 : goal.behind_string-requires-in-6
-unfolding behind_of operand_of
-behind_string-requires-in-6 c = search rules
-
-pub defined-requires-in-6 : goal.defined-requires-in-6
-unfolding behind_of operand_of
-defined-requires-in-6 c = search rules
-
-pub ended-requires-in_default : goal.ended-requires-in_default
-unfolding behind_of operand_of
-ended-requires-in_default c = search rules
 
 pub returns-in-1 : goal.returns-in-1
 unfolding behind_of operand_of

@@ -1,13 +1,10 @@
-use Rattle.std.proofs.Common.{sym, ◌∙◌}
+use Rattle.std.proofs.Common.{sym, rules}
+use Rattle.tokens.proofs.Ranges.{among, under, over}
 use Rattle.rom.specs.Words.{letters_of}
 use Rattle.tokens.specs.Table.{ends, lows, highs, doubles, table, row_of}
 use Rattle.tokens.specs.Name.{name_of, packed_from, rest_of}
 use Rattle.tokens.proofs.Names.{program_rest, no_rest}
 use Rattle.tokens.proofs.name.name_rest.Goals as goal
-
-pub is_program-requires : goal.is_program-requires
-unfolding rest_of name_of packed_from row_of table ends lows highs doubles letters_of
-is_program-requires c = tt
 
 pub returns-in-178 : goal.returns-in-178
 unfolding rest_of name_of packed_from row_of table ends lows highs doubles letters_of
@@ -57,14 +54,20 @@ pub returns-in-513 : goal.returns-in-513
 unfolding rest_of name_of packed_from row_of table ends lows highs doubles letters_of
 returns-in-513 c = rw c.in-513.is
 
-pub returns-then-is_program : goal.returns-then-is_program
+pub returns-in-2048-to-4095 : goal.returns-in-2048-to-4095
 unfolding rest_of name_of packed_from row_of table ends lows highs doubles letters_of
-returns-then-is_program c =
+returns-in-2048-to-4095 c =
     let args = c.args in
-    program_rest args.number (sym c.is_program.ensures ∙ c.if-is_program.true)
+    program_rest args.number (sym (among 0x800 0xFFF args.number (search rules) (search rules)))
 
-pub returns-else-is_program : goal.returns-else-is_program
+pub returns-in_default : goal.returns-in_default
 unfolding rest_of name_of packed_from row_of table ends lows highs doubles letters_of
-returns-else-is_program c =
+returns-in_default c =
     let args = c.args in
-    no_rest args.number (sym c.is_program.ensures ∙ c.if-is_program.false) c.in_default.in_default-own.rest
+    no_rest args.number (sym (under 0x800 0xFFF args.number (search rules))) c.in_default.in_default-own.rest
+
+pub returns-in_default-2 : goal.returns-in_default-2
+unfolding rest_of name_of packed_from row_of table ends lows highs doubles letters_of
+returns-in_default-2 c =
+    let args = c.args in
+    no_rest args.number (sym (over 0x800 0xFFF args.number (search rules) (search rules))) c.in_default.in_default-own.rest
