@@ -1,5 +1,4 @@
-// The arithmetic and the comparisons of document 01's token list, on cells of 32 bits. Signed numbers are in two's complement, and no
-// signed type is used: the order of signed cells is the order of the cells with their highest bit turned.
+// The arithmetic and the comparisons of document 01's token list, on cells of 32 bits. A signed cell is cast where its sign counts.
 #![tactic(auto)]
 
 mod order;
@@ -26,25 +25,21 @@ pub enum Divided {
 pub fn plus(a: u32, b: u32) -> u32
     ensures { result ≡ plus_of a b }
 {
-    std::num::wrapping_add_u32(a, b)
+    a.wrapping_add(b)
 }
 
 // 1F -
 pub fn minus(a: u32, b: u32) -> u32
     ensures { result ≡ minus_of a b }
 {
-    if b <= a {
-        a - b
-    } else {
-        a + (u32::MAX - b) + 1
-    }
+    a.wrapping_sub(b)
 }
 
 // 20 *
 pub fn times(a: u32, b: u32) -> u32
     ensures { result ≡ times_of a b }
 {
-    (((a as u64) * (b as u64)) % 0x1_0000_0000) as u32
+    a.wrapping_mul(b)
 }
 
 // 23 and
@@ -72,32 +67,31 @@ pub fn xor(a: u32, b: u32) -> u32
 pub fn invert(a: u32) -> u32
     ensures { result ≡ invert_of a }
 {
-    u32::MAX - a
+    !a
 }
 
 // 27 lshift
+#[tactic(auto, unfolding(crate::specs::Arithmetic::lshift_of))]
 pub fn lshift(a: u32, n: u32) -> u32
     ensures { result ≡ lshift_of a n }
 {
-    if n < 32 { a << n } else { 0 }
+    a.checked_shl(n).unwrap_or(0)
 }
 
 // 28 rshift
+#[tactic(auto, unfolding(crate::specs::Arithmetic::rshift_of))]
 pub fn rshift(a: u32, n: u32) -> u32
     ensures { result ≡ rshift_of a n }
 {
-    if n < 32 { a >> n } else { 0 }
+    a.checked_shr(n).unwrap_or(0)
 }
 
-// 29 >>a: of a negative cell the turned bits are shifted, and turned back.
+// 29 >>a: from 31 places on every bit is the sign.
+#[tactic(auto, unfolding(crate::specs::Arithmetic::ashift_of))]
 pub fn ashift(a: u32, n: u32) -> u32
     ensures { result ≡ ashift_of a n }
 {
-    if 0x8000_0000 <= a {
-        invert(rshift(invert(a), n))
-    } else {
-        rshift(a, n)
-    }
+    (a.cast_signed() >> n.min(31)).cast_unsigned()
 }
 
 // 2B u/mod
@@ -118,14 +112,14 @@ pub fn u_mod(a: u32, b: u32) -> Divided
 pub fn negate(a: u32) -> u32
     ensures { result ≡ negate_of a }
 {
-    minus(0, a)
+    a.wrapping_neg()
 }
 
 // 2D abs
 pub fn abs(a: u32) -> u32
     ensures { result ≡ abs_of a }
 {
-    if a < 0x8000_0000 { a } else { negate(a) }
+    a.cast_signed().unsigned_abs()
 }
 
 // 2E min
@@ -143,6 +137,7 @@ pub fn max(a: u32, b: u32) -> u32
 }
 
 // 57 2/
+#[tactic(auto, unfolding(crate::specs::Arithmetic::ashift_of))]
 pub fn half(a: u32) -> u32
     ensures { result ≡ half_of a }
 {
@@ -160,5 +155,5 @@ pub fn u_half(a: u32) -> u32
 pub fn double(a: u32) -> u32
     ensures { result ≡ double_of a }
 {
-    std::num::wrapping_add_u32(a, a)
+    a.wrapping_mul(2)
 }

@@ -5,28 +5,20 @@ ghost use Rattle.cells.specs.Comparison.{zero_equal_of, zero_unequal_of, zero_le
 ghost use Rattle.cells.specs.Comparison.{zero_greater_of, zero_at_least_of, less_of, greater_of, equal_of};
 ghost use Rattle.cells.specs.Comparison.{unequal_of, u_greater_of, u_at_most_of, u_less_of, u_at_least_of};
 ghost use Rattle.cells.specs.Comparison.{at_least_of, at_most_of, between_of, within_of};
-ghost use Rattle.cells.specs.Laws.Cells.{rank_of};
 
 use crate::minus;
-
-// The cell with its highest bit turned: signed cells stand in the order of their ranks.
-fn rank(a: u32) -> u32
-    ensures { result ≡ rank_of a }
-{
-    std::num::wrapping_add_u32(a, 0x8000_0000)
-}
 
 // The two orders of signed cells: every comparison below that is signed goes by one of them.
 pub fn below(a: u32, b: u32) -> bool
     ensures { result ≡ int_lt (signed a) (signed b) }
 {
-    rank(a) < rank(b)
+    a.cast_signed() < b.cast_signed()
 }
 
 fn up_to(a: u32, b: u32) -> bool
     ensures { result ≡ int_le (signed a) (signed b) }
 {
-    rank(a) <= rank(b)
+    a.cast_signed() <= b.cast_signed()
 }
 
 fn flag_of(t: bool) -> u32
@@ -151,11 +143,7 @@ pub fn at_most(a: u32, b: u32) -> u32
 pub fn between(n: u32, min: u32, max: u32) -> u32
     ensures { result ≡ between_of n min max }
 {
-    if up_to(min, n) {
-        flag_of(up_to(n, max))
-    } else {
-        0
-    }
+    flag_of(up_to(min, n) && up_to(n, max))
 }
 
 // 45 within: circular, so that a range may run over the end of the cells.

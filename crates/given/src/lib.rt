@@ -2,7 +2,7 @@
 // A ROM is a word of bytes in hex, each of them alone or with how often it stands between two stars behind it: 'FD08007B*3*00'.
 #![tactic(auto)]
 
-ghost use Rattle.std.specs.Prelude.{◌≡◌, ◌<◌, ◌≤◌, IfOk, length, take};
+ghost use Rattle.std.specs.Prelude.{◌≡◌, ◌<◌, ◌≤◌, IfOk, IfSome, length, take};
 
 use std::io;
 use std::io::Read;
@@ -19,6 +19,7 @@ pub fn read_text<R: Read>(from: &mut R, room: &mut [u8]) -> io::Result<usize>
     ensures prefix { IfOk result (λ n. n ≡ length (take n room.new)) }
 {
     let mut done = 0;
+    // a while: the next place is as far as the last read came, no count
     while done < room.len() {
         let n = from.read(&mut room[done..])?;
         if n == 0 {
@@ -34,101 +35,72 @@ pub fn mark_from(text: &[u8], from: usize, mark: u8) -> usize
     requires { from ≤ length text.now }
     ensures { (from ≤ result) × (result ≤ length text.now) }
 {
-    for at in from..text.len() {
-        if text[at] == mark {
-            return at;
-        }
+    match text[from..].iter().position(|c| *c == mark) {
+        Some(k) => from + k,
+        None => text.len(),
     }
-    text.len()
 }
 
 // Where the word ends that starts at a place.
 pub fn word_end(text: &[u8], from: usize) -> usize
     ensures { result ≤ length text.now }
 {
-    if text.len() < from {
-        return text.len();
-    }
-    mark_from(text, from, b' ')
+    mark_from(text, from.min(text.len()), b' ')
 }
 
-// A hexadecimal digit's value, and 16 for any other character.
-fn value(c: u8) -> u8
-    ensures { result ≤ 16 }
+// The value of a hexadecimal digit.
+fn value(c: u8) -> Option<u8>
+    ensures { IfSome result (λ d. d < 16) }
 {
     match c {
-        0x30..=0x39 => c - 0x30,
-        0x41..=0x46 => c - 0x41 + 10,
-        _ => 16,
+        b'0'..=b'9' => Some(c - b'0'),
+        b'A'..=b'F' => Some(c - b'A' + 10),
+        _ => None,
     }
-}
-
-fn wide(c: u8) -> u32
-    ensures { result < 256 }
-{
-    c as u32
 }
 
 // The decimal number at a place, the last eight digits of it; 0 where there is none.
 pub fn digits_at(text: &[u8], from: usize) -> u32 {
     let mut n: u32 = 0;
-    for at in from..text.len() {
-        let digit = value(text[at]);
-        if 10 <= digit {
+    for c in text.iter().skip(from) {
+        if !c.is_ascii_digit() {
             return n;
         }
-        n = n % 10_000_000 * 10 + wide(digit);
+        n = n % 10_000_000 * 10 + u32::from(*c - b'0');
     }
     n
 }
 
-// A byte of a ROM, how often it stands, and where the text goes on. Where none is written it stands no times.
+// A byte of a ROM, how often it stands, and where the text goes on.
 #[derive(Clone, Copy)]
-pub struct Item {
-    pub byte: u8,
-    pub times: u32,
-    pub next: usize,
+struct Item {
+    byte: u8,
+    times: u32,
+    next: usize,
 }
 
-fn no_item(next: usize) -> Item
-    ensures { result.next ≡ next }
-{
-    Item {
-        byte: 0,
-        times: 0,
-        next: next,
-    }
-}
-
-// The item at a place.
-fn item_at(text: &[u8], at: usize) -> Item
+// The item at a place. None is one that stands no times.
+fn item_at(text: &[u8], at: usize) -> Option<Item>
     requires { at < length text.now }
-    ensures { at < result.next }
+    ensures { IfSome result (λ i. at < i.next) }
 {
-    let high = value(text[at]);
-    let low = value(rom::byte(text, at + 1));
-    if 16 <= high {
-        return no_item(at + 1);
-    }
-    if 16 <= low {
-        return no_item(at + 1);
-    }
-    let byte = high * 16 + low;
+    let high = value(text[at])?;
+    let low = value(rom::byte(text, at + 1))?;
     let behind = at + 2;
-    if behind < text.len() {
-        if text[behind] == b'*' {
-            return Item {
-                byte: byte,
-                times: digits_at(text, behind + 1),
-                next: mark_from(text, behind + 1, b'*') + 1,
-            };
-        }
+    let (times, next) = if behind < text.len() && text[behind] == b'*' {
+        let from = behind + 1;
+        (digits_at(text, from), mark_from(text, from, b'*') + 1)
+    } else {
+        (1, behind)
+    };
+    if times == 0 {
+        return None;
     }
-    Item {
-        byte: byte,
-        times: 1,
-        next: behind,
-    }
+    Some(Item {
+        byte: high * 16 + low,
+        times,
+        next,
+    })
 }
 
 // Puts a byte so often behind the first n of a ROM, as far as there is room, and tells how many there are then.
@@ -136,14 +108,8 @@ fn fill(rom: &mut [u8], n: usize, byte: u8, times: u32) -> usize
     requires { n ≤ length rom.old }
     ensures { result ≤ length rom.new }
 {
-    let mut end = n;
-    for _ in 0..times {
-        if rom.len() <= end {
-            return end;
-        }
-        rom[end] = byte;
-        end += 1;
-    }
+    let end = rom.len().min(n + times as usize);
+    rom[n..end].fill(byte);
     end
 }
 
@@ -154,11 +120,11 @@ pub fn bytes_from(text: &[u8], from: usize, rom: &mut [u8]) -> usize
 {
     let mut n = 0;
     let mut at = from;
+    // a while: the next place is what the item says, no count
     while at < text.len() {
-        let item = item_at(text, at);
-        if item.times == 0 {
+        let Some(item) = item_at(text, at) else {
             return n;
-        }
+        };
         n = fill(rom, n, item.byte, item.times);
         at = item.next;
     }

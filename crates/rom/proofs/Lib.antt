@@ -1,4 +1,3 @@
 pub mod Totals
-pub mod Landings
 pub mod Headers
 pub mod Spreads

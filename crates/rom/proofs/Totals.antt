@@ -1,29 +1,38 @@
--- Sums of bytes, from the last one down, one more at a time. Assumes nothing.
-use Rattle.std.proofs.Common.{◌≡◌, ℕ, ◌+◌, ◌-◌, ◌%◌, ◌^◌, ◌<◌, ◌≤◌, min, List, length, get_or, take, drop, sym, ◌∙◌, add-one, arith}
-use Rattle.std.proofs.Common.{length-drop, take_all, drop-cons}
+-- Sums of bytes, from the last one down, some more at a time. Assumes nothing.
+use Rattle.std.proofs.Common.{◌≡◌, ℕ, zero, suc, ◌+◌, ◌-◌, ◌%◌, ◌^◌, ◌<◌, ◌≤◌, min, List, [], ◌∷◌, length, take, drop, refl, sym, ◌∙◌, arith}
+use Rattle.std.proofs.Common.{length-drop, take_all}
 use native.Mathlib.Decide.{dec_le}
-use lib.Seq.{drop-length}
+use Rattle.std.specs.List.{fold}
+use Rattle.rom.specs.Joints.Sum.{sum_with}
 use Rattle.rom.specs.Sum.{total, program_of, sum_of}
-use Rattle.rom.specs.Joints.Sum.{SummedFrom}
 
--- a byte, and what is behind it
-total_from : (bytes : List ℕ) (i : ℕ) → i < length bytes → total (drop i bytes) ≡ get_or bytes i 0 + total (drop (i + 1) bytes)
-total_from bytes i h = rw (add-one, drop-cons bytes i 0 h)
+-- the sum of a front and of what is behind it is that of all
+total_split : (k : ℕ) (bytes : List ℕ) → total (take k bytes) + total (drop k bytes) ≡ total bytes
+total_split zero bytes = omega arith
+total_split (suc k) [] = refl
+total_split (suc k) (b ∷ bs) = let e = total_split k bs in omega arith
 
-module _ (bytes : List ℕ) where
-  -- a sum of nothing, one with the byte before its own, and one of all
-  pub none_summed : SummedFrom bytes (length bytes) 0
-  none_summed = record { within = omega arith; same = rw (drop-length bytes) }
+-- bytes added one at a time
+pub folded : (bytes : List ℕ) (sum : ℕ) → sum < 2 ^ 16 → fold (λ n b. (n + b) % 2 ^ 16) sum bytes ≡ sum_with sum bytes
+folded [] sum h = omega arith
+folded (b ∷ bs) sum h = folded bs ((sum + b) % 2 ^ 16) (omega arith) ∙ omega arith
 
-  pub one_more : (left sum : ℕ) → 0 < left → SummedFrom bytes left sum
-      → SummedFrom bytes (left - 1) ((sum + get_or bytes (left - 1) 0) % 2 ^ 16)
-  one_more left sum h s =
-      let e : left - 1 + 1 ≡ left = omega arith in
-      let here = rw e at (total_from bytes (left - 1) (omega (arith, s.within))) in
-      record { within = omega (arith, s.within); same = omega (arith, here, s.same) }
+module _ (sum : ℕ) (bytes front back : List ℕ) (k : ℕ) (f : front ≡ take k bytes) (b : back ≡ drop k bytes) where
+  -- the bytes behind a place are in the sum, and those before it are left
+  pub one_taken : (n : ℕ) → n ≡ sum_with sum back → sum_with n front ≡ sum_with sum bytes
+  one_taken n e =
+      let t = total_split k bytes in
+      rw (e, f, b) (omega arith)
 
-  pub all_summed : (left sum : ℕ) → left ≡ 0 → SummedFrom bytes left sum → sum ≡ total bytes % 2 ^ 16
-  all_summed left sum e s = rw e at s.same
+  -- the same of 128 bytes as two of 64
+  pub block_taken : (n m : ℕ) → length back ≡ 128 → n ≡ sum_with sum (take 64 back) → m ≡ sum_with n (take 64 (drop 64 back))
+      → sum_with m front ≡ sum_with sum bytes
+  block_taken n m l e g =
+      let t = total_split k bytes in
+      let u = total_split 64 back in
+      let d = length-drop 64 back in
+      let a = take_all 64 (drop 64 back) (omega arith) in
+      one_taken m (rw (g, a, e) (omega arith))
 
 -- what a ROM does not have adds nothing
 pub program_within : (rom : List ℕ) (len : ℕ) → program_of rom len ≡ take (min len (length rom) - 8) (drop 8 rom)

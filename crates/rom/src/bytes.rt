@@ -6,7 +6,7 @@ ghost use Rattle.rom.specs.Bytes.{byte_of, word16_of, word32_of};
 pub fn byte(bytes: &[u8], k: usize) -> u8
     ensures { result ≡ byte_of bytes.now k }
 {
-    if k < bytes.len() { bytes[k] } else { 0 }
+    bytes.get(k).copied().unwrap_or(0)
 }
 
 // The two bytes at a place as a number, big-endian.
@@ -14,9 +14,7 @@ pub fn word16(bytes: &[u8], at: u32) -> u16
     ensures { result ≡ word16_of bytes.now at }
 {
     let k = at as usize;
-    let high = byte(bytes, k) as u16;
-    let low = byte(bytes, k + 1) as u16;
-    high * 256 + low
+    u16::from_be_bytes([byte(bytes, k), byte(bytes, k + 1)])
 }
 
 // The four bytes at a place as a number, big-endian.
@@ -24,9 +22,10 @@ pub fn word32(bytes: &[u8], at: u32) -> u32
     ensures { result ≡ word32_of bytes.now at }
 {
     let k = at as usize;
-    let p = byte(bytes, k) as u32;
-    let q = byte(bytes, k + 1) as u32;
-    let r = byte(bytes, k + 2) as u32;
-    let s = byte(bytes, k + 3) as u32;
-    p * 16777216 + q * 65536 + r * 256 + s
+    u32::from_be_bytes([
+        byte(bytes, k),
+        byte(bytes, k + 1),
+        byte(bytes, k + 2),
+        byte(bytes, k + 3),
+    ])
 }

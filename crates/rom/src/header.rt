@@ -20,20 +20,13 @@ pub fn program_length(rom: &[u8], spread: Spread) -> u32
 pub fn wide_start(rom: &[u8]) -> bool
     ensures { result ≡ wide_of rom.now }
 {
-    if byte(rom, 0) == 0xF1 {
-        return true;
-    }
-    is_spread(rom)
+    byte(rom, 0) == 0xF1 || is_spread(rom)
 }
 
 fn known_start(rom: &[u8]) -> bool
     ensures { result ≡ start_of rom.now }
 {
-    if byte(rom, 0) == 0xFD {
-        true
-    } else {
-        wide_start(rom)
-    }
+    byte(rom, 0) == 0xFD || wide_start(rom)
 }
 
 // Whether the sum is another than the checksum field says. A field of zero says zero.
@@ -49,20 +42,14 @@ pub fn wrong_rom(rom: &[u8], spread: Spread) -> bool
     ensures { result ≡ wrong_rom (view_of spread rom.now) }
 {
     let count = fcode_count(rom, spread);
-    if count < ROM_LEAST {
-        return true;
-    }
-    fcode_most(rom) < count
+    count < ROM_LEAST || fcode_most(rom) < count
 }
 
 // Refusal 4 of a length: it is below 9, or its last FCode byte is not in the ROM.
 pub fn wrong_length(rom: &[u8], spread: Spread, length: u32) -> bool
     ensures { result ≡ wrong_length (view_of spread rom.now) length }
 {
-    if length < 9 {
-        return true;
-    }
-    fcode_count(rom, spread) < (length as usize)
+    length < 9 || fcode_count(rom, spread) < length as usize
 }
 
 // The header test of a ROM as it is lent: 0, or the first of the refusals 1 to 5 whose condition holds. Only a start that 2 knows is

@@ -5,9 +5,8 @@ ghost use Rattle.rom.specs.Bytes.{byte_of, word16_of, word32_of};
 ghost use Rattle.rom.specs.Spread.{distance_of, spread_of, is_spread, view_of, fcode_most, laid_on};
 ghost use Rattle.rom.specs.Joints.Spread.{InRom, LaidBy};
 
-use crate::bytes::{byte, word16, word32};
+use crate::bytes::byte;
 use crate::sizes::ROM_MOST;
-use crate::sum::least;
 
 // One behind the other, or two or four apart.
 #[derive(Clone, Copy)]
@@ -21,25 +20,18 @@ pub enum Spread {
 pub fn spread_of(rom: &[u8]) -> Spread
     ensures { result ≡ spread_of rom.now }
 {
-    let start = byte(rom, 0);
-    if start == 0xF2 {
-        return Spread::Two;
+    match byte(rom, 0) {
+        0xF2 => Spread::Two,
+        0xF3 => Spread::Four,
+        _ => Spread::One,
     }
-    if start == 0xF3 {
-        return Spread::Four;
-    }
-    Spread::One
 }
 
 // Whether a start is a spread ROM's.
 pub fn is_spread(fcode: &[u8]) -> bool
     ensures { result ≡ is_spread fcode.now }
 {
-    let start = byte(fcode, 0);
-    if start == 0xF2 {
-        return true;
-    }
-    start == 0xF3
+    matches!(byte(fcode, 0), 0xF2 | 0xF3)
 }
 
 fn distance(spread: Spread) -> usize
@@ -59,8 +51,8 @@ pub fn fcode_count(rom: &[u8], spread: Spread) -> usize
     let n = rom.len();
     match spread {
         Spread::One => n,
-        Spread::Two => n / 2 + n % 2,
-        Spread::Four => n / 4 + (n % 4 + 3) / 4,
+        Spread::Two => n.div_ceil(2),
+        Spread::Four => n.div_ceil(4),
     }
 }
 
@@ -68,11 +60,7 @@ pub fn fcode_count(rom: &[u8], spread: Spread) -> usize
 pub fn fcode_most(rom: &[u8]) -> usize
     ensures { result ≡ fcode_most rom.now }
 {
-    match spread_of(rom) {
-        Spread::One => ROM_MOST,
-        Spread::Two => ROM_MOST / 2,
-        Spread::Four => ROM_MOST / 4,
-    }
+    ROM_MOST / distance(spread_of(rom))
 }
 
 // FCode byte k, and 0 past the last.
@@ -91,32 +79,21 @@ pub fn fcode_byte(rom: &[u8], spread: Spread, k: usize) -> u8
 pub fn fcode_word16(rom: &[u8], spread: Spread, at: u32) -> u16
     ensures { result ≡ word16_of (view_of spread rom.now) at }
 {
-    match spread {
-        Spread::One => word16(rom, at),
-        _ => {
-            let k = at as usize;
-            let high = fcode_byte(rom, spread, k) as u16;
-            let low = fcode_byte(rom, spread, k + 1) as u16;
-            high * 256 + low
-        }
-    }
+    let k = at as usize;
+    u16::from_be_bytes([fcode_byte(rom, spread, k), fcode_byte(rom, spread, k + 1)])
 }
 
 // The four FCode bytes at a place as a number, big-endian.
 pub fn fcode_word32(rom: &[u8], spread: Spread, at: u32) -> u32
     ensures { result ≡ word32_of (view_of spread rom.now) at }
 {
-    match spread {
-        Spread::One => word32(rom, at),
-        _ => {
-            let k = at as usize;
-            let p = fcode_byte(rom, spread, k) as u32;
-            let q = fcode_byte(rom, spread, k + 1) as u32;
-            let r = fcode_byte(rom, spread, k + 2) as u32;
-            let s = fcode_byte(rom, spread, k + 3) as u32;
-            p * 16777216 + q * 65536 + r * 256 + s
-        }
-    }
+    let k = at as usize;
+    u32::from_be_bytes([
+        fcode_byte(rom, spread, k),
+        fcode_byte(rom, spread, k + 1),
+        fcode_byte(rom, spread, k + 2),
+        fcode_byte(rom, spread, k + 3),
+    ])
 }
 
 // So many bytes that lie so far apart. The distance is written at the call, so that the compiler knows it and takes many at a time.
@@ -124,10 +101,8 @@ fn lay_by(rom: &[u8], room: &mut [u8], count: usize, apart: usize)
     requires { (count ≤ length room.old) × InRom apart 0 count rom.now }
     ensures { LaidBy apart rom.now room.old count room.new }
 {
-    let mut i = 0;
-    while i < count {
+    for i in 0..count {
         room[i] = rom[i * apart];
-        i += 1;
     }
 }
 
@@ -135,7 +110,7 @@ fn lay_by(rom: &[u8], room: &mut [u8], count: usize, apart: usize)
 pub fn lay_fcode(rom: &[u8], spread: Spread, room: &mut [u8])
     ensures { room.new ≡ laid_on room.old (view_of spread rom.now) }
 {
-    let count = least(fcode_count(rom, spread), room.len());
+    let count = fcode_count(rom, spread).min(room.len());
     match spread {
         Spread::One => lay_by(rom, room, count, 1),
         Spread::Two => lay_by(rom, room, count, 2),

@@ -1,95 +1,81 @@
 // The sum of a program's bytes, modulo 65,536: a sum that wraps at 16 bits, with no remainder taken. Bytes are added in stretches whose
 // size is written at the call, so that the compiler lays a stretch out without a loop, and on x86-64 finds the one instruction for it that
 // adds 16 bytes. docs/SPEED.md has the forms that were tried, and what each costs; `speed/sums --count` tells whether that still holds.
-ghost use Rattle.std.specs.Prelude.{◌≡◌, ◌-◌, ◌*◌, ◌%◌, ◌^◌, ◌<◌, ◌≤◌, min};
+ghost use Rattle.std.specs.Prelude.{◌≡◌, ◌-◌, ◌*◌, ◌%◌, ◌^◌, ◌<◌, ◌≤◌, length, min};
 ghost use Rattle.rom.specs.Sum.{total, sum_of};
 ghost use Rattle.rom.specs.Sizes.{first_place};
 ghost use Rattle.rom.specs.Spread.{view_of};
-ghost use Rattle.rom.specs.Joints.Sum.{SummedFrom, apart_sum};
+ghost use Rattle.rom.specs.Joints.Sum.{sum_with, apart_sum};
 ghost use Rattle.rom.specs.Joints.Spread.{InRom};
 
 use crate::sizes::FIRST_PLACE;
 use crate::spread::{Spread, fcode_count};
 
-// A sum on its way from the last byte down to the first: `left` bytes are still to be added, the first ones. So one number says both how
-// many there are and where the next ones end.
+// A sum on its way from the last byte down to the first: the rest is still to be added.
 #[derive(Clone, Copy)]
-struct Summed {
+struct Summed<'a> {
     sum: u16,
-    left: usize,
+    rest: &'a [u8],
 }
 
-fn wide16(b: u8) -> u16
-    ensures { result ≡ b }
+// A sum with some bytes more.
+fn added(sum: u16, bytes: &[u8]) -> u16
+    ensures { result ≡ sum_with sum bytes.now }
 {
-    b as u16
+    bytes.iter().fold(sum, |n, b| n.wrapping_add(u16::from(*b)))
 }
 
-// The sum with as many bytes more as `size` says: the last ones of those that are left.
-fn added(body: &[u8], s: Summed, size: usize) -> Summed
-    requires { (size ≤ s.left) × SummedFrom body.now s.left s.sum }
-    ensures { (result.left ≡ s.left - size) × SummedFrom body.now result.left result.sum }
+// The sum with the last N bytes of the rest, where there are so many. Such steps by halves, from 64 bytes to one, take all that blocks
+// leave.
+fn taken<const N: usize>(s: Summed<'_>) -> Summed<'_>
+    requires { (N ≤ 64) × (length s.rest.now < 2 * N) }
+    ensures { (length result.rest.now < N) × (sum_with result.sum result.rest.now ≡ sum_with s.entry.sum s.entry.rest.now) }
 {
-    let mut sum = s.sum;
-    let mut left = s.left;
-    let mut k = 0;
-    while k < size {
-        left -= 1;
-        sum = std::num::wrapping_add_u16(sum, wide16(body[left]));
-        k += 1;
-    }
-    Summed { sum, left }
-}
-
-// The same where so many are left. Such steps by halves, from 64 bytes to one, take all that blocks leave.
-fn taken(body: &[u8], s: Summed, size: usize) -> Summed
-    requires { (s.left < 2 * size) × SummedFrom body.now s.left s.sum }
-    ensures { (result.left < size) × SummedFrom body.now result.left result.sum }
-{
-    if s.left < size {
-        s
-    } else {
-        added(body, s, size)
+    match s.rest.split_last_chunk::<N>() {
+        Some((rest, stretch)) => Summed {
+            sum: added(s.sum, stretch),
+            rest,
+        },
+        None => s,
     }
 }
 
 // All bytes but fewer than 128. The compiler unrolls no loop of 128 bytes, and makes one stretch of two of 64.
-fn blocks(body: &[u8], start: Summed) -> Summed
-    requires { SummedFrom body.now start.left start.sum }
-    ensures { (result.left < 128) × SummedFrom body.now result.left result.sum }
+fn blocks(start: Summed<'_>) -> Summed<'_>
+    ensures { (length result.rest.now < 128) × (sum_with result.sum result.rest.now ≡ sum_with start.entry.sum start.entry.rest.now) }
 {
-    let mut s = start;
-    while 128 <= s.left {
-        s = added(body, s, 64);
-        s = added(body, s, 64);
+    let Summed { mut sum, mut rest } = start;
+    while let Some((front, block)) = rest.split_last_chunk::<128>() {
+        sum = added(sum, &block[..64]);
+        sum = added(sum, &block[64..128]);
+        rest = front;
     }
-    s
+    Summed { sum, rest }
 }
 
 // All bytes but fewer than 16.
-fn most(body: &[u8], start: Summed) -> Summed
-    requires { SummedFrom body.now start.left start.sum }
-    ensures { (result.left < 16) × SummedFrom body.now result.left result.sum }
+fn most(start: Summed<'_>) -> Summed<'_>
+    ensures { (length result.rest.now < 16) × (sum_with result.sum result.rest.now ≡ sum_with start.entry.sum start.entry.rest.now) }
 {
-    if start.left < 16 {
+    if start.rest.len() < 16 {
         return start;
     }
-    let s = blocks(body, start);
-    let s = taken(body, s, 64);
-    let s = taken(body, s, 32);
-    taken(body, s, 16)
+    let s = blocks(start);
+    let s = taken::<64>(s);
+    let s = taken::<32>(s);
+    taken::<16>(s)
 }
 
 // All bytes but fewer than 4, of fewer than 16.
-fn nearly_all(body: &[u8], start: Summed) -> Summed
-    requires { (start.left < 16) × SummedFrom body.now start.left start.sum }
-    ensures { (result.left < 4) × SummedFrom body.now result.left result.sum }
+fn nearly_all(start: Summed<'_>) -> Summed<'_>
+    requires { length start.rest.now < 16 }
+    ensures { (length result.rest.now < 4) × (sum_with result.sum result.rest.now ≡ sum_with start.entry.sum start.entry.rest.now) }
 {
-    if start.left < 4 {
+    if start.rest.len() < 4 {
         return start;
     }
-    let s = taken(body, start, 8);
-    taken(body, s, 4)
+    let s = taken::<8>(start);
+    taken::<4>(s)
 }
 
 // The sum of all bytes. A short program skips the stretches that are too large for it by two tests, and one that comes out even skips the
@@ -97,24 +83,21 @@ fn nearly_all(body: &[u8], start: Summed) -> Summed
 fn byte_sum(body: &[u8]) -> u16
     ensures { result ≡ total body.now % 2 ^ 16 }
 {
-    let start = Summed {
-        sum: 0,
-        left: body.len(),
-    };
-    let s = most(body, start);
-    if s.left == 0 {
+    let s = most(Summed { sum: 0, rest: body });
+    if s.rest.is_empty() {
         return s.sum;
     }
-    let s = nearly_all(body, s);
-    let s = taken(body, s, 2);
-    let s = taken(body, s, 1);
+    let s = nearly_all(s);
+    let s = taken::<2>(s);
+    let s = taken::<1>(s);
     s.sum
 }
 
+// The smaller of two numbers.
 pub fn least(a: usize, b: usize) -> usize
     ensures { result ≡ min a b }
 {
-    if a < b { a } else { b }
+    a.min(b)
 }
 
 // The sum of the bytes from the first place up to an end, which lie so far apart. As in `lay_by`, the compiler knows the distance.
@@ -122,12 +105,10 @@ fn apart_sum(rom: &[u8], end: usize, apart: usize) -> u16
     requires { (first_place ≤ end) × InRom apart first_place end rom.now }
     ensures { result ≡ apart_sum apart rom.now (end - first_place) % 2 ^ 16 }
 {
-    let mut sum: u16 = 0;
-    let mut k = FIRST_PLACE;
-    while k < end {
+    let mut sum = 0u16;
+    for k in FIRST_PLACE..end {
         let at = k * apart;
-        sum = std::num::wrapping_add_u16(sum, wide16(rom[at]));
-        k += 1;
+        sum = sum.wrapping_add(u16::from(rom[at]));
     }
     sum
 }
@@ -137,7 +118,7 @@ pub fn body_sum(rom: &[u8], spread: Spread, length: u32) -> u16
     ensures { result ≡ sum_of (view_of spread rom.now) length }
 {
     let start = FIRST_PLACE;
-    let end = least(length as usize, fcode_count(rom, spread));
+    let end = (length as usize).min(fcode_count(rom, spread));
     if end <= start {
         return 0;
     }

@@ -1,12 +1,11 @@
 -- A sum on its way from the last byte down to the first, and one of bytes that lie apart. Assumes nothing.
-use Rattle.std.specs.Prelude.{◌≡◌, ℕ, zero, suc, ◌+◌, ◌*◌, ◌%◌, ◌^◌, ◌≤◌, List, length, drop, slice_index}
+use Rattle.std.specs.Prelude.{ℕ, zero, suc, ◌+◌, ◌*◌, ◌%◌, ◌^◌, List, slice_index}
 use Rattle.rom.specs.Sizes.{first_place}
 use Rattle.rom.specs.Sum.{total}
 
--- all bytes but the first `left` are in it
-pub record SummedFrom (bytes : List ℕ) (left sum : ℕ) : Type 0 where
-  pub within : left ≤ length bytes
-  pub same : sum ≡ total (drop left bytes) % 2 ^ 16
+-- what a sum comes to with some bytes more
+abbrev pub sum_with : ℕ → List ℕ → ℕ
+sum_with sum bytes = (sum + total bytes) % 2 ^ 16
 
 -- so many bytes from the first place on that lie so far apart
 unfoldable pub apart_sum : ℕ → List ℕ → ℕ → ℕ

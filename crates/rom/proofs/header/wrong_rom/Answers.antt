@@ -1,12 +1,9 @@
-use Rattle.std.proofs.Common.{le-ltb, lt-ltb}
+use Rattle.std.proofs.Common.{le-ltb}
 use Rattle.rom.specs.Laws.Spread.{same_most}
 use Rattle.rom.proofs.header.wrong_rom.Goals as goal
 
-pub returns-then-count-lt-ROM_LEAST : goal.returns-then-count-lt-ROM_LEAST
-returns-then-count-lt-ROM_LEAST c = rw (← c.fcode_count-count.ensures, lt-ltb _ _ c.if-count-lt-ROM_LEAST.true)
-
-pub returns : goal.returns
-returns c =
+pub returns-else-count-lt-ROM_LEAST : goal.returns-else-count-lt-ROM_LEAST
+returns-else-count-lt-ROM_LEAST c =
     let a = c.args in
     rw (
       ← c.fcode_count-count.ensures,

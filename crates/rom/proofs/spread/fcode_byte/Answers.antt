@@ -1,6 +1,4 @@
-use Rattle.std.proofs.Common.{sym, arith, rules}
-use lib.ListN.{get_or-eq_default}
-use Rattle.rom.specs.Spread.{view_of}
+use Rattle.std.proofs.Common.{sym, arith}
 use Rattle.rom.specs.Laws.Spread.{view_at, view_within}
 use Rattle.rom.proofs.spread.fcode_byte.Goals as goal
 
@@ -21,8 +19,3 @@ pub returns-then-k-fcode_count : goal.returns-then-k-fcode_count
 returns-then-k-fcode_count c =
     let a = c.args in
     rw c.distance.ensures (sym (view_at a.spread a.rom.now a.k))
-
-pub returns-else-k-fcode_count : goal.returns-else-k-fcode_count
-returns-else-k-fcode_count c =
-    let a = c.args in
-    rw (get_or-eq_default (view_of a.spread a.rom.now) 0 {n = a.k} (search rules))

@@ -3,9 +3,6 @@ use Rattle.rom.specs.Laws.Spread.{view_length}
 use Rattle.rom.specs.declared.spread.Spread.TheVariants.{Two, Four}
 use Rattle.rom.proofs.spread.fcode_count.Goals as goal
 
-pub returns-in-One : goal.returns-in-One
-returns-in-One c = rw c.in-One.is
-
 pub returns-in-Two : goal.returns-in-Two
 returns-in-Two c =
     let e = view_length Two c.args.rom.now in

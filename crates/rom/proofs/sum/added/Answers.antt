@@ -1,12 +1,10 @@
-use Rattle.std.proofs.Common.{rules}
-use Rattle.rom.proofs.Totals.{one_more}
+use Rattle.std.proofs.Common.{◌≡◌, ◌+◌, ◌^◌, ◌%◌, ◌∙◌, rules, arith}
+use Rattle.std.specs.List.{fold}
+use Rattle.rom.proofs.Totals.{folded}
 use Rattle.rom.proofs.sum.added.Goals as goal
 
-pub loop-k-preserved : goal.loop-k-preserved
-loop-k-preserved c =
-    let bytes = c.args.body.now in (
-      search rules,
-      search rules,
-      rw (c.wrapping_add_u16-sum.ensures.value, c.wide16.ensures)
-          (one_more bytes c.loop-k.left c.loop-k.sum (search rules) c.loop-k.invariant.2),
-    )
+pub returns : goal.returns
+returns c =
+    let a = c.args in
+    let e : c.fold.result ≡ fold (λ n b. (n + b) % 2 ^ 16) a.sum a.bytes.now = search rules in
+    e ∙ folded _ _ (omega arith)

@@ -15,29 +15,13 @@ overflow_mul-at c =
 pub bounds-rom-at : goal.bounds-rom-at
 bounds-rom-at c = c.requires.1.each c.loop-k.k (search rules) (search rules)
 
-pub wide16-requires : goal.wide16-requires
-unfolding apart_sum
-wide16-requires c = tt
-
-pub wrapping_add_u16-sum-requires : goal.wrapping_add_u16-sum-requires
-unfolding apart_sum
-wrapping_add_u16-sum-requires c = tt
-
-pub overflow_add-k : goal.overflow_add-k
-unfolding apart_sum
-overflow_add-k c = search rules
-
-pub loop-k-smaller : goal.loop-k-smaller
-unfolding apart_sum
-loop-k-smaller c = search rules
-
 pub loop-k-preserved : goal.loop-k-preserved
 loop-k-preserved c =
     let l = c.loop-k in
     let a = c.args in (
       search rules,
       search rules,
-      rw (c.wrapping_add_u16-sum.ensures.value, c.wide16.ensures)
+      rw (c.from-sum.ensures)
           (one_apart a.apart a.rom.now l.k l.sum l.invariant.0 l.invariant.2),
     )
 

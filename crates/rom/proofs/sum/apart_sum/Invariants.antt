@@ -4,6 +4,3 @@ use Rattle.rom.proofs.sum.apart_sum.Given as goal
 
 abbrev pub invariant-loop-k : goal.invariant-loop-k
 invariant-loop-k l = (8 ≤ l.k) × (l.k ≤ l.end) × (l.sum ≡ apart_sum l.apart l.rom (l.k - 8) % 2 ^ 16)
-
-abbrev pub decreases-loop-k : goal.decreases-loop-k
-decreases-loop-k l = l.end - l.k

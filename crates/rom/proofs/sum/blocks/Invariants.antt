@@ -1,8 +1,9 @@
-use Rattle.rom.specs.Joints.Sum.{SummedFrom}
+use Rattle.std.proofs.Common.{◌≡◌, length}
+use Rattle.rom.specs.Joints.Sum.{sum_with}
 use Rattle.rom.proofs.sum.blocks.Given as goal
 
-abbrev pub invariant-loop-s : goal.invariant-loop-s
-invariant-loop-s l = SummedFrom l.body l.s.left l.s.sum
+abbrev pub invariant-loop-front : goal.invariant-loop-front
+invariant-loop-front l = sum_with l.sum l.rest ≡ sum_with l.start.sum l.start.rest.now
 
-abbrev pub decreases-loop-s : goal.decreases-loop-s
-decreases-loop-s l = l.s.left
+abbrev pub decreases-loop-front : goal.decreases-loop-front
+decreases-loop-front l = length l.rest

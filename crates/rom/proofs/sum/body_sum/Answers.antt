@@ -9,39 +9,39 @@ use Rattle.rom.proofs.sum.body_sum.Goals as goal
 pub returns-then-end-start : goal.returns-then-end-start
 returns-then-end-start c =
     let a = c.args in
-    sum_none (view_of a.spread a.rom.now) a.length c.least-end.result
-    (c.least-end.ensures ∙ ap (λ n. min a.length n) c.fcode_count.ensures) (search rules)
+    sum_none (view_of a.spread a.rom.now) a.length c.min-end.result
+    (c.min-end.ensures ∙ ap (λ n. min a.length n) c.fcode_count.ensures) (search rules)
 
 pub slice_bounds-byte_sum-end : goal.slice_bounds-byte_sum-end
 slice_bounds-byte_sum-end c =
     let a = c.args in
     let v = view_fewer a.spread a.rom.now in
-    let h : c.least-end.result ≤ length a.rom.now = omega
-    (arith, c.least-end.ensures, c.fcode_count.ensures) in
+    let h : c.min-end.result ≤ length a.rom.now = omega
+    (arith, c.min-end.ensures, c.fcode_count.ensures) in
     search rules
 
 pub apart_sum-requires : goal.apart_sum-requires
 apart_sum-requires c =
     let a = c.args in
     sum_ready a.spread a.rom.now Two a.length _ _ c.in-Two.is
-    c.fcode_count.ensures c.least-end.ensures
+    c.fcode_count.ensures c.min-end.ensures
     (search rules)
 
 pub apart_sum-requires-in-Four : goal.apart_sum-requires-in-Four
 apart_sum-requires-in-Four c =
     let a = c.args in
     sum_ready a.spread a.rom.now Four a.length _ _ c.in-Four.is
-    c.fcode_count.ensures c.least-end.ensures
+    c.fcode_count.ensures c.min-end.ensures
     (search rules)
 
 pub returns-in-One : goal.returns-in-One
 returns-in-One c =
     let a = c.args in
-    let e : c.least-end.result ≡ min a.length (length a.rom.now) =
-    rw c.in-One.is at (c.least-end.ensures
+    let e : c.min-end.result ≡ min a.length (length a.rom.now) =
+    rw c.in-One.is at (c.min-end.ensures
     ∙ ap (λ n. min a.length n) c.fcode_count.ensures) in
     rw c.in-One.is (c.byte_sum.ensures
-    ∙ sum_some a.rom.now a.length c.least-end.result e)
+    ∙ sum_some a.rom.now a.length c.min-end.result e)
 
 pub returns-in-Two : goal.returns-in-Two
 returns-in-Two c =
@@ -49,7 +49,7 @@ returns-in-Two c =
     c.apart_sum.ensures
     ∙ sum_apart a.spread a.rom.now Two a.length _ _ c.in-Two.is
     c.fcode_count.ensures
-    c.least-end.ensures (search rules)
+    c.min-end.ensures (search rules)
 
 pub returns-in-Four : goal.returns-in-Four
 returns-in-Four c =
@@ -57,4 +57,4 @@ returns-in-Four c =
     c.apart_sum-in-Four.ensures
     ∙ sum_apart a.spread a.rom.now Four a.length _ _ c.in-Four.is
     c.fcode_count.ensures
-    c.least-end.ensures (search rules)
+    c.min-end.ensures (search rules)
