@@ -1,4 +1,5 @@
 -- What is fetched and stored, by the tests that the code makes: a law for each answer. Assumes nothing.
+use Rattle.std.proofs.Common.{Err, Ok}
 use Prim.Native.Nat.{ℕ, ◌-◌, ◌%◌, ◌≤◌, ◌<◌}
 use native.Mathlib.Omega.{arith}
 use mathlib.Core.Bool.{true, false}
@@ -11,29 +12,28 @@ use Rattle.memory.specs.Window.{work_base, lies, resolve_of}
 use Rattle.memory.specs.Writing.{written_of, bytes_of}
 use Rattle.memory.specs.Cells.{fetch_cell_of, fetch_byte_of, cell_refusal, byte_refusal, cell_stored, byte_stored}
 use Rattle.memory.specs.Laws.Memory.{resolved_short, resolved_whole}
-use Rattle.memory.specs.declared.window.Fetched.TheVariants.{Value, Refused}
 
 module _ (rom work : List ℕ) (size address : ℕ) where
-  pub no_cell : length (resolve_of rom work size address 4) < 4 → Refused 22 ≡ fetch_cell_of rom work size address
+  pub no_cell : length (resolve_of rom work size address 4) < 4 → Err 22 ≡ fetch_cell_of rom work size address
   unfolding fetch_cell_of
   no_cell h = rw (resolved_short rom work size address 4 h)
 
   pub uneven_cell : 4 ≤ length (resolve_of rom work size address 4) → (address % 4 ≡ 0 → ⊥)
-      → Refused 23 ≡ fetch_cell_of rom work size address
+      → Err 23 ≡ fetch_cell_of rom work size address
   unfolding fetch_cell_of
   uneven_cell h n = rw (resolved_whole rom work size address 4 (omega arith) h, ne_eqb (address % 4) 0 n)
 
   pub whole_cell : 4 ≤ length (resolve_of rom work size address 4) → address % 4 ≡ 0
-      → Value (word32_of (resolve_of rom work size address 4) 0) ≡ fetch_cell_of rom work size address
+      → Ok (word32_of (resolve_of rom work size address 4) 0) ≡ fetch_cell_of rom work size address
   unfolding fetch_cell_of
   whole_cell h n = rw (resolved_whole rom work size address 4 (omega arith) h, eq-eqb (address % 4) 0 n)
 
-  pub no_byte : length (resolve_of rom work size address 1) < 1 → Refused 22 ≡ fetch_byte_of rom work size address
+  pub no_byte : length (resolve_of rom work size address 1) < 1 → Err 22 ≡ fetch_byte_of rom work size address
   unfolding fetch_byte_of
   no_byte h = rw (resolved_short rom work size address 1 h)
 
   pub one_byte : 1 ≤ length (resolve_of rom work size address 1)
-      → Value (byte_of (resolve_of rom work size address 1) 0) ≡ fetch_byte_of rom work size address
+      → Ok (byte_of (resolve_of rom work size address 1) 0) ≡ fetch_byte_of rom work size address
   unfolding fetch_byte_of
   one_byte h = rw (resolved_whole rom work size address 1 (omega arith) h)
 

@@ -1,24 +1,22 @@
 -- Cells and bytes fetched and stored: "6D @ 71 c@ 72 ! 75 c!. Cells are big-endian (house)", with refusal 22, "address range in no window,
 -- or a store outside work memory", before 23, "cell address not a multiple of 4". c! stores the low 8 bits. Assumes nothing.
-use Rattle.std.specs.Prelude.{ℕ, ◌-◌, ◌%◌, Bool, not, List, [], ◌∷◌, length, eqb}
+use Rattle.std.specs.Prelude.{ℕ, ◌-◌, ◌%◌, Bool, not, List, [], ◌∷◌, length, eqb, Err, Ok, Result}
 use Rattle.cells.specs.Choice.{pick}
 use Rattle.rom.specs.Bytes.{byte_of, word32_of}
 use Rattle.memory.specs.Window.{work_base, lies, bad_range, resolve_of}
 use Rattle.memory.specs.Writing.{written_of, bytes_of}
-use Rattle.memory.specs.declared.window.Fetched.{Fetched}
-use Rattle.memory.specs.declared.window.Fetched.TheVariants.{Value, Refused}
 
 abbrev pub uneven : ℕ → Bool
 uneven address = not (eqb (address % 4) 0)
 
-unfoldable pub fetch_cell_of : List ℕ → List ℕ → ℕ → ℕ → Fetched
+unfoldable pub fetch_cell_of : List ℕ → List ℕ → ℕ → ℕ → Result ℕ ℕ
 fetch_cell_of rom work size address =
-    pick (bad_range rom work size address 4) (Refused 22)
-    (pick (uneven address) (Refused 23) (Value (word32_of (resolve_of rom work size address 4) 0)))
+    pick (bad_range rom work size address 4) (Err 22)
+    (pick (uneven address) (Err 23) (Ok (word32_of (resolve_of rom work size address 4) 0)))
 
-unfoldable pub fetch_byte_of : List ℕ → List ℕ → ℕ → ℕ → Fetched
+unfoldable pub fetch_byte_of : List ℕ → List ℕ → ℕ → ℕ → Result ℕ ℕ
 fetch_byte_of rom work size address =
-    pick (bad_range rom work size address 1) (Refused 22) (Value (byte_of (resolve_of rom work size address 1) 0))
+    pick (bad_range rom work size address 1) (Err 22) (Ok (byte_of (resolve_of rom work size address 1) 0))
 
 -- a store goes to work memory alone: 0, or why it is refused, and the memory then
 abbrev pub outside_work : List ℕ → ℕ → ℕ → Bool

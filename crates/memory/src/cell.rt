@@ -1,57 +1,58 @@
 // Cells and bytes of the two windows.
 ghost use Rattle.std.specs.Prelude.{◌≡◌};
+ghost use Rattle.rom.specs.Refusal.{numbered, refusal_in};
 ghost use Rattle.memory.specs.Cells.{fetch_cell_of, fetch_byte_of, cell_refusal, byte_refusal, cell_stored, byte_stored};
 
-use crate::window::{Fetched, WORK_BASE, lies, resolve};
+use crate::window::{WORK_BASE, lies, resolve};
 use crate::writing::{put, write_cell};
-use rom::{byte, word32};
+use rom::{Refusal, byte, word32};
 
 // The range is in no window where fewer bytes than asked for are there.
-pub fn fetch_cell<'a>(rom: &'a [u8], work: &'a [u8], size: u32, address: u32) -> Fetched
-    ensures { result ≡ fetch_cell_of rom.now work.now size address }
+pub fn fetch_cell<'a>(rom: &'a [u8], work: &'a [u8], size: u32, address: u32) -> Result<u32, Refusal>
+    ensures { numbered result ≡ fetch_cell_of rom.now work.now size address }
 {
     let part = resolve(rom, work, size, address, 4);
     if part.len() < 4 {
-        return Fetched::Refused(22);
+        return Err(Refusal::NoWindow);
     }
     if address % 4 != 0 {
-        return Fetched::Refused(23);
+        return Err(Refusal::NotAligned);
     }
-    Fetched::Value(word32(part, 0))
+    Ok(word32(part, 0))
 }
 
-pub fn fetch_byte<'a>(rom: &'a [u8], work: &'a [u8], size: u32, address: u32) -> Fetched
-    ensures { result ≡ fetch_byte_of rom.now work.now size address }
+pub fn fetch_byte<'a>(rom: &'a [u8], work: &'a [u8], size: u32, address: u32) -> Result<u32, Refusal>
+    ensures { numbered result ≡ fetch_byte_of rom.now work.now size address }
 {
     let part = resolve(rom, work, size, address, 1);
     if part.is_empty() {
-        return Fetched::Refused(22);
+        return Err(Refusal::NoWindow);
     }
-    Fetched::Value(u32::from(byte(part, 0)))
+    Ok(u32::from(byte(part, 0)))
 }
 
-// Stores a cell in work memory: 0, or why it is refused.
-pub fn store_cell(work: &mut [u8], address: u32, cell: u32) -> u32
-    ensures { (result ≡ cell_refusal work.old address) × (work.new ≡ cell_stored work.old address cell) }
+// Stores a cell in work memory, or says why not.
+pub fn store_cell(work: &mut [u8], address: u32, cell: u32) -> Result<(), Refusal>
+    ensures { (refusal_in result ≡ cell_refusal work.old address) × (work.new ≡ cell_stored work.old address cell) }
 {
     if !lies(WORK_BASE, work.len(), address, 4) {
-        return 22;
+        return Err(Refusal::NoWindow);
     }
     if address % 4 != 0 {
-        return 23;
+        return Err(Refusal::NotAligned);
     }
     write_cell(work, address - WORK_BASE, cell);
-    0
+    Ok(())
 }
 
 // Stores the low 8 bits of a cell.
-pub fn store_byte(work: &mut [u8], address: u32, cell: u32) -> u32
-    ensures { (result ≡ byte_refusal work.old address) × (work.new ≡ byte_stored work.old address cell) }
+pub fn store_byte(work: &mut [u8], address: u32, cell: u32) -> Result<(), Refusal>
+    ensures { (refusal_in result ≡ byte_refusal work.old address) × (work.new ≡ byte_stored work.old address cell) }
 {
     if !lies(WORK_BASE, work.len(), address, 1) {
-        return 22;
+        return Err(Refusal::NoWindow);
     }
     let k = (address - WORK_BASE) as usize;
     put(work, k, (cell % 256) as u8);
-    0
+    Ok(())
 }

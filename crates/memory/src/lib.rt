@@ -6,5 +6,5 @@ mod window;
 mod writing;
 
 pub use cell::{fetch_byte, fetch_cell, store_byte, store_cell};
-pub use window::{Fetched, ROM_BASE, WORK_BASE, Window, resolve, window_of};
+pub use window::{ROM_BASE, WORK_BASE, Window, resolve, window_of};
 pub use writing::{clear_from, copy_in, copy_within, put, write_cell};

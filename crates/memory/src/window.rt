@@ -16,13 +16,6 @@ pub enum Window {
     Nowhere,
 }
 
-// What is fetched, or why it is refused.
-#[derive(Clone, Copy)]
-pub enum Fetched {
-    Value(u32),
-    Refused(u32),
-}
-
 // Whether a range lies in a window of `size` bytes, its end included.
 pub fn lies(base: u32, size: usize, address: u32, count: u32) -> bool
     ensures { result ≡ window_lies base size address count }

@@ -16,3 +16,5 @@ pub mod Past
 pub mod Unspread
 -- What the enums of this crate say is what the definitions compute.
 pub mod Numbered
+-- Refusals by their numbers.
+pub mod Refusal

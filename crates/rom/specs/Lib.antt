@@ -10,6 +10,8 @@ pub mod Words
 pub mod Branch
 -- The checksum.
 pub mod Sum
+-- Refusals by their numbers.
+pub mod Refusal
 -- The header test, 1 to 5.
 pub mod Header
 -- Two ROMs that are the same up to a length.

@@ -1,9 +1,7 @@
 -- Where a branch leads, as document 01 numbers it: 19, "taken branch to outside 8..length-1", or the place. Assumes nothing.
-use Rattle.std.specs.Prelude.{[], ◌∷◌}
+use Rattle.std.specs.Prelude.{[], ◌∷◌, None, Option, Some, ℕ}
 use Rattle.cells.specs.Numbered.{Numbered, gives, refuses}
-use Rattle.rom.specs.declared.branch.Aim.{Aim}
-use Rattle.rom.specs.declared.branch.Aim.TheVariants.{Inside, Outside}
 
-abbrev pub aim_says : Aim → Numbered
-aim_says (Inside to) = gives (to ∷ [])
-aim_says Outside = refuses 19
+abbrev pub aim_says : Option ℕ → Numbered
+aim_says (Some to) = gives (to ∷ [])
+aim_says None = refuses 19

@@ -6,13 +6,6 @@ ghost use Rattle.rom.specs.Laws.Branch.{shifted};
 use crate::sizes::FIRST_PLACE;
 use crate::spread::{Spread, fcode_byte, fcode_word16};
 
-// Where a branch leads: a place inside 8..length-1, or outside, which is refusal 19 where the branch is taken.
-#[derive(Clone, Copy)]
-pub enum Aim {
-    Inside(u32),
-    Outside,
-}
-
 // The bits of the offset at a place, as they stand.
 pub fn offset(rom: &[u8], spread: Spread, wide: bool, at: u32) -> u32
     ensures { result ≡ offset_of (view_of spread rom.now) wide at }
@@ -25,18 +18,18 @@ pub fn offset(rom: &[u8], spread: Spread, wide: bool, at: u32) -> u32
     }
 }
 
-fn inside(length: u32, to: usize) -> Aim
+fn inside(length: u32, to: usize) -> Option<u32>
     ensures { result ≡ landing length (pos to) }
 {
     if FIRST_PLACE <= to && to < length as usize {
-        Aim::Inside(to as u32)
+        Some(to as u32)
     } else {
-        Aim::Outside
+        None
     }
 }
 
 // Where an offset leads that stands at a place and has `range` values, the upper half of them negative. What lies below 0 is outside.
-fn led(length: u32, at: u32, bits: u32, range: u32) -> Aim
+fn led(length: u32, at: u32, bits: u32, range: u32) -> Option<u32>
     requires { (bits < range) × (range < 65537) }
     ensures { result ≡ landing length (shifted at range bits) }
 {
@@ -46,13 +39,13 @@ fn led(length: u32, at: u32, bits: u32, range: u32) -> Aim
     }
     match far.checked_sub(range as usize) {
         Some(to) => inside(length, to),
-        None => Aim::Outside,
+        None => None,
     }
 }
 
 // Where the offset at a place leads.
 #[tactic(auto, unfolding(crate::specs::Branch::aim_of))]
-pub fn aim_at(rom: &[u8], spread: Spread, length: u32, wide: bool, at: u32) -> Aim
+pub fn aim_at(rom: &[u8], spread: Spread, length: u32, wide: bool, at: u32) -> Option<u32>
     ensures { result ≡ aim_of (view_of spread rom.now) length wide at }
 {
     if wide {
@@ -68,7 +61,7 @@ pub fn destination(fcode: &[u8], length: u32, wide: bool, at: u32) -> u32
     ensures { result ≡ place_in (aim_of fcode.now length wide at) }
 {
     match aim_at(fcode, Spread::One, length, wide, at) {
-        Aim::Inside(to) => to,
-        Aim::Outside => 0,
+        Some(to) => to,
+        None => 0,
     }
 }

@@ -1,8 +1,10 @@
 ghost use Rattle.std.specs.Prelude.{◌≡◌, not, ◌==◌};
 ghost use Rattle.rom.specs.Header.{wide_of, start_of, length_of, wrong_rom, wrong_length, header_of};
+ghost use Rattle.rom.specs.Refusal.{refusal_in};
 ghost use Rattle.rom.specs.Spread.{view_of, fcode_of};
 
 use crate::bytes::byte;
+use crate::refusal::Refusal;
 use crate::sizes::ROM_LEAST;
 use crate::spread::{
     Spread, fcode_byte, fcode_count, fcode_most, fcode_word16, fcode_word32, is_spread, spread_of,
@@ -52,27 +54,27 @@ pub fn wrong_length(rom: &[u8], spread: Spread, length: u32) -> bool
     length < 9 || fcode_count(rom, spread) < length as usize
 }
 
-// The header test of a ROM as it is lent: 0, or the first of the refusals 1 to 5 whose condition holds. Only a start that 2 knows is
+// The header test of a ROM as it is lent: the first of the refusals 1 to 5 whose condition holds, if one does. Only a start that 2 knows is
 // spread, so that neither part of 1 can come before a 2 that should.
-pub fn check_header(rom: &[u8]) -> u32
-    ensures { result ≡ header_of (fcode_of rom.now) }
+pub fn check_header(rom: &[u8]) -> Result<(), Refusal>
+    ensures { refusal_in result ≡ header_of (fcode_of rom.now) }
 {
     let spread = spread_of(rom);
     if wrong_rom(rom, spread) {
-        return 1;
+        return Err(Refusal::WrongRom);
     }
     if !known_start(rom) {
-        return 2;
+        return Err(Refusal::UnknownStart);
     }
     if fcode_byte(rom, spread, 1) != 0x08 {
-        return 3;
+        return Err(Refusal::UnknownFormat);
     }
     let length = program_length(rom, spread);
     if wrong_length(rom, spread, length) {
-        return 4;
+        return Err(Refusal::WrongLength);
     }
     if differs(body_sum(rom, spread, length), fcode_word16(rom, spread, 2)) {
-        return 5;
+        return Err(Refusal::WrongChecksum);
     }
-    0
+    Ok(())
 }

@@ -5,13 +5,15 @@
 mod branch;
 mod bytes;
 mod header;
+mod refusal;
 pub mod sizes;
 mod spread;
 mod sum;
 
-pub use branch::{Aim, aim_at, destination, offset};
+pub use branch::{aim_at, destination, offset};
 pub use bytes::{byte, word16, word32};
 pub use header::{check_header, program_length, wide_start, wrong_length, wrong_rom};
+pub use refusal::{Refusal, refusal_in};
 pub use spread::{
     Spread, fcode_byte, fcode_count, fcode_word16, fcode_word32, is_spread, lay_fcode, spread_of,
 };

@@ -1,4 +1,5 @@
 -- A body read by the places that it goes on behind: what such a place says of the body from there on. Assumes nothing.
+use Rattle.std.proofs.Common.{Err, Ok, Result}
 use Prim.Native.Nat.{ℕ, zero, suc, ◌+◌, ◌≤◌, ◌<◌}
 use mathlib.Core.Path.{◌≡◌, refl, sym, ap, subst, ◌∙◌}
 use mathlib.Core.Bool.{Bool, true, false, not, ◌||◌}
@@ -24,10 +25,8 @@ use Rattle.tokens.specs.Joints.Body.{beyond, passes, passed_of, ends_at, stopped
 use Rattle.tokens.specs.declared.decoding.Token.{Token}
 use Rattle.tokens.specs.declared.decoding.Decoded.{Decoded}
 use Rattle.tokens.specs.declared.decoding.Decoded.TheVariants.{Whole}
-use Rattle.tokens.specs.declared.read.Read.{Read}
-use Rattle.tokens.specs.declared.read.Read.TheVariants.{Refused, Good}
-use Rattle.tokens.specs.declared.body.Body.{Body}
-use Rattle.tokens.specs.declared.body.Body.TheVariants.{Ends, Stops}
+use Rattle.tokens.specs.Body.{Body}
+use Rattle.tokens.specs.Body.{Ends, Stops}
 
 -- ---- what the list says of every code
 -- what may stand in a body is no definition
@@ -87,9 +86,9 @@ module _ (rom : List ℕ) (length : ℕ) (wide : Bool) (p : ℕ) where
           absurd (omega arith)
       by false d = let w : number_of rom p ≡ byte_of rom p = rw d in sym w ∙ e
 
-  abbrev pub refused_at : Read → Body
-  refused_at (Refused why) = Stops p why
-  refused_at (Good t) = Stops p 12
+  abbrev pub refused_at : Result Token ℕ → Body
+  refused_at (Err why) = Stops p why
+  refused_at (Ok t) = Stops p 12
 
   abbrev Same : Decoded → Type 0
   Same d = stopped_of p (judged true d) ≡ refused_at (judged true d)
@@ -140,7 +139,7 @@ module _ (rom : List ℕ) (length : ℕ) (wide : Bool) (p : ℕ) where
           (join_hold (not (eqb (code_of n) 0)) (formed this.operand) parts.0
           (formed_at (form_in (code_of n)) (ltb→lt (form_in (code_of n)) 5 f)))
 
-      read_here : next ≤ length → read_of rom length wide true p ≡ Good this
+      read_here : next ≤ length → read_of rom length wide true p ≡ Ok this
       unfolding read_of decode_of token_if_whole
       read_here l = rw (le-ltb _ _ l, in_list, is_false (misplaced_of (code_of n) true) parts.1)
 
@@ -149,7 +148,7 @@ module _ (rom : List ℕ) (length : ℕ) (wide : Bool) (p : ℕ) where
           body_goes rom length wide kinds p this (read_here l) (neqb→ne n 0xC2 parts.2)
           (unknown_here_lem ∙ is_false unknown parts.3)
 
-      cut : length < next → read_of rom length wide true p ≡ Refused 10
+      cut : length < next → read_of rom length wide true p ≡ Err 10
       unfolding read_of decode_of token_if_whole
       cut l = rw (lt-ltb _ _ l)
 
@@ -165,7 +164,7 @@ module _ (rom : List ℕ) (length : ℕ) (wide : Bool) (p : ℕ) where
       whole_halts l = by_place (misplaced_of (code_of n) true) refl
         where
           by_end : misplaced_of (code_of n) true ≡ false → (e : Bool) → eqb n 0xC2 ≡ e
-              → body_onward (eqb n 0xC2) (unknown_of kinds this) p go next ≡ stopped_of p (Good this)
+              → body_onward (eqb n 0xC2) (unknown_of kinds this) p go next ≡ stopped_of p (Ok this)
           by_end m true e = rw e
           by_end m false e =
               let c = is_false (eqb (code_of n) 0) (both_hold (not (eqb (code_of n) 0)) (formed this.operand) l).0 in

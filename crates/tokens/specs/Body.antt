@@ -1,7 +1,7 @@
 -- Reading a body: "After its head's own tests b(:) reads on to the first C2 that starts a token, refusing at the first token that gives 10,
 -- 18, 11 or 12 (heights and branches wait for the run)". Refusal 12: "program number undefined, or not a value after b(to)", by the numbers
 -- defined so far. Assumes nothing.
-use Rattle.std.specs.Prelude.{ℕ, zero, suc, ◌-◌, Bool, true, false, not, List, get_or, eqb}
+use Rattle.std.specs.Prelude.{ℕ, zero, suc, ◌-◌, Bool, true, false, not, List, get_or, eqb, Err, Ok, Result}
 use Rattle.cells.specs.Choice.{pick}
 use Rattle.tokens.specs.Family.{call, assign}
 use Rattle.tokens.specs.Table.{is_program, first_program}
@@ -10,10 +10,8 @@ use Rattle.tokens.specs.Place.{read_of}
 use Rattle.tokens.specs.declared.decoding.Operand.{Operand}
 use Rattle.tokens.specs.declared.decoding.Operand.TheVariants.{Nothing, Literal, Text, Branch, Number, Definition}
 use Rattle.tokens.specs.declared.decoding.Token.{Token}
-use Rattle.tokens.specs.declared.read.Read.{Read}
-use Rattle.tokens.specs.declared.read.Read.TheVariants.{Refused, Good}
-use Rattle.tokens.specs.declared.body.Body.{Body}
-use Rattle.tokens.specs.declared.body.Body.TheVariants.{Ends, Stops}
+use Rattle.tokens.specs.declared.body.Stop.{Stop}
+use Rattle.rom.specs.Refusal.{refusal_number}
 
 -- the kind byte of a program number, by a list that has one for each number from the first up: 0 where the number is not defined, as any
 -- other number is not
@@ -37,15 +35,25 @@ unknown_by kinds code n m =
 unfoldable pub unknown_of : List ℕ → Token → Bool
 unknown_of kinds t = unknown_by kinds t.code t.number (number_in t.operand)
 
+-- a body as it is read: the place of its b(;), or the place of the first token that is refused, and why
+pub data Body : Type 0 where
+  Ends : (at : ℕ) → Body
+  Stops : (at why : ℕ) → Body
+
+-- what is handed back of one
+abbrev pub body_in : Result ℕ Stop → Body
+body_in (Ok at) = Ends at
+body_in (Err s) = Stops s.at (refusal_number s.why)
+
 -- what follows a whole token of a body at p: the body ends there, it is refused there, or reading goes on at q
 abbrev pub body_onward : Bool → Bool → ℕ → (ℕ → Body) → ℕ → Body
 body_onward true unknown p go q = Ends p
 body_onward false true p go q = Stops p 12
 body_onward false false p go q = go q
 
-abbrev pub after_of : List ℕ → ℕ → Read → (ℕ → Body) → Body
-after_of kinds p (Refused why) go = Stops p why
-after_of kinds p (Good t) go = body_onward (eqb t.number 0xC2) (unknown_of kinds t) p go t.next
+abbrev pub after_of : List ℕ → ℕ → Result Token ℕ → (ℕ → Body) → Body
+after_of kinds p (Err why) go = Stops p why
+after_of kinds p (Ok t) go = body_onward (eqb t.number 0xC2) (unknown_of kinds t) p go t.next
 
 -- reading on from p, of so many tokens at most: none is left where none can start before the length
 unfoldable pub body_from : List ℕ → ℕ → Bool → List ℕ → ℕ → ℕ → Body

@@ -1,6 +1,6 @@
 -- What is read of a token and of a body, as document 01 numbers it: 10, "a token's bytes pass the program length", 11, "token not in the
 -- list ..", 18, "token out of place", 12 in a body; or what was read. Assumes nothing.
-use Rattle.std.specs.Prelude.{[], ◌∷◌, ◌++◌, List, ℕ}
+use Rattle.std.specs.Prelude.{[], ◌∷◌, ◌++◌, List, ℕ, Err, Ok, Result}
 use Rattle.cells.specs.Choice.{pick}
 use Rattle.cells.specs.Numbered.{Numbered, gives, refuses}
 use Rattle.rom.specs.Numbered.{aim_says}
@@ -9,10 +9,8 @@ use Rattle.tokens.specs.declared.decoding.Operand.{Operand}
 use Rattle.tokens.specs.declared.decoding.Token.{Token}
 use Rattle.tokens.specs.declared.decoding.Decoded.{Decoded}
 use Rattle.tokens.specs.declared.decoding.Decoded.TheVariants.{Cut, Unlisted, Whole}
-use Rattle.tokens.specs.declared.read.Read.{Read}
-use Rattle.tokens.specs.declared.read.Read.TheVariants.{Refused, Good}
-use Rattle.tokens.specs.declared.body.Body.{Body}
-use Rattle.tokens.specs.declared.body.Body.TheVariants.{Ends, Stops}
+use Rattle.tokens.specs.Body.{Body}
+use Rattle.tokens.specs.Body.{Ends, Stops}
 use Rattle.tokens.specs.declared.reader.Piece.{Piece}
 use Rattle.tokens.specs.declared.reader.Piece.TheVariants.{End, Raw, Listed}
 
@@ -36,9 +34,9 @@ decoded_says (Unlisted code) = record { number = 11; values = code ∷ [] }
 decoded_says (Whole t) = gives (token_values t)
 
 -- ---- and by its place
-abbrev pub read_says : Read → Numbered
-read_says (Refused why) = refuses why
-read_says (Good t) = gives (token_values t)
+abbrev pub read_says : Result Token ℕ → Numbered
+read_says (Err why) = refuses why
+read_says (Ok t) = gives (token_values t)
 
 -- ---- a body: the place of its b(;), or the refusal with the place of the token that has it
 abbrev pub body_says : Body → Numbered

@@ -3,7 +3,7 @@ ghost use Rattle.std.specs.Prelude.{◌≡◌, Bool, true};
 ghost use Rattle.rom.specs.Bytes.{byte_of};
 ghost use Rattle.tokens.specs.Decode.{is_double};
 ghost use Rattle.tokens.specs.Place.{read_of};
-ghost use Rattle.tokens.specs.Body.{kind_of, number_in, unknown_of, body_of};
+ghost use Rattle.tokens.specs.Body.{kind_of, number_in, unknown_of, body_of, body_in};
 ghost use Rattle.tokens.specs.Joints.Body.{frequent, passed_of, ends_at, stopped_of};
 
 use crate::code::{double_code, family_of};
@@ -12,14 +12,14 @@ use crate::decoding::{
 };
 use crate::family;
 use crate::programs::{FIRST_PROGRAM, PROGRAMS_MOST};
-use crate::read::{Read, out_of_place, read_at};
-use rom::{Spread, byte};
+use crate::read::{out_of_place, read_at};
+use rom::{Refusal, Spread, byte};
 
-// Where a body ends: the place of its b(;), or the place of the first token that is refused, and why.
+// Where a body stops short of its b(;): the place of the first token that is refused, and why.
 #[derive(Clone, Copy)]
-pub enum Body {
-    Ends(u32),
-    Stops { at: u32, why: u32 },
+pub struct Stop {
+    pub at: u32,
+    pub why: Refusal,
 }
 
 // The kind byte of a program number, of those that the list says are defined: 0 for none.
@@ -142,15 +142,18 @@ fn ends_at(rom: &[u8], length: u32, place: u32) -> bool
 }
 
 // How a body ends at a place that it does not go on behind: with its b(;), or with a token that is refused, which a good one is by 12.
-fn stopped(rom: &[u8], length: u32, wide: bool, place: u32) -> Body
-    ensures { result ≡ stopped_of place (read_of rom.now length wide true place) }
+fn stopped(rom: &[u8], length: u32, wide: bool, place: u32) -> Result<u32, Stop>
+    ensures { body_in result ≡ stopped_of place (read_of rom.now length wide true place) }
 {
     if ends_at(rom, length, place) {
-        return Body::Ends(place);
+        return Ok(place);
     }
     match read_at(rom, length, wide, true, place) {
-        Read::Refused(why) => Body::Stops { at: place, why },
-        Read::Good(_) => Body::Stops { at: place, why: 12 },
+        Err(why) => Err(Stop { at: place, why }),
+        Ok(_) => Err(Stop {
+            at: place,
+            why: Refusal::Undefined,
+        }),
     }
 }
 
@@ -161,8 +164,8 @@ pub fn read_body(
     wide: bool,
     kinds: &[u8; PROGRAMS_MOST],
     place: u32,
-) -> Body
-    ensures { result ≡ body_of rom.now length wide kinds.now place }
+) -> Result<u32, Stop>
+    ensures { body_in result ≡ body_of rom.now length wide kinds.now place }
 {
     let mut at = place;
     // a loop: the next place is what the token at one says, no count

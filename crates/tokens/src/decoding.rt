@@ -8,7 +8,7 @@ ghost use Rattle.tokens.specs.Decode.{is_double, number_of, behind_number, behin
 ghost use Rattle.tokens.specs.Decode.{operand_of, is_kind, listed as decode_listed, decode_of};
 
 use crate::code::code_of;
-use rom::{Aim, Spread, aim_at, fcode_byte, fcode_word32, offset};
+use rom::{Spread, aim_at, fcode_byte, fcode_word32, offset};
 
 // What stands behind a token's number: a string's bytes lie in the ROM from start on, a branch has the bits of its offset and where it
 // leads, a definition its number and the kind byte behind that.
@@ -17,7 +17,7 @@ pub enum Operand {
     Nothing,
     Literal(u32),
     Text { start: u32, count: u32 },
-    Branch { bits: u32, aim: Aim },
+    Branch { bits: u32, aim: Option<u32> },
     Number(u32),
     Definition { number: u32, kind: u32 },
 }

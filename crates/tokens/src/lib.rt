@@ -15,11 +15,11 @@ mod quick;
 mod read;
 pub mod reader;
 
-pub use body::{Body, kind_of, number_in, read_body, unknown};
+pub use body::{Stop, kind_of, number_in, read_body, unknown};
 pub use code::{code_of, family_of, gives_of, return_gives_of, return_takes_of, takes_of};
 pub use decoding::{Decoded, Operand, Token, decode, is_program};
 pub use definition::{kind_in, new_number, takes_here};
 pub use glance::{Glance, glance_at, glance_from};
 pub use name::{name_front, name_rest};
 pub use quick::{Quick, first_codes, quick_at};
-pub use read::{Read, out_of_place, read_at};
+pub use read::{out_of_place, read_at};

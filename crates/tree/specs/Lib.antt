@@ -10,6 +10,8 @@ pub mod Node
 pub mod Property
 -- Lookups by path, 29 and 30.
 pub mod Path
+-- Where a value that is looked up lies, or why there is none.
+pub mod Sought
 -- The node table.
 pub mod Rows
 -- What a write and a lookup answer, as document 01 numbers it.

@@ -2,14 +2,12 @@
 -- "a 33rd node, or finish-device at node 1": at the first node, which is node 1 in every state that opening hands back. At the start "node
 -- 0 is the root, node 1 its child and active; both have no properties." Which node is active, and which the first, is the state's. Assumes
 -- nothing.
-use Rattle.std.specs.Prelude.{ℕ, ◌+◌, Bool, set, leb, eqb}
+use Rattle.std.specs.Prelude.{ℕ, ◌+◌, Bool, set, leb, eqb, Err, Ok, Result}
 use Rattle.cells.specs.Choice.{pick}
 use Rattle.rom.specs.Sizes.{nodes_most}
 use Rattle.tree.specs.Whole.{parent_of}
 use Rattle.tree.specs.Tree.{bare_tree, tree_on_nodes}
 use Rattle.tree.specs.declared.tree.Tree.{Tree}
-use Rattle.tree.specs.declared.tree.Outcome.{Outcome}
-use Rattle.tree.specs.declared.tree.Outcome.TheVariants.{Done, Refused}
 
 abbrev pub no_room : Tree → Bool
 no_room t = leb nodes_most t.nodes
@@ -32,28 +30,28 @@ fresh_tree = bare_tree 2
 
 -- what a write gives, with the tree then
 pub record Written : Type 0 where
-  pub outcome : Outcome
+  pub outcome : Result (Unit {0}) ℕ
   pub tree : Tree
 
 -- refused: the tree as it was
 abbrev pub write_refused : ℕ → Tree → Written
-write_refused why t = record { outcome = Refused why; tree = t }
+write_refused why t = record { outcome = Err why; tree = t }
 
 abbrev pub write_done : Tree → Written
-write_done t = record { outcome = Done; tree = t }
+write_done t = record { outcome = Ok tt; tree = t }
 
 -- what opening or closing a node gives, with the tree and the active node then
 pub record Activated : Type 0 where
-  pub outcome : Outcome
+  pub outcome : Result (Unit {0}) ℕ
   pub tree : Tree
   pub active : ℕ
 
-abbrev pub activated : Outcome → Tree → ℕ → Activated
+abbrev pub activated : Result (Unit {0}) ℕ → Tree → ℕ → Activated
 activated outcome t active = record { outcome = outcome; tree = t; active = active }
 
 abbrev pub new_device_of : Tree → ℕ → Activated
-new_device_of t active = pick (no_room t) (activated (Refused 20) t active) (activated Done (child_of t active) t.nodes)
+new_device_of t active = pick (no_room t) (activated (Err 20) t active) (activated (Ok tt) (child_of t active) t.nodes)
 
 -- finish-device changes no tree
 abbrev pub finish_device_of : Tree → ℕ → ℕ → Activated
-finish_device_of t first active = pick (outermost first active) (activated (Refused 20) t active) (activated Done t (parent_of t active))
+finish_device_of t first active = pick (outermost first active) (activated (Err 20) t active) (activated (Ok tt) t (parent_of t active))

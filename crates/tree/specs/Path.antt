@@ -1,7 +1,7 @@
 -- Lookups: "A path is "/" or "/a/b"; each part is matched with a child's "name" value less one final null, the oldest match at each level,
 -- no going back. Any other form, empty parts included, gives 29. Lookups test 6, 7, 29, 30." 29, 30: "path malformed; no such node or
 -- property". Assumes nothing.
-use Rattle.std.specs.Prelude.{ℕ, zero, suc, ◌+◌, ◌-◌, Bool, true, false, not, ◌&&◌, ◌||◌, List, [], ◌∷◌, length, ltb, eqb}
+use Rattle.std.specs.Prelude.{ℕ, zero, suc, ◌+◌, ◌-◌, Bool, true, false, not, ◌&&◌, ◌||◌, List, [], ◌∷◌, length, ltb, eqb, Err, Ok, Result}
 use Rattle.std.proofs.Math.Option.{Option, none, some}
 use Rattle.cells.specs.Choice.{pick}
 use Rattle.rom.specs.Sizes.{store_size}
@@ -10,10 +10,8 @@ use Rattle.tree.specs.Held.{Property, name_size, value_size, held_of, matches, s
 use Rattle.tree.specs.Whole.{parent_of, whole_tree}
 use Rattle.tree.specs.declared.tree.Tree.{Tree}
 use Rattle.tree.specs.declared.property.Found.{Found}
-use Rattle.tree.specs.declared.lookup.NodeSought.{NodeSought}
-use Rattle.tree.specs.declared.lookup.NodeSought.TheVariants.{Node, Refused}
-use Rattle.tree.specs.declared.lookup.ValueSought.{ValueSought}
-use Rattle.tree.specs.declared.lookup.ValueSought.TheVariants.{Value, Refused as Unfound}
+use Rattle.tree.specs.Sought.{ValueSought}
+use Rattle.tree.specs.Sought.{Value, Unfound}
 
 abbrev pub slash : ℕ
 slash = 0x2F
@@ -75,21 +73,21 @@ abbrev pub child_named : Tree → List ℕ → ℕ → List ℕ → Option ℕ
 child_named t store parent part = child_from t store parent part (t.nodes - 1) 1
 
 -- from a node down, a child for each part
-unfoldable pub down_from : Tree → List ℕ → ℕ → List (List ℕ) → NodeSought
-down_from t store node [] = Node node
+unfoldable pub down_from : Tree → List ℕ → ℕ → List (List ℕ) → Result ℕ ℕ
+down_from t store node [] = Ok node
 down_from t store node (part ∷ parts) =
-    elim (child_named t store node part) [ none ↦ Refused 30 | some k ↦ down_from t store k parts ]
+    elim (child_named t store node part) [ none ↦ Err 30 | some k ↦ down_from t store k parts ]
 
 abbrev pub behind_slash : List ℕ → List ℕ
 behind_slash [] = []
 behind_slash (b ∷ bs) = bs
 
 -- the node of a path
-unfoldable pub find_node_of : Tree → List ℕ → List ℕ → NodeSought
+unfoldable pub find_node_of : Tree → List ℕ → List ℕ → Result ℕ ℕ
 find_node_of t store path =
-    pick (not (eqb (length store) store_size)) (Refused 6)
-    (pick (not (whole_tree t)) (Refused 7)
-    (pick (malformed path) (Refused 29)
+    pick (not (eqb (length store) store_size)) (Err 6)
+    (pick (not (whole_tree t)) (Err 7)
+    (pick (malformed path) (Err 29)
     (down_from t store 0 (parts_of (behind_slash path)))))
 
 -- where the value of a record that was sought lies in the store, behind its name; a record that is not there stands behind them all
@@ -103,14 +101,14 @@ named_place t store node name = value_place t (found_from t store node name t.he
 -- the property of a path and a name, whose name is not judged
 unfoldable pub find_property_of : Tree → List ℕ → List ℕ → List ℕ → ValueSought
 find_property_of t store path name =
-    elim (find_node_of t store path) [ Node k ↦ named_place t store k name | Refused why ↦ Unfound why ]
+    elim (find_node_of t store path) [ Ok k ↦ named_place t store k name | Err why ↦ Unfound why ]
 
 -- its bytes; none where it is refused
 unfoldable pub property_value_of : Tree → List ℕ → List ℕ → List ℕ → List ℕ
 property_value_of t store path name =
     elim (find_node_of t store path) [
-      | Node k ↦ elim (value_in (held_of t store) k name) [ none ↦ [] | some value ↦ value ]
-      | Refused why ↦ []
+      | Ok k ↦ elim (value_in (held_of t store) k name) [ none ↦ [] | some value ↦ value ]
+      | Err why ↦ []
     ]
 
 -- the bytes of a node's own property, the node known by its number; none where there is none, or where the store has another size or the

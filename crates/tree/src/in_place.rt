@@ -9,8 +9,9 @@ ghost use Rattle.rom.specs.Sizes.{properties_most, store_size};
 ghost use Rattle.tree.specs.Whole.{name_most};
 
 use crate::property::{bad_name, find, lay_value, size_of};
-use crate::tree::{Outcome, live_bytes, wide};
+use crate::tree::{live_bytes, wide};
 use memory::{copy_in, copy_within};
+use rom::Refusal;
 use rom::sizes::{NODES_MOST, PROPERTIES_MOST, STORE_SIZE};
 
 // The live bytes of the store, and a place, at or behind their end, from which on all of it is zero. A store that is offered may hold
@@ -24,21 +25,21 @@ pub struct Tail {
 // What writing a property gives, with the count of records and the tail then.
 #[derive(Clone, Copy)]
 pub struct Kept {
-    pub outcome: Outcome,
+    pub outcome: Result<(), Refusal>,
     pub held: usize,
     pub tail: Tail,
 }
 
 #[derive(Clone, Copy)]
 pub struct Opened {
-    pub outcome: Outcome,
+    pub outcome: Result<(), Refusal>,
     pub nodes: usize,
     pub active: u32,
 }
 
 #[derive(Clone, Copy)]
 pub struct Closed {
-    pub outcome: Outcome,
+    pub outcome: Result<(), Refusal>,
     pub active: u32,
 }
 
@@ -104,11 +105,11 @@ fn replace(store: &mut [u8], tail: Tail, at: usize, old: usize, value: &[u8], nu
     clear_up_to(store, end + behind, tail.zeros);
 }
 
-fn refused_with(why: u32, held: usize, tail: Tail) -> Kept
+fn refused_with(why: Refusal, held: usize, tail: Tail) -> Kept
     ensures { result ≡ refused_with why held tail }
 {
     Kept {
-        outcome: Outcome::Refused(why),
+        outcome: Err(why),
         held,
         tail,
     }
@@ -119,7 +120,7 @@ fn done_with(held: usize, live: usize) -> Kept
     ensures { result ≡ done_with held live }
 {
     Kept {
-        outcome: Outcome::Done,
+        outcome: Ok(()),
         held,
         tail: Tail { live, zeros: live },
     }
@@ -146,12 +147,12 @@ fn add_property(
         result store.new owners.new name_sizes.new value_sizes.new }
 {
     if PROPERTIES_MOST <= held {
-        return refused_with(27, held, tail);
+        return refused_with(Refusal::StoreFull, held, tail);
     }
     let size = size_of(value.len(), null);
     let live = tail.live + name.len() + size;
     if STORE_SIZE < live {
-        return refused_with(27, held, tail);
+        return refused_with(Refusal::StoreFull, held, tail);
     }
     append(store, tail, name, value, null);
     owners[held] = node;
@@ -180,10 +181,10 @@ pub fn put_in(
         result store.new owners.new name_sizes.new value_sizes.new }
 {
     if bad_name(name) {
-        return refused_with(26, held, tail);
+        return refused_with(Refusal::BadName, held, tail);
     }
     if STORE_SIZE < value.len() {
-        return refused_with(27, held, tail);
+        return refused_with(Refusal::StoreFull, held, tail);
     }
     let Some(found) = find(
         &*store,
@@ -212,7 +213,7 @@ pub fn put_in(
     let old = wide(value_sizes[index]);
     let live = tail.live - old + size;
     if STORE_SIZE < live {
-        return refused_with(27, held, tail);
+        return refused_with(Refusal::StoreFull, held, tail);
     }
     replace(store, tail, found.at + name.len(), old, value, null);
     value_sizes[index] = size as u32;
@@ -232,14 +233,14 @@ pub fn open_child(parents: &mut [u32; NODES_MOST], nodes: usize, active: u32) ->
 {
     if NODES_MOST <= nodes {
         return Opened {
-            outcome: Outcome::Refused(20),
+            outcome: Err(Refusal::NoNode),
             nodes,
             active,
         };
     }
     parents[nodes] = active;
     Opened {
-        outcome: Outcome::Done,
+        outcome: Ok(()),
         nodes: nodes + 1,
         active: nodes as u32,
     }
@@ -251,12 +252,12 @@ pub fn close_child(parents: &[u32; NODES_MOST], first: u32, active: u32) -> Clos
 {
     if active == first {
         return Closed {
-            outcome: Outcome::Refused(20),
+            outcome: Err(Refusal::NoNode),
             active,
         };
     }
     Closed {
-        outcome: Outcome::Done,
+        outcome: Ok(()),
         active: parent_among(parents, wide(active)),
     }
 }

@@ -10,8 +10,8 @@ mod rows;
 mod tree;
 
 pub use in_place::{Closed, Kept, Opened, Tail, close_child, open_child, put_in, tail_of};
-pub use lookup::{NodeSought, ValueSought, find_node, find_property, own_value, property_value};
+pub use lookup::{ValuePlace, find_node, find_property, own_value, property_value};
 pub use node::{fresh_tree, no_tree};
 pub use property::same_bytes;
 pub use rows::{Row, node_rows, node_table};
-pub use tree::{Outcome, Tree, is_whole};
+pub use tree::{Tree, is_whole};

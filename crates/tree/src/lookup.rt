@@ -1,31 +1,27 @@
 // Lookups: a node by its path, and a property by its node's path and its own name.
 ghost use Rattle.std.specs.Prelude.{◌≡◌, ◌&&◌, ◌+◌, ◌≤◌, ◌<◌, length, drop, eqb};
+ghost use Rattle.rom.specs.Refusal.{numbered};
 ghost use Rattle.tree.specs.Held.{live_of};
 ghost use Rattle.tree.specs.Whole.{parent_of};
 ghost use Rattle.tree.specs.Path.{split_of, any_empty, malformed as path_malformed, less_null, is_called, child_named, down_from};
 ghost use Rattle.tree.specs.Path.{named_place, find_node_of, find_property_of, property_value_of};
 ghost use Rattle.tree.specs.Path.{own_value_of};
+ghost use Rattle.tree.specs.Sought.{sought_in};
 ghost use Rattle.tree.specs.Laws.Path.{part_end, child_sought};
 ghost use Rattle.rom.specs.Sizes.{nodes_most, properties_most};
 
 use crate::property::{find, same_bytes};
 use crate::tree::{Tree, is_whole, wide};
+use rom::Refusal;
 use rom::sizes::STORE_SIZE;
 
 const SLASH: u8 = 0x2F;
 
-// A node, or why there is none.
+// Where a property's value lies in the store: its first place, and its size.
 #[derive(Clone, Copy)]
-pub enum NodeSought {
-    Node(u32),
-    Refused(u32),
-}
-
-// Where a property's value lies in the store, its first place and its size, or why there is none.
-#[derive(Clone, Copy)]
-pub enum ValueSought {
-    Value(usize, usize),
-    Refused(u32),
+pub struct ValuePlace {
+    pub at: usize,
+    pub size: usize,
 }
 
 // Where the part that starts at a place ends: at the next slash, or with the path.
@@ -60,9 +56,9 @@ fn malformed(path: &[u8]) -> bool
 }
 
 // Where a node's property has its value, the oldest of that name.
-fn place_of(store: &[u8], tree: Tree, node: u32, name: &[u8]) -> ValueSought
+fn place_of(store: &[u8], tree: Tree, node: u32, name: &[u8]) -> Result<ValuePlace, Refusal>
     requires { (tree.held ≤ properties_most) × (live_of tree ≤ length store.now) }
-    ensures { result ≡ named_place tree store.now node name.now }
+    ensures { sought_in result ≡ named_place tree store.now node name.now }
 {
     let Some(found) = find(
         store,
@@ -73,12 +69,12 @@ fn place_of(store: &[u8], tree: Tree, node: u32, name: &[u8]) -> ValueSought
         node,
         name,
     ) else {
-        return ValueSought::Refused(30);
+        return Err(Refusal::NotFound);
     };
-    ValueSought::Value(
-        found.at + wide(tree.name_sizes[found.index]),
-        wide(tree.value_sizes[found.index]),
-    )
+    Ok(ValuePlace {
+        at: found.at + wide(tree.name_sizes[found.index]),
+        size: wide(tree.value_sizes[found.index]),
+    })
 }
 
 // A value less one final null.
@@ -97,8 +93,8 @@ fn is_called(store: &[u8], tree: Tree, node: u32, part: &[u8]) -> bool
     ensures { result ≡ is_called tree store.now node part.now }
 {
     match place_of(store, tree, node, b"name") {
-        ValueSought::Value(at, size) => same_bytes(less_null(&store[at..at + size]), part),
-        ValueSought::Refused(_) => false,
+        Ok(ValuePlace { at, size }) => same_bytes(less_null(&store[at..at + size]), part),
+        Err(_) => false,
     }
 }
 
@@ -110,34 +106,34 @@ fn is_child(store: &[u8], tree: Tree, k: usize, node: u32, part: &[u8]) -> bool
 }
 
 // The oldest child with that name, or 30. The root is nobody's child, so the search starts at node 1.
-fn child_named(store: &[u8], tree: Tree, node: u32, part: &[u8]) -> NodeSought
+fn child_named(store: &[u8], tree: Tree, node: u32, part: &[u8]) -> Result<u32, Refusal>
     requires { (tree.nodes ≤ nodes_most) × (tree.held ≤ properties_most) × (live_of tree ≤ length store.now) }
-    ensures { result ≡ child_sought (child_named tree store.now node part.now) }
+    ensures { numbered result ≡ child_sought (child_named tree store.now node part.now) }
 {
     for k in 1..tree.nodes {
         if is_child(store, tree, k, node, part) {
-            return NodeSought::Node(k as u32);
+            return Ok(k as u32);
         }
     }
-    NodeSought::Refused(30)
+    Err(Refusal::NotFound)
 }
 
 // From the root down, a child for each part of the path from a place on.
-fn down(store: &[u8], tree: Tree, path: &[u8], from: usize) -> NodeSought
+fn down(store: &[u8], tree: Tree, path: &[u8], from: usize) -> Result<u32, Refusal>
     requires { (tree.nodes ≤ nodes_most) × (tree.held ≤ properties_most) × (live_of tree ≤ length store.now)
         × (from ≤ length path.now) }
-    ensures { result ≡ down_from tree store.now 0 (split_of (drop from path.now)) }
+    ensures { numbered result ≡ down_from tree store.now 0 (split_of (drop from path.now)) }
 {
     let mut node = 0;
     let mut at = from;
     // a loop: the next part begins where a slash says, no count
     loop {
         let end = part_end(path, at);
-        let NodeSought::Node(child) = child_named(store, tree, node, &path[at..end]) else {
-            return NodeSought::Refused(30);
+        let Ok(child) = child_named(store, tree, node, &path[at..end]) else {
+            return Err(Refusal::NotFound);
         };
         if end == path.len() {
-            return NodeSought::Node(child);
+            return Ok(child);
         }
         node = child;
         at = end + 1;
@@ -145,32 +141,30 @@ fn down(store: &[u8], tree: Tree, path: &[u8], from: usize) -> NodeSought
 }
 
 // The node of a path: 6, 7, 29, 30.
-pub fn find_node(store: &[u8], tree: Tree, path: &[u8]) -> NodeSought
-    ensures { result ≡ find_node_of tree store.now path.now }
+pub fn find_node(store: &[u8], tree: Tree, path: &[u8]) -> Result<u32, Refusal>
+    ensures { numbered result ≡ find_node_of tree store.now path.now }
 {
     if store.len() != STORE_SIZE {
-        return NodeSought::Refused(6);
+        return Err(Refusal::WrongSize);
     }
     if !is_whole(tree) {
-        return NodeSought::Refused(7);
+        return Err(Refusal::Damaged);
     }
     if malformed(path) {
-        return NodeSought::Refused(29);
+        return Err(Refusal::BadPath);
     }
     if path.len() == 1 {
-        return NodeSought::Node(0);
+        return Ok(0);
     }
     down(store, tree, path, 1)
 }
 
 // Where the value of the property of a path and a name lies: 6, 7, 29, 30.
-pub fn find_property(store: &[u8], tree: Tree, path: &[u8], name: &[u8]) -> ValueSought
-    ensures { result ≡ find_property_of tree store.now path.now name.now }
+pub fn find_property(store: &[u8], tree: Tree, path: &[u8], name: &[u8]) -> Result<ValuePlace, Refusal>
+    ensures { sought_in result ≡ find_property_of tree store.now path.now name.now }
 {
-    match find_node(store, tree, path) {
-        NodeSought::Node(node) => place_of(store, tree, node, name),
-        NodeSought::Refused(why) => ValueSought::Refused(why),
-    }
+    let node = find_node(store, tree, path)?;
+    place_of(store, tree, node, name)
 }
 
 // The value itself, a part of the store; the empty part where find_property refuses.
@@ -178,8 +172,8 @@ pub fn property_value<'a>(store: &'a [u8], tree: Tree, path: &[u8], name: &[u8])
     ensures { result.now ≡ property_value_of tree store.now path.now name.now }
 {
     match find_property(store, tree, path, name) {
-        ValueSought::Value(at, size) => &store[at..at + size],
-        ValueSought::Refused(_) => &store[..0],
+        Ok(ValuePlace { at, size }) => &store[at..at + size],
+        Err(_) => &store[..0],
     }
 }
 
@@ -195,7 +189,7 @@ pub fn own_value<'a>(store: &'a [u8], tree: Tree, node: u32, name: &[u8]) -> &'a
         return &store[..0];
     }
     match place_of(store, tree, node, name) {
-        ValueSought::Value(at, size) => &store[at..at + size],
-        ValueSought::Refused(_) => &store[..0],
+        Ok(ValuePlace { at, size }) => &store[at..at + size],
+        Err(_) => &store[..0],
     }
 }

@@ -20,13 +20,6 @@ pub struct Tree {
     pub held: usize,
 }
 
-// Done, or why not.
-#[derive(Clone, Copy)]
-pub enum Outcome {
-    Done,
-    Refused(u32),
-}
-
 pub fn wide(x: u32) -> usize
     ensures { (result ≡ x) × (result < 4294967296) }
 {

@@ -1,10 +1,8 @@
 -- The header test at work on bench ROMs of document 01: antt computes each. Assumes nothing.
-use Rattle.std.specs.Prelude.{◌≡◌, ℕ, true, false, List, [], ◌∷◌, ◌++◌, map, refl}
+use Rattle.std.specs.Prelude.{◌≡◌, ℕ, true, false, List, [], ◌∷◌, ◌++◌, map, refl, None, Option, Some}
 use Rattle.rom.specs.Sum.{sum_of}
 use Rattle.rom.specs.Header.{header_of}
 use Rattle.rom.specs.Branch.{aim_of}
-use Rattle.rom.specs.declared.branch.Aim.{Aim}
-use Rattle.rom.specs.declared.branch.Aim.TheVariants.{Inside, Outside}
 
 -- the scale board's program
 abbrev scale : List ℕ
@@ -32,7 +30,7 @@ unfolding header_of sum_of
 verdicts = refl
 
 -- offsets at place 9: back to 8, to 7 and below 0 are told from a good place, and so is the length
-abbrev aims : List Aim
+abbrev aims : List (Option ℕ)
 aims =
     aim_of (0 ∷ 0 ∷ 0 ∷ 0 ∷ 0 ∷ 0 ∷ 0 ∷ 0 ∷ 0x13 ∷ 0xFF ∷ []) 20 false 9 ∷
     aim_of (0 ∷ 0 ∷ 0 ∷ 0 ∷ 0 ∷ 0 ∷ 0 ∷ 0 ∷ 0x13 ∷ 0xFE ∷ []) 20 false 9 ∷
@@ -43,6 +41,6 @@ aims =
     aim_of (0 ∷ 0 ∷ 0 ∷ 0 ∷ 0 ∷ 0 ∷ 0 ∷ 0 ∷ 0x13 ∷ 0x80 ∷ 0x00 ∷ []) 20 true 9 ∷
     []
 
-all_aims : aims ≡ Inside 8 ∷ Outside ∷ Outside ∷ Inside 19 ∷ Outside ∷ Inside 8 ∷ Outside ∷ []
+all_aims : aims ≡ Some 8 ∷ None ∷ None ∷ Some 19 ∷ None ∷ Some 8 ∷ None ∷ []
 unfolding aim_of
 all_aims = refl

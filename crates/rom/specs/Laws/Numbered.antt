@@ -1,10 +1,9 @@
 -- What the enums of this crate say is what the definitions compute. Assumes nothing.
-use Rattle.std.specs.Prelude.{◌≡◌, ℕ, Bool, false, ◌&&◌, List, ℤ, pos, negsuc, nat_le, nat_lt, refl}
+use Rattle.std.specs.Prelude.{◌≡◌, ℕ, Bool, false, ◌&&◌, List, ℤ, pos, negsuc, nat_le, nat_lt, refl, None, Some}
 use Rattle.cells.specs.Choice.{pick}
 use Rattle.rom.specs.Sizes.{first_place}
 use Rattle.rom.specs.Branch.{destination_of, landing, aim_of}
 use Rattle.cells.specs.Laws.Numbered.{pick_says}
-use Rattle.rom.specs.declared.branch.Aim.TheVariants.{Inside, Outside}
 use Rattle.rom.specs.Numbered.{aim_says}
 
 -- whether a place that an offset leads to lies in 8..length-1
@@ -14,7 +13,7 @@ lands_in length (negsuc n) = false
 
 -- a branch says 19 exactly where its offset leads to outside 8..length-1
 landing_says : (length : ℕ) (to : ℤ) → (aim_says (landing length to)).number ≡ pick (lands_in length to) 0 19
-landing_says length (pos to) = pick_says (λ a. (aim_says a).number) (nat_le first_place to && nat_lt to length) (Inside to) Outside
+landing_says length (pos to) = pick_says (λ a. (aim_says a).number) (nat_le first_place to && nat_lt to length) (Some to) None
 landing_says length (negsuc n) = refl
 
 pub aim_says_lem : (rom : List ℕ) (length : ℕ) (wide : Bool) (at : ℕ)

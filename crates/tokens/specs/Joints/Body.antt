@@ -1,15 +1,14 @@
 -- Reading a body, by the code's own steps. Assumes nothing.
-use Rattle.std.specs.Prelude.{ℕ, Bool, true, not, ◌&&◌, List, ltb, leb, eqb}
+use Rattle.std.specs.Prelude.{ℕ, Bool, true, not, ◌&&◌, List, ltb, leb, eqb, Err, Ok, Result}
 use Rattle.cells.specs.Choice.{pick}
 use Rattle.rom.specs.Bytes.{byte_of}
 use Rattle.tokens.specs.Code.{code_of, form_in}
 use Rattle.tokens.specs.Decode.{number_of, behind_number, behind_of}
 use Rattle.tokens.specs.Place.{misplaced_of}
-use Rattle.tokens.specs.declared.read.Read.{Read}
-use Rattle.tokens.specs.declared.read.Read.TheVariants.{Refused, Good}
-use Rattle.tokens.specs.declared.body.Body.{Body}
-use Rattle.tokens.specs.declared.body.Body.TheVariants.{Ends, Stops}
+use Rattle.tokens.specs.Body.{Body}
+use Rattle.tokens.specs.Body.{Ends, Stops}
 use Rattle.tokens.specs.Body.{unknown_by}
+use Rattle.tokens.specs.declared.decoding.Token.{Token}
 
 -- further than any program reaches
 abbrev pub beyond : ℕ
@@ -35,6 +34,6 @@ abbrev pub ends_at : List ℕ → ℕ → ℕ → Bool
 ends_at rom length p = ltb p length && eqb (byte_of rom p) 0xC2
 
 -- how a body ends where it does not go on, by what was read there
-abbrev pub stopped_of : ℕ → Read → Body
-stopped_of p (Refused why) = Stops p why
-stopped_of p (Good t) = pick (eqb t.number 0xC2) (Ends p) (Stops p 12)
+abbrev pub stopped_of : ℕ → Result Token ℕ → Body
+stopped_of p (Err why) = Stops p why
+stopped_of p (Ok t) = pick (eqb t.number 0xC2) (Ends p) (Stops p 12)

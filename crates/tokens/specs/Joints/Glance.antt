@@ -1,6 +1,6 @@
 -- A token at a glance: what a loop asks of a token, in plain numbers. Code 0 is what is cut off, or not in the list, or badly formed, and
 -- says no more: why, is `read_of`'s to say. Assumes nothing.
-use Rattle.std.specs.Prelude.{ℕ, ◌+◌, Bool, ◌&&◌, List, ltb}
+use Rattle.std.specs.Prelude.{ℕ, ◌+◌, Bool, ◌&&◌, List, ltb, Err, Ok, Result}
 use Rattle.cells.specs.Choice.{pick}
 use Rattle.rom.specs.Bytes.{byte_of}
 use Rattle.rom.specs.Branch.{aim_of, place_in}
@@ -13,8 +13,6 @@ use Rattle.tokens.specs.declared.decoding.Operand.TheVariants.{Nothing, Literal,
 use Rattle.tokens.specs.declared.decoding.Token.{Token}
 use Rattle.tokens.specs.declared.decoding.Decoded.{Decoded}
 use Rattle.tokens.specs.declared.decoding.Decoded.TheVariants.{Cut, Unlisted, Whole}
-use Rattle.tokens.specs.declared.read.Read.{Read}
-use Rattle.tokens.specs.declared.read.Read.TheVariants.{Refused, Good}
 use Rattle.tokens.specs.declared.glance.Glance.{Glance}
 
 -- the number that a token is about: behind b(to) the one that stands there, of a definition the new one, else its own
@@ -54,9 +52,9 @@ glance_of rom length wide p = glanced (decode_of rom length wide p)
 
 -- ---- for the code's own steps
 -- why a token is refused
-abbrev pub why_glanced : Read → ℕ
-why_glanced (Refused why) = why
-why_glanced (Good t) = 0
+abbrev pub why_glanced : Result Token ℕ → ℕ
+why_glanced (Err why) = why
+why_glanced (Ok t) = 0
 
 -- what a first byte says: that the number has a second, by a form that no code has, or the code of the number that it is
 abbrev pub two_bytes : ℕ

@@ -1,8 +1,7 @@
 -- The definitions at work: antt computes each of these. Every ROM here is its program alone, behind eight bytes that no token reads.
 -- Assumes nothing.
-use Rattle.std.specs.Prelude.{ℕ, ◌≡◌, refl, true, false, List, [], ◌∷◌}
+use Rattle.std.specs.Prelude.{ℕ, ◌≡◌, refl, true, false, List, [], ◌∷◌, Err, None, Result, Some}
 use Rattle.rom.specs.Branch.{aim_of}
-use Rattle.rom.specs.declared.branch.Aim.TheVariants.{Inside, Outside}
 use Rattle.tokens.specs.Table.{ends, lows, highs, doubles, table, row_of}
 use Rattle.tokens.specs.Code.{code_of}
 use Rattle.tokens.specs.Decode.{token_of, behind_of, operand_of, token_if_whole, decode_of}
@@ -12,11 +11,10 @@ use Rattle.tokens.specs.Joints.Glance.{seen_as, nothing_seen, glance_of}
 use Rattle.tokens.specs.declared.decoding.Operand.TheVariants.{Nothing, Literal, Text, Branch, Definition}
 use Rattle.tokens.specs.declared.decoding.Decoded.{Decoded}
 use Rattle.tokens.specs.declared.decoding.Decoded.TheVariants.{Cut, Unlisted, Whole}
-use Rattle.tokens.specs.declared.read.Read.{Read}
-use Rattle.tokens.specs.declared.read.Read.TheVariants.{Refused}
 use Rattle.tokens.specs.declared.glance.Glance.{Glance}
-use Rattle.tokens.specs.declared.body.Body.{Body}
-use Rattle.tokens.specs.declared.body.Body.TheVariants.{Ends, Stops}
+use Rattle.tokens.specs.Body.{Body}
+use Rattle.tokens.specs.Body.{Ends, Stops}
+use Rattle.tokens.specs.declared.decoding.Token.{Token}
 
 abbrev behind_header : List ℕ → List ℕ
 behind_header l = 0 ∷ 0 ∷ 0 ∷ 0 ∷ 0 ∷ 0 ∷ 0 ∷ 0 ∷ l
@@ -67,8 +65,8 @@ all_whole : wholes
     Whole (token_of 0x12 0x05_02_00_02 (Text 10 2) 12) ∷
     Whole (token_of 0xCA 0x0E_16_00_00 (Definition 0xFFF 0xB8) 14) ∷
     Whole (token_of 0x801 0x11_00_00_00 Nothing 10) ∷
-    Whole (token_of 0x13 0x03_03_00_00 (Branch 0xFF (Inside 8)) 10) ∷
-    Whole (token_of 0x14 0x04_03_00_10 (Branch 0xFFFE Outside) 11) ∷
+    Whole (token_of 0x13 0x03_03_00_00 (Branch 0xFF (Some 8)) 10) ∷
+    Whole (token_of 0x14 0x04_03_00_10 (Branch 0xFFFE None) 11) ∷
     []
 unfolding decode_of token_if_whole behind_of operand_of aim_of code_of row_of table ends lows highs doubles
 all_whole = refl
@@ -113,7 +111,7 @@ unfolding glance_of decode_of token_if_whole behind_of operand_of aim_of code_of
 all_blank = refl
 
 -- refusal 18 comes before 11, and after 10; a kind without its head is always out of place
-abbrev judgements : List Read
+abbrev judgements : List (Result Token ℕ)
 judgements =
     read_of (behind_header (0xB5 ∷ 0x08 ∷ 0x01 ∷ 0x46 ∷ [])) 12 false true 8 ∷
     read_of (behind_header (0xB5 ∷ 0x08 ∷ 0x01 ∷ 0x46 ∷ [])) 12 false false 8 ∷
@@ -123,7 +121,7 @@ judgements =
     read_of (behind_header (0xCC ∷ [])) 9 false true 8 ∷
     []
 
-all_judged : judgements ≡ Refused 18 ∷ Refused 11 ∷ Refused 10 ∷ Refused 18 ∷ Refused 18 ∷ Refused 18 ∷ []
+all_judged : judgements ≡ Err 18 ∷ Err 11 ∷ Err 10 ∷ Err 18 ∷ Err 18 ∷ Err 18 ∷ []
 unfolding read_of misplaced_of decode_of token_if_whole behind_of operand_of aim_of code_of row_of table ends lows highs doubles
 all_judged = refl
 

@@ -1,6 +1,6 @@
 -- Laws that whoever goes by glances needs: which token `read_of` has at a place, by what a glance at that place says. For each form of
 -- operand there is a law that gives the token whole. Assumes nothing.
-use Rattle.std.specs.Prelude.{ℕ, ◌+◌, ◌-◌, ◌*◌, ◌≤◌, ◌<◌, ◌≡◌, Bool, true, false, not, ◌&&◌, ◌||◌, List, T, eqb, ltb, leb}
+use Rattle.std.specs.Prelude.{ℕ, ◌+◌, ◌-◌, ◌*◌, ◌≤◌, ◌<◌, ◌≡◌, Bool, true, false, not, ◌&&◌, ◌||◌, List, T, eqb, ltb, leb, Err, Ok}
 use Rattle.std.proofs.Math.Path.{refl, ap}
 use Rattle.std.proofs.Common.{sym, subst, ◌∙◌, le-ltb, leb-true, eqb→eq}
 use Rattle.std.proofs.Math.Bool.{or-false}
@@ -24,7 +24,6 @@ use Rattle.tokens.specs.declared.decoding.Operand.TheVariants.{Nothing, Literal,
 use Rattle.tokens.specs.declared.decoding.Token.{Token}
 use Rattle.tokens.specs.declared.decoding.Decoded.{Decoded}
 use Rattle.tokens.specs.declared.decoding.Decoded.TheVariants.{Cut, Unlisted, Whole}
-use Rattle.tokens.specs.declared.read.Read.TheVariants.{Refused, Good}
 use Rattle.tokens.specs.declared.glance.Glance.{Glance}
 
 -- ---- no number of two bytes has an operand
@@ -71,7 +70,7 @@ seen g (Unlisted code) e z = absurd (z (ap code_in (sym e)))
 seen g (Whole t) e z = (t, refl, e)
 
 refuses : (within : Bool) (g : Glance) (d : Decoded) → glanced d ≡ g → g.code ≡ 0 → ((t : Token) → d ≡ Whole t → t.code ≡ 0 → ⊥)
-    → (why : ℕ) × (judged within d ≡ Refused why)
+    → (why : ℕ) × (judged within d ≡ Err why)
 refuses within g Cut e z l = (10, refl)
 refuses within g (Unlisted code) e z l = (pick (misplaced_of code within) 18 11, refl)
 refuses within g (Whole t) e z l = absurd (l t refl (ap code_in e ∙ z))
@@ -80,12 +79,12 @@ nothing_misplaced : (within : Bool) (g : Glance) → nothing_seen ≡ g → misp
 unfolding misplaced_of
 nothing_misplaced within g e m = subst T (sym (rw (ap code_in (sym e)) at m)) tt
 
-displaced : (within : Bool) (g : Glance) (d : Decoded) → glanced d ≡ g → misplaced_of g.code within ≡ true → judged within d ≡ Refused 18
+displaced : (within : Bool) (g : Glance) (d : Decoded) → glanced d ≡ g → misplaced_of g.code within ≡ true → judged within d ≡ Err 18
 displaced within g Cut e m = absurd (nothing_misplaced within g e m)
 displaced within g (Unlisted code) e m = absurd (nothing_misplaced within g e m)
 displaced within g (Whole t) e m = rw (ap code_in e, m)
 
-well_placed : (within : Bool) (t : Token) → misplaced_of t.code within ≡ false → judged within (Whole t) ≡ Good t
+well_placed : (within : Bool) (t : Token) → misplaced_of t.code within ≡ false → judged within (Whole t) ≡ Ok t
 well_placed within t m = rw m
 
 -- ---- by parts
@@ -95,13 +94,13 @@ same_token n m c k o q x y e f g h = rw (e, f, g, h)
 -- ---- what `read_of` says at a place where a glance was taken
 module _ (rom : List ℕ) (size : ℕ) (wide within : Bool) (p : ℕ) (g : Glance) (e : glance_of rom size wide p ≡ g) where
   -- no token of the list: one of the refusals 10, 18 and 11
-  pub glance_refused : g.code ≡ 0 → (why : ℕ) × (read_of rom size wide within p ≡ Refused why)
+  pub glance_refused : g.code ≡ 0 → (why : ℕ) × (read_of rom size wide within p ≡ Err why)
   unfolding glance_of read_of
   glance_refused z =
       refuses within g (decode_of rom size wide p) e z (λ t f. (subst (Here rom size wide p) f (here rom size wide p)).coded)
 
   -- one out of place
-  pub glance_misplaced : misplaced_of g.code within ≡ true → read_of rom size wide within p ≡ Refused 18
+  pub glance_misplaced : misplaced_of g.code within ≡ true → read_of rom size wide within p ≡ Err 18
   unfolding glance_of read_of
   glance_misplaced m = displaced within g (decode_of rom size wide p) e m
 
@@ -154,29 +153,29 @@ module _ (rom : List ℕ) (size : ℕ) (wide within : Bool) (p : ℕ) (g : Glanc
         by false h = h
 
     module _ (m : misplaced_of g.code within ≡ false) where
-      read_here : read_of rom size wide within p ≡ Good this
+      read_here : read_of rom size wide within p ≡ Ok this
       unfolding read_of
       read_here = ap (judged within) decoded_here.0 ∙ well_placed within this (rw same_code m)
 
       -- the token that is read, whatever its form
-      pub glance_read : (t : Token) × (read_of rom size wide within p ≡ Good t) × (seen_in t ≡ g)
+      pub glance_read : (t : Token) × (read_of rom size wide within p ≡ Ok t) × (seen_in t ≡ g)
       glance_read = (this, read_here, decoded_here.1)
 
       -- and by its form
       read_as : (n : ℕ) (o : Operand) → number_of rom p ≡ n → this.operand ≡ o
-          → read_of rom size wide within p ≡ Good (token_of n g.code o g.next)
-      read_as n o a b = read_here ∙ ap Good (same_token _ _ _ _ _ _ _ _ a same_code b same_next)
+          → read_of rom size wide within p ≡ Ok (token_of n g.code o g.next)
+      read_as n o a b = read_here ∙ ap Ok (same_token _ _ _ _ _ _ _ _ a same_code b same_next)
 
       own_number : (o : Operand) → this.operand ≡ o → about_of (number_of rom p) o ≡ g.number
       own_number o b = ap (about_of (number_of rom p)) (sym b) ∙ about
 
-      pub read_plain : form_in g.code ≡ none → read_of rom size wide within p ≡ Good (token_of g.number g.code Nothing g.next)
+      pub read_plain : form_in g.code ≡ none → read_of rom size wide within p ≡ Ok (token_of g.number g.code Nothing g.next)
       unfolding operand_of
       read_plain k = let o = operand_is none k in read_as g.number Nothing (own_number Nothing o) o
 
       -- b(lit)
       pub read_literal : form_in g.code ≡ literal
-          → read_of rom size wide within p ≡ Good (token_of g.number g.code (Literal (word32_of rom (p + 1))) g.next)
+          → read_of rom size wide within p ≡ Ok (token_of g.number g.code (Literal (word32_of rom (p + 1))) g.next)
       unfolding operand_of
       read_literal k =
           let d = one_byte literal k (λ z. omega arith) in
@@ -197,7 +196,7 @@ module _ (rom : List ℕ) (size : ℕ) (wide within : Bool) (p : ℕ) (g : Glanc
       text_fits k = let e = text_ends k in omega arith
 
       pub read_text : form_in g.code ≡ string
-          → read_of rom size wide within p ≡ Good (token_of g.number g.code (Text (p + 2) (g.next - (p + 2))) g.next)
+          → read_of rom size wide within p ≡ Ok (token_of g.number g.code (Text (p + 2) (g.next - (p + 2))) g.next)
       unfolding operand_of
       read_text k =
           let d = one_byte string k (λ z. omega arith) in
@@ -217,7 +216,7 @@ module _ (rom : List ℕ) (size : ℕ) (wide within : Bool) (p : ℕ) (g : Glanc
 
       pub read_branch : form_in g.code ≡ offset
           → read_of rom size wide within p
-          ≡ Good (token_of g.number g.code (Branch (offset_of rom wide (p + 1)) (aim_of rom size wide (p + 1))) g.next)
+          ≡ Ok (token_of g.number g.code (Branch (offset_of rom wide (p + 1)) (aim_of rom size wide (p + 1))) g.next)
       read_branch k = let o = branch_is k in read_as g.number branch (own_number branch o) o
 
       pub branch_aim : form_in g.code ≡ offset → place_in (aim_of rom size wide (p + 1)) ≡ g.aim
@@ -225,7 +224,7 @@ module _ (rom : List ℕ) (size : ℕ) (wide within : Bool) (p : ℕ) (g : Glanc
 
       -- b(to)
       pub read_number : form_in g.code ≡ number
-          → read_of rom size wide within p ≡ Good (token_of (byte_of rom p) g.code (Number g.number) g.next)
+          → read_of rom size wide within p ≡ Ok (token_of (byte_of rom p) g.code (Number g.number) g.next)
       unfolding operand_of
       read_number k =
           let d = one_byte number k (λ z. omega arith) in
@@ -242,7 +241,7 @@ module _ (rom : List ℕ) (size : ℕ) (wide within : Bool) (p : ℕ) (g : Glanc
             o ∙ rw (a, b)
 
         a_definition : (form ≡ none → ⊥)
-            → (read_of rom size wide within p ≡ Good (token_of (byte_of rom p) g.code (Definition g.number g.kind) g.next))
+            → (read_of rom size wide within p ≡ Ok (token_of (byte_of rom p) g.code (Definition g.number g.kind) g.next))
             × T (is_program g.number && is_kind g.kind)
         a_definition y =
             let d = one_byte form f y in (
@@ -251,13 +250,13 @@ module _ (rom : List ℕ) (size : ℕ) (wide within : Bool) (p : ℕ) (g : Glanc
             )
 
       pub read_head : form_in g.code ≡ head
-          → (read_of rom size wide within p ≡ Good (token_of (byte_of rom p) g.code (Definition g.number g.kind) g.next))
+          → (read_of rom size wide within p ≡ Ok (token_of (byte_of rom p) g.code (Definition g.number g.kind) g.next))
           × T (is_program g.number && is_kind g.kind)
       unfolding operand_of
       read_head k = a_definition head _ _ k refl (λ z. omega arith)
 
       pub read_named : form_in g.code ≡ named_head
-          → (read_of rom size wide within p ≡ Good (token_of (byte_of rom p) g.code (Definition g.number g.kind) g.next))
+          → (read_of rom size wide within p ≡ Ok (token_of (byte_of rom p) g.code (Definition g.number g.kind) g.next))
           × T (is_program g.number && is_kind g.kind)
       unfolding operand_of
       read_named k = a_definition named_head _ _ k refl (λ z. omega arith)

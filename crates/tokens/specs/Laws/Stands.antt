@@ -1,5 +1,5 @@
 -- What is known of a token that was read: what its bytes and its place say of it. Assumes nothing.
-use Rattle.std.specs.Prelude.{ℕ, ◌≡◌, refl, Bool, not, List, T, eqb}
+use Rattle.std.specs.Prelude.{ℕ, ◌≡◌, refl, Bool, not, List, T, eqb, Err, Ok, Result}
 use Rattle.std.proofs.Common.{subst, arith}
 use Rattle.cells.specs.Laws.Tests.{pick_is}
 use Rattle.cells.specs.Laws.Facts.{both_hold}
@@ -10,8 +10,6 @@ use Rattle.tokens.specs.Laws.Tokens.{Follows, number_ahead, behind_ahead, decode
 use Rattle.tokens.specs.declared.decoding.Token.{Token}
 use Rattle.tokens.specs.declared.decoding.Decoded.{Decoded}
 use Rattle.tokens.specs.declared.decoding.Decoded.TheVariants.{Cut, Unlisted, Whole}
-use Rattle.tokens.specs.declared.read.Read.{Read}
-use Rattle.tokens.specs.declared.read.Read.TheVariants.{Refused, Good}
 
 pub record Stands (rom : List ℕ) (size : ℕ) (wide within : Bool) (p : ℕ) (t : Token) : Type 0 where
   pub follows : Follows size p t
@@ -51,15 +49,15 @@ module _ (rom : List ℕ) (size : ℕ) (wide within : Bool) (p : ℕ) where
       })
       (λ h. tt)
 
-  abbrev StandsAs : Read → Type 0
-  StandsAs (Refused why) = Unit {0}
-  StandsAs (Good t) = Stands rom size wide within p t
+  abbrev StandsAs : Result Token ℕ → Type 0
+  StandsAs (Err why) = Unit {0}
+  StandsAs (Ok t) = Stands rom size wide within p t
 
   judged_stands : (d : Decoded) → DecodesTo d → StandsAs (judged within d)
   judged_stands Cut h = tt
   judged_stands (Unlisted code) h = tt
   judged_stands (Whole t) h =
-      pick_is StandsAs (misplaced_of t.code within) (Refused 18) (Good t) (λ m. tt)
+      pick_is StandsAs (misplaced_of t.code within) (Err 18) (Ok t) (λ m. tt)
       (λ m. record {
         follows = h.follows;
         number = h.number;
@@ -73,5 +71,5 @@ module _ (rom : List ℕ) (size : ℕ) (wide within : Bool) (p : ℕ) where
   unfolding read_of
   read_stands = judged_stands (decode_of rom size wide p) decodes
 
-  pub stands : (t : Token) → read_of rom size wide within p ≡ Good t → Stands rom size wide within p t
+  pub stands : (t : Token) → read_of rom size wide within p ≡ Ok t → Stands rom size wide within p t
   stands t e = subst StandsAs e read_stands

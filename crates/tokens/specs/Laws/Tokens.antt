@@ -1,7 +1,7 @@
 -- Laws that whoever reads tokens goes by: a whole token has a next place, past its own and not past the length; and reading a body goes
 -- from token to token. Assumes nothing.
 use Prim.Native.Nat.{ℕ, zero, suc, ◌+◌, ◌-◌, ◌≤◌, ◌<◌}
-use Rattle.std.specs.Prelude.{◌≡◌, Bool, false, List, [], ◌∷◌, T, ltb, eqb}
+use Rattle.std.specs.Prelude.{◌≡◌, Bool, false, List, [], ◌∷◌, T, ltb, eqb, Err, Ok, Result}
 use Rattle.std.proofs.Math.Path.{refl}
 use Rattle.std.proofs.Common.{◌∙◌, subst, lt-ltb, eq-eqb, ne_eqb}
 use Rattle.std.proofs.Math.Bool.{true}
@@ -17,10 +17,8 @@ use Rattle.tokens.specs.Body.{unknown_of, body_onward, after_of, body_from, body
 use Rattle.tokens.specs.declared.decoding.Token.{Token}
 use Rattle.tokens.specs.declared.decoding.Decoded.{Decoded}
 use Rattle.tokens.specs.declared.decoding.Decoded.TheVariants.{Cut, Unlisted, Whole}
-use Rattle.tokens.specs.declared.read.Read.{Read}
-use Rattle.tokens.specs.declared.read.Read.TheVariants.{Refused, Good}
-use Rattle.tokens.specs.declared.body.Body.{Body}
-use Rattle.tokens.specs.declared.body.Body.TheVariants.{Ends, Stops}
+use Rattle.tokens.specs.Body.{Body}
+use Rattle.tokens.specs.Body.{Ends, Stops}
 
 -- ---- a table's entries
 -- what holds of each entry of a table and of its default holds of what is found
@@ -88,26 +86,26 @@ decode_ahead rom length wide p =
     decoded_is (AheadIn length p) rom length wide p tt (λ h l. (omega arith, h)) (λ h. tt)
 
 -- of what was read there
-abbrev pub AheadRead : ℕ → ℕ → Read → Type 0
-AheadRead length p (Refused why) = Unit {0}
-AheadRead length p (Good t) = Follows length p t
+abbrev pub AheadRead : ℕ → ℕ → Result Token ℕ → Type 0
+AheadRead length p (Err why) = Unit {0}
+AheadRead length p (Ok t) = Follows length p t
 
 judged_ahead : (length p : ℕ) (within : Bool) (d : Decoded) → AheadIn length p d → AheadRead length p (judged within d)
 judged_ahead length p within Cut a = tt
 judged_ahead length p within (Unlisted code) a = tt
 judged_ahead length p within (Whole t) a =
-    pick_is (AheadRead length p) (misplaced_of t.code within) (Refused 18) (Good t) (λ m. tt) (λ m. a)
+    pick_is (AheadRead length p) (misplaced_of t.code within) (Err 18) (Ok t) (λ m. tt) (λ m. a)
 
 pub read_ahead : (rom : List ℕ) (length : ℕ) (wide within : Bool) (p : ℕ) → AheadRead length p (read_of rom length wide within p)
 unfolding read_of
 read_ahead rom length wide within p = judged_ahead length p within (decode_of rom length wide p) (decode_ahead rom length wide p)
 
-pub next_ahead : (rom : List ℕ) (length : ℕ) (wide within : Bool) (p : ℕ) (t : Token) → read_of rom length wide within p ≡ Good t
+pub next_ahead : (rom : List ℕ) (length : ℕ) (wide within : Bool) (p : ℕ) (t : Token) → read_of rom length wide within p ≡ Ok t
     → Follows length p t
 next_ahead rom length wide within p t e = subst (AheadRead length p) e (read_ahead rom length wide within p)
 
 -- no token starts at the length or past it
-pub none_starts : (rom : List ℕ) (length : ℕ) (wide within : Bool) (p : ℕ) → length ≤ p → read_of rom length wide within p ≡ Refused 10
+pub none_starts : (rom : List ℕ) (length : ℕ) (wide within : Bool) (p : ℕ) → length ≤ p → read_of rom length wide within p ≡ Err 10
 unfolding read_of decode_of token_if_whole
 none_starts rom length wide within p h =
     let n = number_ahead rom p in
@@ -123,10 +121,10 @@ module _ (rom : List ℕ) (length : ℕ) (wide : Bool) (kinds : List ℕ) where
   same_onward p f g false true q e = refl
   same_onward p f g false false q e = e
 
-  same_after : (p : ℕ) (f g : ℕ → Body) (r : Read) → AheadRead length p r → ((q : ℕ) → p < q → f q ≡ g q)
+  same_after : (p : ℕ) (f g : ℕ → Body) (r : Result Token ℕ) → AheadRead length p r → ((q : ℕ) → p < q → f q ≡ g q)
       → after_of kinds p r f ≡ after_of kinds p r g
-  same_after p f g (Refused why) a e = refl
-  same_after p f g (Good t) a e = same_onward p f g (eqb t.number 0xC2) (unknown_of kinds t) t.next (e t.next a.0)
+  same_after p f g (Err why) a e = refl
+  same_after p f g (Ok t) a e = same_onward p f g (eqb t.number 0xC2) (unknown_of kinds t) t.next (e t.next a.0)
 
   -- more tokens than can start change nothing
   enough : (k j p : ℕ) → length - p ≤ k → length - p ≤ j → body_from rom length wide kinds k p ≡ body_from rom length wide kinds j p
@@ -148,10 +146,10 @@ module _ (rom : List ℕ) (length : ℕ) (wide : Bool) (kinds : List ℕ) where
       (read_of rom length wide true p)
       (read_ahead rom length wide true p) (λ q h. enough (length - p) (length - q) q (omega arith) (omega arith))
 
-  pub body_stops : (p why : ℕ) → read_of rom length wide true p ≡ Refused why → body_of rom length wide kinds p ≡ Stops p why
+  pub body_stops : (p why : ℕ) → read_of rom length wide true p ≡ Err why → body_of rom length wide kinds p ≡ Stops p why
   body_stops p why e = body_is p ∙ rw e
 
-  module _ (p : ℕ) (t : Token) (e : read_of rom length wide true p ≡ Good t) where
+  module _ (p : ℕ) (t : Token) (e : read_of rom length wide true p ≡ Ok t) where
     pub body_ends : t.number ≡ 0xC2 → body_of rom length wide kinds p ≡ Ends p
     body_ends n = body_is p ∙ rw (e, eq-eqb _ _ n)
 

@@ -23,6 +23,9 @@ use Rattle.tree.specs.Laws.PutKept.{SizedTree}
 use Rattle.tree.specs.Joints.Apart.{refused_with, done_with, tail_of, Clean, Tallied, Finds, Missing, Puts}
 use Rattle.tree.specs.Laws.Clean.{clean_cleared}
 use Rattle.rom.specs.Sizes.{properties_most, store_size}
+use Rattle.rom.specs.Refusal.{refusal_number}
+use Rattle.rom.specs.declared.refusal.Refusal.{Refusal}
+use Rattle.rom.specs.declared.refusal.Refusal.TheVariants.{BadName, StoreFull}
 use Rattle.tree.specs.declared.tree.Tree.{Tree}
 use Rattle.tree.specs.declared.property.Found.{Found}
 use Rattle.tree.specs.declared.in_place.Tail.{Tail}
@@ -78,19 +81,20 @@ module _ (node : ℕ) (name value s owners name_sizes value_sizes : List ℕ) (h
       let m = index_most (lent fresh_tree) s node name value in
       lt_of_le-ne (omega arith) n
 
-  refused_as : (why : ℕ) → (why ≡ 0 → ⊥) → ((t : Tree) → whole_tree (lent t) ≡ true → put_refusal (lent t) s node name value ≡ why)
+  refused_as : (why : Refusal) → (refusal_number why ≡ 0 → ⊥)
+      → ((t : Tree) → whole_tree (lent t) ≡ true → put_refusal (lent t) s node name value ≡ refusal_number why)
       → Given (refused_with why held tail) s owners name_sizes value_sizes
-  refused_as why n e = (λ t w. put_refused (lent t) s node name value why n (e t w), k)
+  refused_as why n e = (λ t w. put_refused (lent t) s node name value (refusal_number why) n (e t w), k)
 
-  pub bad_name_lem : bad_name name ≡ true → Given (refused_with 26 held tail) s owners name_sizes value_sizes
-  bad_name_lem b = refused_as 26 (λ e. omega arith) (λ t w. misnamed (lent t) s node name value k.0 w b)
+  pub bad_name_lem : bad_name name ≡ true → Given (refused_with BadName held tail) s owners name_sizes value_sizes
+  bad_name_lem b = refused_as BadName (λ e. omega arith) (λ t w. misnamed (lent t) s node name value k.0 w b)
 
   module _ (b : bad_name name ≡ false) where
     full : ((t : Tree) → overfull (would_hold (lent t) s node name value) ≡ true)
-        → Given (refused_with 27 held tail) s owners name_sizes value_sizes
-    full o = refused_as 27 (λ e. omega arith) (λ t w. no_room (lent t) s node name value k.0 w b (o t))
+        → Given (refused_with StoreFull held tail) s owners name_sizes value_sizes
+    full o = refused_as StoreFull (λ e. omega arith) (λ t w. no_room (lent t) s node name value k.0 w b (o t))
 
-    pub large_value : store_size < length value → Given (refused_with 27 held tail) s owners name_sizes value_sizes
+    pub large_value : store_size < length value → Given (refused_with StoreFull held tail) s owners name_sizes value_sizes
     large_value g = full (λ t. full_value (lent t) s node name value k.3 roomy g)
 
     -- a property more
@@ -98,12 +102,12 @@ module _ (node : ℕ) (name value s owners name_sizes value_sizes : List ℕ) (h
       abbrev added_live : ℕ
       added_live = tail.live + n + v
 
-      pub all_held : properties_most ≤ held → Given (refused_with 27 held tail) s owners name_sizes value_sizes
+      pub all_held : properties_most ≤ held → Given (refused_with StoreFull held tail) s owners name_sizes value_sizes
       all_held h =
           full (λ t.
           full_is (lent t) s node name value k.3 roomy ∙ rw (m t, eq-eqb held held refl, le-leb properties_most held h))
 
-      pub store_full_lem : store_size < added_live → Given (refused_with 27 held tail) s owners name_sizes value_sizes
+      pub store_full_lem : store_size < added_live → Given (refused_with StoreFull held tail) s owners name_sizes value_sizes
       store_full_lem h =
           full (λ t.
           full_is (lent t) s node name value k.3 roomy
@@ -184,7 +188,7 @@ module _ (node : ℕ) (name value s owners name_sizes value_sizes : List ℕ) (h
           let p = (present (lent fresh_tree) s node name value (λ x. omega arith)).0 in
           rw (← named, k.4, e fresh_tree) p
 
-      pub value_grows : store_size < changed_live → Given (refused_with 27 held tail) s owners name_sizes value_sizes
+      pub value_grows : store_size < changed_live → Given (refused_with StoreFull held tail) s owners name_sizes value_sizes
       value_grows g =
           let q = inside in
           full (λ t.

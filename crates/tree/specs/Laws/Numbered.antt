@@ -1,5 +1,5 @@
 -- What the enums of this crate say is what the definitions compute. Assumes nothing.
-use Rattle.std.specs.Prelude.{ℕ, Bool, true, false, not, List, [], ◌∷◌, ◌≡◌, refl, length, eqb}
+use Rattle.std.specs.Prelude.{ℕ, Bool, true, false, not, List, [], ◌∷◌, ◌≡◌, refl, length, eqb, Err, Ok, Result}
 use Rattle.std.proofs.Math.Option.{Option, none, some}
 use Rattle.std.proofs.Common.{sym, ap, eqb-true}
 use Rattle.cells.specs.Choice.{pick}
@@ -11,8 +11,6 @@ use Rattle.tree.specs.Property.{put_refusal, put_of}
 use Rattle.tree.specs.Path.{parts_of, malformed, child_named, down_from, behind_slash, find_node_of, named_place, find_property_of}
 use Rattle.tree.specs.Laws.Layout.{either}
 use Rattle.tree.specs.declared.tree.Tree.{Tree}
-use Rattle.tree.specs.declared.lookup.NodeSought.{NodeSought}
-use Rattle.tree.specs.declared.lookup.NodeSought.TheVariants.{Node, Refused}
 use Rattle.tree.specs.Numbered.{outcome_says, node_says, value_says}
 
 -- writing a property says the refusal that is computed for it, or 0
@@ -67,12 +65,12 @@ node_says_lem t store path =
 -- a property says what its node says, and where there is a node, 30 for no such property
 pub property_says : (t : Tree) (store path name : List ℕ)
     → value_says (find_property_of t store path name)
-    ≡ elim (find_node_of t store path) [ Node k ↦ value_says (named_place t store k name) | Refused why ↦ refuses why ]
+    ≡ elim (find_node_of t store path) [ Ok k ↦ value_says (named_place t store k name) | Err why ↦ refuses why ]
 unfolding find_property_of
 property_says t store path name = by (find_node_of t store path) refl
   where
-    by : (s : NodeSought) → find_node_of t store path ≡ s
+    by : (s : Result ℕ ℕ) → find_node_of t store path ≡ s
         → value_says (find_property_of t store path name)
-        ≡ elim (find_node_of t store path) [ Node k ↦ value_says (named_place t store k name) | Refused why ↦ refuses why ]
-    by (Node k) e = rw (e, find_property_of)
-    by (Refused why) e = rw (e, find_property_of)
+        ≡ elim (find_node_of t store path) [ Ok k ↦ value_says (named_place t store k name) | Err why ↦ refuses why ]
+    by (Ok k) e = rw (e, find_property_of)
+    by (Err why) e = rw (e, find_property_of)

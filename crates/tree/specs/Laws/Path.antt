@@ -1,6 +1,6 @@
 -- Paths and lookups by numbers, as the code goes, and what the code's steps come to. Assumes nothing.
 use Prim.Native.Nat.{ℕ, zero, suc, ◌+◌, ◌-◌, ◌≤◌, ◌<◌}
-use Rattle.std.proofs.Common.{zero-add, add-one, true≢false, sym, ◌∙◌, length-drop, drop_of_length-le, drop-cons, drop-drop, lt-ltb, le-ltb}
+use Rattle.std.proofs.Common.{zero-add, add-one, true≢false, sym, ◌∙◌, length-drop, drop_of_length-le, drop-cons, drop-drop, lt-ltb, le-ltb, Err, Ok, Result}
 use Rattle.std.proofs.Common.{eq-eqb, ne_eqb, eqb-true}
 use native.Mathlib.Omega.{arith}
 use Rattle.std.proofs.Math.Decide.{dec_le}
@@ -23,10 +23,8 @@ use Rattle.tree.specs.Path.{down_from, behind_slash, find_node_of, named_place, 
 use Rattle.tree.specs.Path.{own_value_of}
 use Rattle.tree.specs.declared.tree.Tree.{Tree}
 use Rattle.tree.specs.declared.property.Found.{Found}
-use Rattle.tree.specs.declared.lookup.NodeSought.{NodeSought}
-use Rattle.tree.specs.declared.lookup.NodeSought.TheVariants.{Node, Refused}
-use Rattle.tree.specs.declared.lookup.ValueSought.{ValueSought}
-use Rattle.tree.specs.declared.lookup.ValueSought.TheVariants.{Value, Refused as Unfound}
+use Rattle.tree.specs.Sought.{ValueSought}
+use Rattle.tree.specs.Sought.{Value, Unfound}
 
 -- ---- parts
 -- how many bytes stand before the first slash
@@ -237,15 +235,15 @@ module _ (t : Tree) (store : List ℕ) (node : ℕ) (name : List ℕ) where
       ]
 
 -- ---- children
-abbrev pub child_sought : Option ℕ → NodeSought
-child_sought none = Refused 30
-child_sought (some k) = Node k
+abbrev pub child_sought : Option ℕ → Result ℕ ℕ
+child_sought none = Err 30
+child_sought (some k) = Ok k
 
-sought_child : (o : Option ℕ) (k : ℕ) → child_sought o ≡ Node k → o ≡ some k
+sought_child : (o : Option ℕ) (k : ℕ) → child_sought o ≡ Ok k → o ≡ some k
 sought_child none k e = let z : ◌≡◌ {A = ℕ} 0 1 = cc in absurd (omega arith)
 sought_child (some j) k e = let x : j ≡ k = cc in rw x
 
-sought_none : (o : Option ℕ) (why : ℕ) → child_sought o ≡ Refused why → o ≡ none
+sought_none : (o : Option ℕ) (why : ℕ) → child_sought o ≡ Err why → o ≡ none
 sought_none none why e = refl
 sought_none (some j) why e = let z : ◌≡◌ {A = ℕ} 0 1 = cc in absurd (omega arith)
 
@@ -269,34 +267,34 @@ module _ (t : Tree) (store : List ℕ) (node : ℕ) (part : List ℕ) where
   child_none n k h = let f : n - k ≡ 0 = omega arith in rw f
 
   -- a level down
-  pub down_child : (k : ℕ) (parts : List (List ℕ)) → child_sought (child_named t store node part) ≡ Node k
+  pub down_child : (k : ℕ) (parts : List (List ℕ)) → child_sought (child_named t store node part) ≡ Ok k
       → down_from t store node (part ∷ parts) ≡ down_from t store k parts
   unfolding down_from
   down_child k parts e = rw (sought_child (child_named t store node part) k e, down_from)
 
-  pub down_none : (why : ℕ) (parts : List (List ℕ)) → child_sought (child_named t store node part) ≡ Refused why
-      → down_from t store node (part ∷ parts) ≡ Refused 30
+  pub down_none : (why : ℕ) (parts : List (List ℕ)) → child_sought (child_named t store node part) ≡ Err why
+      → down_from t store node (part ∷ parts) ≡ Err 30
   unfolding down_from
   down_none why parts e = rw (sought_none (child_named t store node part) why e, down_from)
 
-pub down_end : (t : Tree) (store : List ℕ) (node : ℕ) → down_from t store node [] ≡ Node node
+pub down_end : (t : Tree) (store : List ℕ) (node : ℕ) → down_from t store node [] ≡ Ok node
 unfolding down_from
 down_end t store node = refl
 
 -- ---- lookups
 module _ (t : Tree) (store path : List ℕ) where
   -- the refusals in their order
-  pub node_size : (length store ≡ store_size → ⊥) → find_node_of t store path ≡ Refused 6
+  pub node_size : (length store ≡ store_size → ⊥) → find_node_of t store path ≡ Err 6
   unfolding find_node_of
   node_size n = rw (ne_eqb (length store) store_size n)
 
   module _ (e : length store ≡ store_size) where
-    pub node_damaged : whole_tree t ≡ false → find_node_of t store path ≡ Refused 7
+    pub node_damaged : whole_tree t ≡ false → find_node_of t store path ≡ Err 7
     unfolding find_node_of
     node_damaged w = rw (eq-eqb (length store) store_size e, w)
 
     module _ (w : whole_tree t ≡ true) where
-      pub node_malformed : malformed path ≡ true → find_node_of t store path ≡ Refused 29
+      pub node_malformed : malformed path ≡ true → find_node_of t store path ≡ Err 29
       unfolding find_node_of
       node_malformed m = rw (eq-eqb (length store) store_size e, w, m)
 
@@ -309,7 +307,7 @@ module _ (t : Tree) (store path : List ℕ) where
     pub held_most : t.held ≤ properties_most
     pub live_most : live_of t ≤ length store
 
-  pub node_whole : (k : ℕ) → find_node_of t store path ≡ Node k → Sought
+  pub node_whole : (k : ℕ) → find_node_of t store path ≡ Ok k → Sought
   node_whole k e =
       either (eqb (length store) store_size)
       (λ a. let z = eqb-true (length store) store_size a in
@@ -319,25 +317,25 @@ module _ (t : Tree) (store path : List ℕ) where
       (λ a. let f = sym (node_size (eqb-false (length store) store_size a)) ∙ e in let x : ◌≡◌ {A = ℕ} 0 1 = cc in absurd (omega arith))
 
   module _ (name : List ℕ) where
-    pub property_there : (k : ℕ) → find_node_of t store path ≡ Node k → find_property_of t store path name ≡ named_place t store k name
+    pub property_there : (k : ℕ) → find_node_of t store path ≡ Ok k → find_property_of t store path name ≡ named_place t store k name
     unfolding find_property_of
     property_there k e = rw (e, find_property_of)
 
-    pub property_none : (why : ℕ) → find_node_of t store path ≡ Refused why → find_property_of t store path name ≡ Unfound why
+    pub property_none : (why : ℕ) → find_node_of t store path ≡ Err why → find_property_of t store path name ≡ Unfound why
     unfolding find_property_of
     property_none why e = rw (e, find_property_of)
 
-    value_there : (k : ℕ) (value : List ℕ) → find_node_of t store path ≡ Node k → value_in (held_of t store) k name ≡ some value
+    value_there : (k : ℕ) (value : List ℕ) → find_node_of t store path ≡ Ok k → value_in (held_of t store) k name ≡ some value
         → property_value_of t store path name ≡ value
     unfolding property_value_of
     value_there k value e f = rw (e, f, property_value_of)
 
-    value_missing : (k : ℕ) → find_node_of t store path ≡ Node k → value_in (held_of t store) k name ≡ none
+    value_missing : (k : ℕ) → find_node_of t store path ≡ Ok k → value_in (held_of t store) k name ≡ none
         → property_value_of t store path name ≡ []
     unfolding property_value_of
     value_missing k e f = rw (e, f, property_value_of)
 
-    value_refused : (why : ℕ) → find_node_of t store path ≡ Refused why → property_value_of t store path name ≡ []
+    value_refused : (why : ℕ) → find_node_of t store path ≡ Err why → property_value_of t store path name ≡ []
     unfolding property_value_of
     value_refused why e = rw (e, property_value_of)
 
@@ -346,16 +344,16 @@ module _ (t : Tree) (store path : List ℕ) where
     Holds (Value at size) = (at + size ≤ length store) × (property_value_of t store path name ≡ part_of store at size)
     Holds (Unfound why) = property_value_of t store path name ≡ []
 
-    holds_there : (k : ℕ) → find_node_of t store path ≡ Node k → (v : ValueSought) → named_place t store k name ≡ v → Holds v
+    holds_there : (k : ℕ) → find_node_of t store path ≡ Ok k → (v : ValueSought) → named_place t store k name ≡ v → Holds v
     holds_there k e (Value at size) f =
         let p = place_value t store k name at size f in
         let l = (node_whole k e).live_most in
         (omega arith, value_there k (part_of store at size) e p.1)
     holds_there k e (Unfound why) f = value_missing k e (place_empty t store k name why f)
 
-    holds_by : (n : NodeSought) → find_node_of t store path ≡ n → (v : ValueSought) → find_property_of t store path name ≡ v → Holds v
-    holds_by (Node k) e v f = holds_there k e v (sym (property_there k e) ∙ f)
-    holds_by (Refused why) e v f = rw (← f, property_none why e) (value_refused why e)
+    holds_by : (n : Result ℕ ℕ) → find_node_of t store path ≡ n → (v : ValueSought) → find_property_of t store path name ≡ v → Holds v
+    holds_by (Ok k) e v f = holds_there k e v (sym (property_there k e) ∙ f)
+    holds_by (Err why) e v f = rw (← f, property_none why e) (value_refused why e)
 
     pub property_holds : (v : ValueSought) → find_property_of t store path name ≡ v → Holds v
     property_holds v e = holds_by (find_node_of t store path) refl v e
@@ -387,27 +385,27 @@ module _ (t : Tree) (store : List ℕ) (node : ℕ) (name : List ℕ) where
 
 -- ---- lookups judge no name: a path of good form, and any property's name, bring nothing but 30
 module _ (t : Tree) (store : List ℕ) where
-  down_why : (node : ℕ) (parts : List (List ℕ)) (why : ℕ) → down_from t store node parts ≡ Refused why → why ≡ 30
+  down_why : (node : ℕ) (parts : List (List ℕ)) (why : ℕ) → down_from t store node parts ≡ Err why → why ≡ 30
   down_why node [] why e = let f = sym (down_end t store node) ∙ e in let z : ◌≡◌ {A = ℕ} 0 1 = cc in absurd (omega arith)
   down_why node (part ∷ parts) why e =
       by (λ k f. down_why k parts why (sym (down_child t store node part k parts f) ∙ e)) sought refl
     where
-      sought : NodeSought
+      sought : Result ℕ ℕ
       sought = child_sought (child_named t store node part)
 
-      by : ((k : ℕ) → sought ≡ Node k → why ≡ 30) → (s : NodeSought) → sought ≡ s → why ≡ 30
-      by below (Node k) f = below k f
-      by below (Refused other) f = let g = sym (down_none t store node part other parts f) ∙ e in cc
+      by : ((k : ℕ) → sought ≡ Ok k → why ≡ 30) → (s : Result ℕ ℕ) → sought ≡ s → why ≡ 30
+      by below (Ok k) f = below k f
+      by below (Err other) f = let g = sym (down_none t store node part other parts f) ∙ e in cc
 
   module _ (path : List ℕ) (e : length store ≡ store_size) (w : whole_tree t ≡ true) (m : malformed path ≡ false) where
-    pub path_unjudged : (why : ℕ) → find_node_of t store path ≡ Refused why → why ≡ 30
+    pub path_unjudged : (why : ℕ) → find_node_of t store path ≡ Err why → why ≡ 30
     path_unjudged why f = down_why 0 (parts_of (behind_slash path)) why (sym (node_down t store path e w m) ∙ f)
 
     pub name_unjudged : (name : List ℕ) (why : ℕ) → find_property_of t store path name ≡ Unfound why → why ≡ 30
     name_unjudged name why f = by (find_node_of t store path) refl
       where
-        by : (s : NodeSought) → find_node_of t store path ≡ s → why ≡ 30
-        by (Node k) g = place_why t store k name why (sym (property_there t store path name k g) ∙ f)
-        by (Refused other) g =
+        by : (s : Result ℕ ℕ) → find_node_of t store path ≡ s → why ≡ 30
+        by (Ok k) g = place_why t store k name why (sym (property_there t store path name k g) ∙ f)
+        by (Err other) g =
             let h = sym (property_none t store path name other g) ∙ f in
             let i : other ≡ why = cc in rw (← i) (path_unjudged other g)

@@ -1,7 +1,7 @@
 -- What it means that a property is found, and that it is not: of a whole tree, a store of its size and a path of good form, `find_property`
 -- gives 30 exactly where the path leads to no node, or the node that it leads to holds no property of that name; and a place and a size
 -- exactly where the node holds one, whose value's bytes lie there. Assumes nothing.
-use Rattle.std.specs.Prelude.{ℕ, ◌+◌, ◌≤◌, false, ◌⊎◌, length, eqb}
+use Rattle.std.specs.Prelude.{ℕ, ◌+◌, ◌≤◌, false, ◌⊎◌, length, eqb, Err, Ok, Result}
 use native.Mathlib.Omega.{arith}
 use Rattle.std.proofs.Math.Bool.{true}
 use Rattle.std.proofs.Common.{true≢false, inl, inr, ap, ◌∙◌, eq-eqb, eqb-true}
@@ -18,10 +18,8 @@ use Rattle.tree.specs.Laws.Layout.{either}
 use Rattle.tree.specs.Laws.Trees.{whole_facts}
 use Rattle.tree.specs.Laws.Path.{place_value, place_why, place_empty, path_unjudged, property_there, property_none}
 use Rattle.tree.specs.declared.tree.Tree.{Tree}
-use Rattle.tree.specs.declared.lookup.NodeSought.{NodeSought}
-use Rattle.tree.specs.declared.lookup.NodeSought.TheVariants.{Node, Refused}
-use Rattle.tree.specs.declared.lookup.ValueSought.{ValueSought}
-use Rattle.tree.specs.declared.lookup.ValueSought.TheVariants.{Value, Refused as Unfound}
+use Rattle.tree.specs.Sought.{ValueSought}
+use Rattle.tree.specs.Sought.{Value, Unfound}
 
 -- a property is one of these
 abbrev pub OneOf : Property → List Property → Type 0
@@ -92,16 +90,16 @@ module _ (node : ℕ) (name : List ℕ) where
 module _ (t : Tree) (store path name : List ℕ) where
   -- the path leads to no node, or that node holds no property of the name
   abbrev pub Lacks : Type 0
-  Lacks = (k : ℕ) → find_node_of t store path ≡ Node k → (p : Property) → Has (held_of t store) k name p → ⊥
+  Lacks = (k : ℕ) → find_node_of t store path ≡ Ok k → (p : Property) → Has (held_of t store) k name p → ⊥
 
   -- the path leads to a node that holds a property of the name
   abbrev pub Holds : Type 0
-  Holds = (k : ℕ) × (find_node_of t store path ≡ Node k) × (p : Property) × Has (held_of t store) k name p
+  Holds = (k : ℕ) × (find_node_of t store path ≡ Ok k) × (p : Property) × Has (held_of t store) k name p
 
   -- and its bytes lie at a place of the store: the value of the oldest such property, of so many bytes
   abbrev pub LiesAt : ℕ → ℕ → Type 0
   LiesAt at size =
-      (k : ℕ) × (find_node_of t store path ≡ Node k) × (p : Property) × Has (held_of t store) k name p × (p.value ≡ part_of store at size)
+      (k : ℕ) × (find_node_of t store path ≡ Ok k) × (p : Property) × Has (held_of t store) k name p × (p.value ≡ part_of store at size)
       × (value_in (held_of t store) k name ≡ some p.value) × (at + size ≤ length store)
 
   -- 30 means that there is none, and where there is none it is 30
@@ -114,30 +112,30 @@ module _ (t : Tree) (store path name : List ℕ) where
       → find_property_of t store path name ≡ Unfound 30
   unfound e w m lacks = by (find_node_of t store path) refl
     where
-      placed : (k : ℕ) → find_node_of t store path ≡ Node k → (v : ValueSought) → named_place t store k name ≡ v
+      placed : (k : ℕ) → find_node_of t store path ≡ Ok k → (v : ValueSought) → named_place t store k name ≡ v
           → find_property_of t store path name ≡ Unfound 30
       placed k g (Value at size) f =
           let r = value_had k name (held_of t store) (part_of store at size) (place_value t store k name at size f).1 in
           absurd (lacks k g r.0 r.1)
       placed k g (Unfound why) f = property_there t store path name k g ∙ f ∙ ap Unfound (place_why t store k name why f)
 
-      by : (s : NodeSought) → find_node_of t store path ≡ s → find_property_of t store path name ≡ Unfound 30
-      by (Node k) g = placed k g (named_place t store k name) refl
-      by (Refused why) g = property_none t store path name why g ∙ ap Unfound (path_unjudged t store path e w m why g)
+      by : (s : Result ℕ ℕ) → find_node_of t store path ≡ s → find_property_of t store path name ≡ Unfound 30
+      by (Ok k) g = placed k g (named_place t store k name) refl
+      by (Err why) g = property_none t store path name why g ∙ ap Unfound (path_unjudged t store path e w m why g)
 
   -- a place and a size mean that there is one, whose bytes lie there, and where there is one they are given
   pub found : length store ≡ store_size → whole_tree t ≡ true → (at size : ℕ) → find_property_of t store path name ≡ Value at size
       → LiesAt at size
   found e w at size f = by (find_node_of t store path) refl
     where
-      by : (s : NodeSought) → find_node_of t store path ≡ s → LiesAt at size
-      by (Node k) g =
+      by : (s : Result ℕ ℕ) → find_node_of t store path ≡ s → LiesAt at size
+      by (Ok k) g =
           let v = place_value t store k name at size (sym (property_there t store path name k g) ∙ f) in
           let r = value_had k name (held_of t store) (part_of store at size) v.1 in
           let l = (whole_facts t w).live_most in
           let a = v.0 in
           (k, g, r.0, r.1, r.2, v.1 ∙ ap some (sym r.2), omega arith)
-      by (Refused why) g =
+      by (Err why) g =
           let h = sym (property_none t store path name why g) ∙ f in
           let z : ◌≡◌ {A = ℕ} 0 1 = cc in absurd (omega arith)
 

@@ -1,22 +1,22 @@
-use Rattle.std.proofs.Common.{sym, ◌∙◌}
+use Rattle.std.proofs.Common.{sym, ap, ◌∙◌, rules}
+use Rattle.rom.specs.Refusal.{numbered}
 use Rattle.tree.specs.Laws.Path.{node_whole, property_there, property_none}
 use Rattle.tree.proofs.lookup.find_property.Goals as goal
 
 pub place_of-requires : goal.place_of-requires
 place_of-requires c =
     let a = c.args in
-    let w = node_whole a.tree a.store.now a.path.now c.in-Node.node (sym c.find_node.ensures ∙ c.in-Node.is) in
+    let w = node_whole a.tree a.store.now a.path.now _ (sym c.find_node.ensures ∙ ap numbered c.in_ok-node.was) in
     (w.held_most, w.live_most)
 
-pub returns-in-Node : goal.returns-in-Node
-returns-in-Node c =
+pub returns : goal.returns
+returns c =
     let a = c.args in
     c.place_of.ensures
-    ∙ sym (property_there a.tree a.store.now a.path.now a.name.now c.in-Node.node
-    (sym c.find_node.ensures ∙ c.in-Node.is))
+    ∙ sym (property_there a.tree a.store.now a.path.now a.name.now _ (sym c.find_node.ensures ∙ ap numbered c.in_ok-node.was))
 
-pub returns-in-Refused : goal.returns-in-Refused
-returns-in-Refused c =
+pub returns-in_err-node : goal.returns-in_err-node
+returns-in_err-node c =
     let a = c.args in
-    sym (property_none a.tree a.store.now a.path.now a.name.now c.in-Refused.why
-    (sym c.find_node.ensures ∙ c.in-Refused.is))
+    let none = property_none a.tree a.store.now a.path.now a.name.now _ (sym c.find_node.ensures ∙ ap numbered c.in_err-node.was) in
+    rw none (search rules)

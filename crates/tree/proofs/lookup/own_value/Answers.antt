@@ -1,10 +1,11 @@
-use Rattle.std.proofs.Common.{◌+◌, ◌≤◌, true, ◌≡◌, sym, ◌∙◌, arith, length, rules}
+use Rattle.std.proofs.Common.{ap, ◌+◌, ◌≤◌, true, ◌≡◌, sym, ◌∙◌, arith, length, rules}
 use native.Mathlib.Nat.{add-sub_cancel_left}
 use borrow.Author.Tests.{not-true, not-false}
 use Rattle.memory.specs.Window.{part_of}
 use Rattle.tree.specs.Whole.{whole_tree}
 use Rattle.tree.specs.Path.{own_value_of}
 use Rattle.tree.specs.Laws.Trees.{whole_facts}
+use Rattle.tree.specs.Sought.{sought_in}
 use Rattle.tree.specs.Laws.Path.{own_size, own_damaged, own_there, own_missing}
 use Rattle.tree.proofs.lookup.own_value.Goals as goal
 
@@ -31,33 +32,33 @@ place_of-requires c =
 pub overflow_add-result : goal.overflow_add-result
 overflow_add-result c =
     let whole : whole_tree c.args.tree ≡ true = sym c.is_whole.ensures ∙ not-false _ c.if-not-is_whole.false-raw in
-    let held : let a = c.args in (c.in-Value.at + c.in-Value.size ≤ length a.store.now)
-    × (own_value_of a.tree a.store.now a.node a.name.now ≡ part_of a.store.now c.in-Value.at c.in-Value.size) = let a = c.args in
-    own_there a.tree a.store.now a.node a.name.now c.if-store-ne-STORE_SIZE.false (whole) c.in-Value.at c.in-Value.size
-    (sym c.place_of.ensures ∙ c.in-Value.is) in
+    let held : let a = c.args in (c.in-Ok.field-0.at + c.in-Ok.field-0.size ≤ length a.store.now)
+    × (own_value_of a.tree a.store.now a.node a.name.now ≡ part_of a.store.now c.in-Ok.field-0.at c.in-Ok.field-0.size) = let a = c.args in
+    own_there a.tree a.store.now a.node a.name.now c.if-store-ne-STORE_SIZE.false (whole) c.in-Ok.field-0.at c.in-Ok.field-0.size
+    (sym c.place_of.ensures ∙ ap sought_in c.in-Ok.is) in
     let h = held.0 in search rules
 
-pub slice_bounds-result-end-in-Value : goal.slice_bounds-result-end-in-Value
-slice_bounds-result-end-in-Value c =
+pub slice_bounds-result-end-in-Ok : goal.slice_bounds-result-end-in-Ok
+slice_bounds-result-end-in-Ok c =
     let whole : whole_tree c.args.tree ≡ true = sym c.is_whole.ensures ∙ not-false _ c.if-not-is_whole.false-raw in
-    let held : let a = c.args in (c.in-Value.at + c.in-Value.size ≤ length a.store.now)
-    × (own_value_of a.tree a.store.now a.node a.name.now ≡ part_of a.store.now c.in-Value.at c.in-Value.size) = let a = c.args in
-    own_there a.tree a.store.now a.node a.name.now c.if-store-ne-STORE_SIZE.false (whole) c.in-Value.at c.in-Value.size
-    (sym c.place_of.ensures ∙ c.in-Value.is) in
+    let held : let a = c.args in (c.in-Ok.field-0.at + c.in-Ok.field-0.size ≤ length a.store.now)
+    × (own_value_of a.tree a.store.now a.node a.name.now ≡ part_of a.store.now c.in-Ok.field-0.at c.in-Ok.field-0.size) = let a = c.args in
+    own_there a.tree a.store.now a.node a.name.now c.if-store-ne-STORE_SIZE.false (whole) c.in-Ok.field-0.at c.in-Ok.field-0.size
+    (sym c.place_of.ensures ∙ ap sought_in c.in-Ok.is) in
     let h = held.0 in search rules
 
-pub returns-in-Value : goal.returns-in-Value
-returns-in-Value c =
+pub returns-in-Ok : goal.returns-in-Ok
+returns-in-Ok c =
     let whole : whole_tree c.args.tree ≡ true = sym c.is_whole.ensures ∙ not-false _ c.if-not-is_whole.false-raw in
-    let held : let a = c.args in (c.in-Value.at + c.in-Value.size ≤ length a.store.now)
-    × (own_value_of a.tree a.store.now a.node a.name.now ≡ part_of a.store.now c.in-Value.at c.in-Value.size) = let a = c.args in
-    own_there a.tree a.store.now a.node a.name.now c.if-store-ne-STORE_SIZE.false (whole) c.in-Value.at c.in-Value.size
-    (sym c.place_of.ensures ∙ c.in-Value.is) in
-    rw (add-sub_cancel_left c.in-Value.at c.in-Value.size) (sym held.1)
+    let held : let a = c.args in (c.in-Ok.field-0.at + c.in-Ok.field-0.size ≤ length a.store.now)
+    × (own_value_of a.tree a.store.now a.node a.name.now ≡ part_of a.store.now c.in-Ok.field-0.at c.in-Ok.field-0.size) = let a = c.args in
+    own_there a.tree a.store.now a.node a.name.now c.if-store-ne-STORE_SIZE.false (whole) c.in-Ok.field-0.at c.in-Ok.field-0.size
+    (sym c.place_of.ensures ∙ ap sought_in c.in-Ok.is) in
+    rw (add-sub_cancel_left c.in-Ok.field-0.at c.in-Ok.field-0.size) (sym held.1)
 
-pub returns-in-Refused : goal.returns-in-Refused
-returns-in-Refused c =
+pub returns-in-Err : goal.returns-in-Err
+returns-in-Err c =
     let whole : whole_tree c.args.tree ≡ true = sym c.is_whole.ensures ∙ not-false _ c.if-not-is_whole.false-raw in
     let a = c.args in
-    sym (own_missing a.tree a.store.now a.node a.name.now c.if-store-ne-STORE_SIZE.false whole c.in-Refused.field-0
-    (sym c.place_of.ensures ∙ c.in-Refused.is))
+    sym (own_missing a.tree a.store.now a.node a.name.now c.if-store-ne-STORE_SIZE.false whole _
+    (sym c.place_of.ensures ∙ ap sought_in c.in-Err.is))

@@ -1,20 +1,26 @@
-use Rattle.std.proofs.Common.{◌≡◌, length, sym, rules, ne_eqb}
+use Rattle.std.proofs.Common.{Err, ◌≡◌, length, sym, rules, ne_eqb}
 use borrow.Author.Tests.{tests}
+use Rattle.rom.specs.Refusal.{refusal_number}
+use Rattle.rom.specs.Laws.Refusal.{refused_so}
 use Rattle.rom.specs.Sizes.{nodes_most}
 use Rattle.tree.specs.Rows.{rows_refusal}
 use Rattle.tree.specs.Laws.Trees.{whole_facts}
 use Rattle.tree.specs.Laws.Rows.{column_none, column_set, column_all, rows_good}
 use Rattle.tree.proofs.rows.node_rows.Goals as goal
 
-pub returns-in-Err : goal.returns-in-Err
+pub returns-in_err-judge : goal.returns-in_err-judge
 unfolding rows_refusal
-returns-in-Err c = let e = c.in-Err.ensures in (e.0, rw (ne_eqb c.in-Err.why 0 e.1))
+returns-in_err-judge c =
+    let why = c.in_err-judge.field-0.0 in
+    let is : c.from_residual.result ≡ Err why = search rules in
+    let n = ne_eqb (refusal_number why) 0 (refused_so why) in
+    rw is (c.in_err-judge.ensures, rw n)
 
 pub loop-k-init : goal.loop-k-init
 loop-k-init c = let a = c.args in (search (rules, tests), column_none (λ r. r) a.tree a.rows.now)
 
 pub row_of-requires : goal.row_of-requires
-row_of-requires c = let w = whole_facts c.args.tree c.in_default.ensures.1 in (search rules, w.held_most)
+row_of-requires c = let w = whole_facts c.args.tree c.in_ok-judge.ensures.1 in (search rules, w.held_most)
 
 pub loop-k-preserved : goal.loop-k-preserved
 loop-k-preserved c = (
@@ -27,6 +33,6 @@ returns c =
     let a = c.args in
     let n : length a.rows.now ≡ nodes_most = search (rules, tests) in
     let e : c.loop-k.k ≡ nodes_most = search rules in (
-      sym (rows_good a.tree (length a.rows.now) n c.in_default.ensures.1),
+      sym (rows_good a.tree (length a.rows.now) n c.in_ok-judge.ensures.1),
       column_all (λ r. r) a.tree c.loop-k.rows nodes_most (search rules) (rw e at c.loop-k.invariant.1),
     )
