@@ -18,8 +18,8 @@ pub fn refuse(core: Core, tail: Tail, why: u32) -> Acted
 {
     Acted {
         told: Told::Not(why),
-        core: core,
-        tail: tail,
+        core,
+        tail,
     }
 }
 
@@ -27,11 +27,9 @@ pub fn refuse(core: Core, tail: Tail, why: u32) -> Acted
 pub fn with_tail(handed: Handed, tail: Tail) -> Acted
     ensures { result ≡ acted_of handed tail }
 {
-    let told = handed.told;
-    let core = handed.core;
     Acted {
-        told: told,
-        core: core,
-        tail: tail,
+        told: handed.told,
+        core: handed.core,
+        tail,
     }
 }

@@ -10,7 +10,7 @@ ghost use Rattle.acts.specs.Joints.Acts.{QuietOf, Defines, Colons, Variables, Fr
 ghost use Rattle.acts.specs.Joints.Acts.{Tables, Definable, ByNumber, Adds, AddsFrom};
 ghost use Rattle.rom.specs.Sizes.{data_most, numbers_most, work_size};
 
-use crate::tables::{note, slot_of};
+use crate::tables::{held_at, note};
 use memory::{WORK_BASE, write_cell};
 use rom::sizes::{DATA_MOST, NUMBERS_MOST, WORK_SIZE};
 use state::{Core, Handed, go, pop, stop};
@@ -43,9 +43,10 @@ fn defined(
     values[at] = value;
     ways[at] = core.wide;
     note(slots, known, number, kind, at);
-    let mut k = core;
-    k.held = at + 1;
-    k
+    Core {
+        held: at + 1,
+        ..core
+    }
 }
 
 // b(:), whose number is new: the body is read to its end.
@@ -73,11 +74,10 @@ fn colon(
     match read_body(rom, core.length, core.wide, &*known, next) {
         Body::Ends(at) => {
             let behind = at + 1;
-            let mut k = defined(
+            let k = defined(
                 names, kinds, values, ways, slots, known, core, number, 0xB7, next,
             );
-            k.place = behind;
-            go(k)
+            go(Core { place: behind, ..k })
         }
         Body::Stops { at: _, why } => stop(core, why),
     }
@@ -109,8 +109,10 @@ fn constant(
         return stop(core, 14);
     }
     let p = pop(cells, core);
-    let mut k = p.core;
-    k.place = next;
+    let k = Core {
+        place: next,
+        ..p.core
+    };
     go(defined(
         names, kinds, values, ways, slots, known, k, number, kind, p.cell,
     ))
@@ -151,7 +153,7 @@ fn variable(
         return stop(core, 24);
     }
     write_cell(work, at, 0);
-    let mut k = defined(
+    let k = defined(
         names,
         kinds,
         values,
@@ -163,9 +165,11 @@ fn variable(
         0xB9,
         WORK_BASE + at,
     );
-    k.place = next;
-    k.work_place = at + 4;
-    go(k)
+    go(Core {
+        place: next,
+        work_place: at + 4,
+        ..k
+    })
 }
 
 // A definition, by its kind.
@@ -234,7 +238,7 @@ pub fn define_number(
         known.new
         (λ s t. Defines (Definition number kind) rom.now work.old work.new s next t) }
 {
-    if slot_of(&*slots, number) != 0 {
+    if held_at(&*slots, number).is_some() {
         return stop(core, 13);
     }
     if NUMBERS_MOST <= core.held {

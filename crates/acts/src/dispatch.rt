@@ -214,7 +214,7 @@ pub fn cold_token(
             if core.length < place + 2 {
                 return refuse(core, tail, why_at(rom, core));
             }
-            let number = (first as u32) * 256 + (byte(rom, at + 1) as u32);
+            let number = u32::from(first) * 256 + u32::from(byte(rom, at + 1));
             with_tail(
                 enter(
                     cells,

@@ -22,8 +22,10 @@ fn encoded(cells: &mut [u32; DATA_MOST], core: Core, next: u32, count: u32) -> H
         (λ s t. t ≡ stepped Going (encoded_on s next count)) }
 {
     let at = core.work_place;
-    let mut k = core;
-    k.work_place = at + count;
+    let k = Core {
+        work_place: at + count,
+        ..core
+    };
     pair(cells, k, next, WORK_BASE + at, count)
 }
 
@@ -39,16 +41,10 @@ pub fn join_arrays(cells: &mut [u32; DATA_MOST], core: Core, next: u32) -> Hande
     let q = pop(&*cells, p.core);
     let t = pop(&*cells, q.core);
     let u = pop(&*cells, t.core);
-    if std::num::wrapping_add_u32(u.cell, t.cell) != q.cell {
+    if u.cell.wrapping_add(t.cell) != q.cell {
         return stop(core, 25);
     }
-    pair(
-        cells,
-        u.core,
-        next,
-        u.cell,
-        std::num::wrapping_add_u32(t.cell, p.cell),
-    )
+    pair(cells, u.core, next, u.cell, t.cell.wrapping_add(p.cell))
 }
 
 // encode-int
@@ -95,15 +91,9 @@ fn lay_string(rom: &[u8], work: &mut [u8], size: u32, address: u32, count: u32, 
         Window::Rom(start) => {
             let k = start as usize;
             copy_in(work, at, &rom[k..k + n]);
-            return;
         }
-        Window::Work(start) => {
-            copy_within(work, start, at, count);
-            return;
-        }
-        Window::Nowhere => {
-            return;
-        }
+        Window::Work(start) => copy_within(work, start, at, count),
+        Window::Nowhere => {}
     }
 }
 

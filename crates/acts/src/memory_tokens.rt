@@ -13,13 +13,10 @@ use state::{Core, Handed, go, pop, push, stop};
 fn is_cell(number: u32) -> bool
     ensures { result ≡ of_cell number }
 {
-    if number == 0x6D {
-        return true;
-    }
-    number == 0x72
+    number == 0x6D || number == 0x72
 }
 
-fn fetched<'a>(rom: &'a [u8], work: &'a [u8], size: u32, number: u32, address: u32) -> Fetched
+fn fetched(rom: &[u8], work: &[u8], size: u32, number: u32, address: u32) -> Fetched
     ensures { result ≡ look_of number rom.now work.now size address }
 {
     if is_cell(number) {
@@ -29,9 +26,9 @@ fn fetched<'a>(rom: &'a [u8], work: &'a [u8], size: u32, number: u32, address: u
 }
 
 // @, c@
-pub fn fetch_from<'a>(
-    rom: &'a [u8],
-    work: &'a [u8],
+pub fn fetch_from(
+    rom: &[u8],
+    work: &[u8],
     cells: &mut [u32; DATA_MOST],
     core: Core,
     number: u32,
@@ -48,6 +45,7 @@ pub fn fetch_from<'a>(
     match fetched(rom, work, core.length, number, p.cell) {
         Fetched::Refused(why) => stop(core, why),
         Fetched::Value(cell) => {
+            // a copy that is written: by `..p.core` a loop over memory took 1.8 times the instructions
             let mut k = p.core;
             k.place = next;
             push(cells, k, cell)

@@ -3,7 +3,7 @@ ghost use Rattle.std.specs.Prelude.{◌≡◌, ◌≤◌};
 ghost use Rattle.acts.specs.Joints.Acts.{Assigns, Enters, Slotted};
 ghost use Rattle.rom.specs.Sizes.{data_most, numbers_most};
 
-use crate::tables::slot_of;
+use crate::tables::held_at;
 use rom::sizes::{DATA_MOST, FRAMES_MOST, NUMBERS_MOST};
 use state::{Core, Handed, call, entry, go, kind_byte, pop, push, stop, wide_at};
 use tokens::programs::PROGRAMS_MOST;
@@ -23,11 +23,9 @@ pub fn assign_value(
     ensures { Assigns number cells.now names.now kinds.now values.old core next result
         values.new }
 {
-    let slot = slot_of(slots, number);
-    if slot == 0 {
+    let Some(at) = held_at(slots, number) else {
         return stop(core, 12);
-    }
-    let at = slot - 1;
+    };
     if kind_byte(kinds, at) != 0xB8 {
         return stop(core, 12);
     }
@@ -61,11 +59,9 @@ pub fn enter(
         names.now kinds.now values.now ways.now core next result
         cells.new places.new wides.new bases.new }
 {
-    let slot = slot_of(slots, number);
-    if slot == 0 {
+    let Some(at) = held_at(slots, number) else {
         return stop(core, 12);
-    }
-    let at = slot - 1;
+    };
     let value = entry(values, at);
     if kind_byte(kinds, at) == 0xB7 {
         let wide = wide_at(ways, at);
@@ -74,6 +70,7 @@ pub fn enter(
     if DATA_MOST < core.height + 1 {
         return stop(core, 15);
     }
+    // a copy that is written: by `..core` in the tokens' functions a loop of calls took 2.2 times the instructions
     let mut k = core;
     k.place = next;
     push(cells, k, value)

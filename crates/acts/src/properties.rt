@@ -1,7 +1,6 @@
 // Properties written to the active node.
-ghost use Rattle.std.specs.Prelude.{◌≡◌, ◌≤◌, true, false, length};
-ghost use Rattle.tree.specs.Joints.Apart.{Tallied, Puts};
-ghost use Rattle.tree.specs.Property.{value_of};
+ghost use Rattle.std.specs.Prelude.{◌≡◌, ◌≤◌, length};
+ghost use Rattle.tree.specs.Joints.Apart.{Tallied};
 ghost use Rattle.state.specs.Refusals.{title_of};
 ghost use Rattle.acts.specs.Joints.Acts.{KeepsFrom, KeepsBy, Files, filed_of};
 ghost use Rattle.rom.specs.Sizes.{data_most};
@@ -18,28 +17,28 @@ fn file_kept(core: Core, taken: usize, next: u32, kept: Kept) -> Acted
     requires { taken ≤ core.height }
     ensures { result ≡ filed_of core taken next kept.outcome kept.held kept.tail }
 {
-    let outcome = kept.outcome;
-    let tail = kept.tail;
-    let mut k = core;
-    k.records = kept.held;
-    match outcome {
-        Outcome::Done => {
-            k.height = core.height - taken;
-            k.place = next;
-            Acted {
-                told: Told::On,
-                core: k,
-                tail: tail,
-            }
-        }
-        Outcome::Refused(why) => refuse(k, tail, why),
+    let k = Core {
+        records: kept.held,
+        ..core
+    };
+    match kept.outcome {
+        Outcome::Done => Acted {
+            told: Told::On,
+            core: Core {
+                height: core.height - taken,
+                place: next,
+                ..k
+            },
+            tail: kept.tail,
+        },
+        Outcome::Refused(why) => refuse(k, kept.tail, why),
     }
 }
 
 // property. It is lent both memories, the store, the stack and the arrays of the records.
-pub fn put_named<'a>(
-    rom: &'a [u8],
-    work: &'a [u8],
+pub fn put_named(
+    rom: &[u8],
+    work: &[u8],
     store: &mut [u8],
     cells: &[u32; DATA_MOST],
     owners: &mut [u32; PROPERTIES_MOST],
@@ -85,49 +84,21 @@ pub fn put_named<'a>(
     file_kept(core, 4, next, kept)
 }
 
-// The property that a title token writes, with a null. It is lent the store and the arrays of the records.
-fn put_title(
-    store: &mut [u8],
-    owners: &mut [u32; PROPERTIES_MOST],
-    titles: &mut [u32; PROPERTIES_MOST],
-    sizes: &mut [u32; PROPERTIES_MOST],
-    records: usize,
-    tail: Tail,
-    active: u32,
-    number: u32,
-    value: &[u8],
-) -> Kept
-    requires { Tallied store.old titles.old sizes.old records tail }
-    ensures { Puts active (title_of number) (value_of value.now true)
-        store.old owners.old titles.old sizes.old records
-        result store.new owners.new titles.new sizes.new }
+// The name of the property that a title token writes.
+fn title_of(number: u32) -> &'static [u8]
+    ensures { result.now ≡ title_of number }
 {
     match number {
-        0x201 => put_in(
-            store, owners, titles, sizes, records, tail, active, b"name", value, true,
-        ),
-        0x119 => put_in(
-            store, owners, titles, sizes, records, tail, active, b"model", value, true,
-        ),
-        _ => put_in(
-            store,
-            owners,
-            titles,
-            sizes,
-            records,
-            tail,
-            active,
-            b"device_type",
-            value,
-            true,
-        ),
+        0x201 => b"name",
+        0x119 => b"model",
+        _ => b"device_type",
     }
 }
 
 // device-name, model, device-type. It is lent what `put_named` is.
-pub fn put_titled<'a>(
-    rom: &'a [u8],
-    work: &'a [u8],
+pub fn put_titled(
+    rom: &[u8],
+    work: &[u8],
     store: &mut [u8],
     cells: &[u32; DATA_MOST],
     owners: &mut [u32; PROPERTIES_MOST],
@@ -153,7 +124,8 @@ pub fn put_titled<'a>(
         return refuse(core, tail, 22);
     }
     let value = resolve(rom, work, core.length, q.cell, p.cell);
-    let kept = put_title(
+    // with a null
+    let kept = put_in(
         store,
         owners,
         titles,
@@ -161,8 +133,9 @@ pub fn put_titled<'a>(
         core.records,
         tail,
         core.active,
-        number,
+        title_of(number),
         value,
+        true,
     );
     file_kept(core, 2, next, kept)
 }

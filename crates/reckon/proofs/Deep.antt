@@ -97,11 +97,8 @@ module _ (h b : ℕ) (c : List ℕ) (t : h ≤ data_most) where
         let y : h - 1 - (n + 1) ≡ h - 2 - n = omega arith in
         (t, λ k. simp (le-ltb _ _ l, counted, le-ltb _ _ m, y))
 
-    pub roll_fine : n + 2 ≤ h → (d : List ℕ) (g : ℕ) → d ≡ turned_of c (h - 2 - n) n → g ≡ h - 2 - n + n
-        → Works roll_up_of c h b 0 (g + 1) d
-    roll_fine m d g x y =
-        let z : g + 1 ≡ h - 1 = omega arith in
-        (omega arith, λ k. rw (x, z) (simp (le-ltb _ _ l, counted, le-ltb _ _ m)))
+    pub roll_fine : n + 2 ≤ h → (d : List ℕ) → d ≡ turned_of c (h - 2 - n) n → Works roll_up_of c h b 0 (h - 1) d
+    roll_fine m d x = (omega arith, λ k. rw x (simp (le-ltb _ _ l, counted, le-ltb _ _ m)))
 
   -- ?dup
   pub maybe_low : h < 1 → Works maybe_of c h b 14 h c
@@ -137,9 +134,9 @@ turns c at end first l =
     let i : end - at ≡ suc (end - (at + 1)) = omega arith in
     rw (i, cells_above c at (get_or c (at + 1) 0) (at + 1 + 1) (end - (at + 1)) (omega arith))
 
-pub turned : (c : List ℕ) (at end first : ℕ) → at ≡ end → set c at first ≡ left_to_turn c at end first
+pub turned : (c : List ℕ) (at end first : ℕ) → at ≡ end → set c end first ≡ left_to_turn c at end first
 unfolding left_of cells_from
-turned c at end first e = let i : end - at ≡ 0 = omega arith in rw i
+turned c at end first e = let i : end - at ≡ 0 = omega arith in rw (i, e)
 
 pub turn_starts : (c : List ℕ) (start count : ℕ) → left_to_turn c start (start + count) (get_or c start 0) ≡ turned_of c start count
 turn_starts c start count = let i : start + count - start ≡ count = omega arith in rw i

@@ -66,7 +66,7 @@ fn literal(
     if length < place + 5 {
         return refuse(10, h, b, place);
     }
-    if 64 <= h {
+    if DATA_MOST <= h {
         return refuse(15, h, b, place);
     }
     let at = place as usize;
@@ -142,9 +142,7 @@ pub fn fast(
     if length <= place {
         return refuse(10, h, b, place);
     }
-    let at = place as usize;
-    let number = byte_at(rom, at);
-    match number {
+    match byte_at(rom, place as usize) {
         0x10 => literal(rom, length, stack, h, b, place),
         0x13 => always(rom, length, wide, h, b, place),
         0x14 => choose(rom, length, wide, &*stack, h, b, place),

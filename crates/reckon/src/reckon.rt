@@ -23,7 +23,7 @@ pub fn push(number: u32, stack: &mut [u32; DATA_MOST], h: usize, b: usize, place
     requires { Like number 0xA5 × (h ≤ data_most) × (b ≤ return_most) × (place < rom_most) }
     ensures { OnData number stack.old h b place result stack.new }
 {
-    if 64 <= h {
+    if DATA_MOST <= h {
         return refuse(15, h, b, place);
     }
     stack[h] = said(number, h);
@@ -96,7 +96,7 @@ pub fn dup(stack: &mut [u32; DATA_MOST], h: usize, b: usize, place: u32) -> Turn
     if h < 1 {
         return refuse(14, h, b, place);
     }
-    if 64 <= h {
+    if DATA_MOST <= h {
         return refuse(15, h, b, place);
     }
     stack[h] = stack[h - 1];
@@ -111,7 +111,7 @@ pub fn over(stack: &mut [u32; DATA_MOST], h: usize, b: usize, place: u32) -> Tur
     if h < 2 {
         return refuse(14, h, b, place);
     }
-    if 64 <= h {
+    if DATA_MOST <= h {
         return refuse(15, h, b, place);
     }
     stack[h] = stack[h - 2];
@@ -126,7 +126,7 @@ pub fn tuck(stack: &mut [u32; DATA_MOST], h: usize, b: usize, place: u32) -> Tur
     if h < 2 {
         return refuse(14, h, b, place);
     }
-    if 64 <= h {
+    if DATA_MOST <= h {
         return refuse(15, h, b, place);
     }
     let under = stack[h - 2];
@@ -193,7 +193,7 @@ pub fn dup_two(stack: &mut [u32; DATA_MOST], h: usize, b: usize, place: u32) -> 
     if h < 2 {
         return refuse(14, h, b, place);
     }
-    if 62 < h {
+    if DATA_MOST < h + 2 {
         return refuse(15, h, b, place);
     }
     let under = stack[h - 2];
@@ -211,7 +211,7 @@ pub fn over_two(stack: &mut [u32; DATA_MOST], h: usize, b: usize, place: u32) ->
     if h < 4 {
         return refuse(14, h, b, place);
     }
-    if 62 < h {
+    if DATA_MOST < h + 2 {
         return refuse(15, h, b, place);
     }
     let under = stack[h - 4];
@@ -278,7 +278,7 @@ pub fn to_return(
     if h < 1 {
         return refuse(14, h, b, place);
     }
-    if 32 <= b {
+    if RETURN_MOST <= b {
         return refuse(16, h, b, place);
     }
     back[b] = stack[h - 1];
@@ -300,7 +300,7 @@ pub fn from_return(
     if b <= base {
         return refuse(16, h, b, place);
     }
-    if 64 <= h {
+    if DATA_MOST <= h {
         return refuse(15, h, b, place);
     }
     stack[h] = back[b - 1];
@@ -322,7 +322,7 @@ pub fn copy_return(
     if b <= base {
         return refuse(16, h, b, place);
     }
-    if 64 <= h {
+    if DATA_MOST <= h {
         return refuse(15, h, b, place);
     }
     stack[h] = back[b - 1];
@@ -419,8 +419,7 @@ pub fn divide(stack: &mut [u32; DATA_MOST], h: usize, b: usize, place: u32) -> T
     if h < 2 {
         return refuse(14, h, b, place);
     }
-    let parts = cells::u_mod(stack[h - 2], stack[h - 1]);
-    match parts {
+    match cells::u_mod(stack[h - 2], stack[h - 1]) {
         cells::Divided::ByZero => refuse(21, h, b, place),
         cells::Divided::Parts {
             remainder,
@@ -468,24 +467,21 @@ pub fn roll_up(stack: &mut [u32; DATA_MOST], h: usize, b: usize, place: u32) -> 
     if h < count + 2 {
         return refuse(14, h, b, place);
     }
-    let g = turn(stack, h - 2 - count, count);
-    on(g + 1, b, place + 1)
+    turn(stack, h - 2 - count, count);
+    on(h - 1, b, place + 1)
 }
 
-// Moves the cell at a place above so many others, each of which comes one down, and gives the place where it then stands.
-fn turn(stack: &mut [u32; DATA_MOST], start: usize, count: usize) -> usize
+// Moves the cell at a place above so many others, each of which comes one down.
+fn turn(stack: &mut [u32; DATA_MOST], start: usize, count: usize)
     requires { start + count < data_most }
-    ensures { (result ≡ start + count) × (stack.new ≡ turned_of stack.old start count) }
+    ensures { stack.new ≡ turned_of stack.old start count }
 {
     let first = stack[start];
     let end = start + count;
-    let mut i = start;
-    while i < end {
+    for i in start..end {
         stack[i] = stack[i + 1];
-        i += 1;
     }
-    stack[i] = first;
-    i
+    stack[end] = first;
 }
 
 // 50 ?dup
@@ -500,7 +496,7 @@ pub fn maybe(stack: &mut [u32; DATA_MOST], h: usize, b: usize, place: u32) -> Tu
     if top == 0 {
         return on(h, b, place + 1);
     }
-    if 64 <= h {
+    if DATA_MOST <= h {
         return refuse(15, h, b, place);
     }
     stack[h] = top;

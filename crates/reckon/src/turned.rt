@@ -20,35 +20,31 @@ pub struct Turned {
     pub place: u32,
 }
 
+fn ended(fared: Fared, height: usize, returns: usize, place: u32) -> Turned
+    ensures { result ≡ turned fared height returns place }
+{
+    Turned {
+        fared,
+        height,
+        returns,
+        place,
+    }
+}
+
 pub fn on(h: usize, b: usize, place: u32) -> Turned
     ensures { result ≡ turned On h b place }
 {
-    Turned {
-        fared: Fared::On,
-        height: h,
-        returns: b,
-        place: place,
-    }
+    ended(Fared::On, h, b, place)
 }
 
 pub fn cold(h: usize, b: usize, place: u32) -> Turned
     ensures { result ≡ turned Cold h b place }
 {
-    Turned {
-        fared: Fared::Cold,
-        height: h,
-        returns: b,
-        place: place,
-    }
+    ended(Fared::Cold, h, b, place)
 }
 
 pub fn refuse(why: u32, h: usize, b: usize, place: u32) -> Turned
     ensures { result ≡ turned (Not why) h b place }
 {
-    Turned {
-        fared: Fared::Not(why),
-        height: h,
-        returns: b,
-        place: place,
-    }
+    ended(Fared::Not(why), h, b, place)
 }

@@ -1,4 +1,4 @@
-use Rattle.std.proofs.Common.{ℕ, ◌+◌, ◌*◌, ◌<◌, [], sym, refl, ap, ◌∙◌, arith, lt-ltb}
+use Rattle.std.proofs.Common.{◌+◌, ◌*◌, ◌<◌, [], sym, refl, ◌∙◌, arith, lt-ltb}
 use Rattle.acts.proofs.Acting.{unread_turn, misplaced_turn}
 use Rattle.acts.proofs.Coming.{plain_comes, glance_early, seen_early, seen_call, cut_early}
 use Rattle.acts.specs.Joints.Acts.{code_for, every_on}
@@ -170,9 +170,9 @@ returns-else-core-place-2 c =
     let l = c.if-core-place-2.false in
     let s : byte_of x.rom.now (x.core.place + 1) < 256 = rw (← c.byte.ensures) c.byte.type_inv in
     rw c.with_tail-in-8-to-15.ensures (plain_comes x.rom.now x.core (seen_as (code_for call)
-    (c.byte-first.result * 256 + c.byte.result) (x.core.place + 2) 0 0) (seen_call x.rom.now x.core
-    c.byte-first.result c.byte-first.ensures (c.byte-first.result * 256 + c.byte.result) h (omega arith) s
-    (ap (λ (n : ℕ). c.byte-first.result * 256 + n) c.byte.ensures) l) call refl
+    (c.from.result * 256 + c.from-in-8-to-15.result) (x.core.place + 2) 0 0) (seen_call x.rom.now x.core
+    c.byte-first.result c.byte-first.ensures (c.from.result * 256 + c.from-in-8-to-15.result) h (omega arith) s
+    (rw (c.from.ensures, c.from-in-8-to-15.ensures, c.byte.ensures)) l) call refl
     (λ a. every_on x.cells.now x.places.now x.wides.now x.bases.now
     x.names.now x.kinds.now x.values.now x.ways.now x.parents.now x.owners.now x.titles.now
     x.sizes.now a) _ x.work.now x.work.now c.enter.result (tt, tt, tt, tt, refl)

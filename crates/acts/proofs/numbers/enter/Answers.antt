@@ -5,14 +5,13 @@ use Rattle.acts.specs.Joints.Acts.{on_program}
 use Rattle.state.specs.Joints.Apart.{joined}
 use Rattle.acts.proofs.numbers.enter.Goals as goal
 
-pub returns-then-slot-eq0 : goal.returns-then-slot-eq0
-returns-then-slot-eq0 c =
+pub returns-in_default : goal.returns-in_default
+returns-in_default c =
     let args = c.args in
     let pre = c.requires in
     λ a. enter_unheld args.slots.now (joined
     (on_program args.cells.now args.places.now args.wides.now args.bases.now args.names.now args.kinds.now
-    args.values.now args.ways.now a) args.core) args.number c.slot_of-slot.result pre.2 c.slot_of-slot.ensures
-    c.if-slot-eq0.true args.next _ (back
+    args.values.now args.ways.now a) args.core) args.number pre.2 c.in_default.ensures args.next _ (back
     (on_program args.cells.now args.places.now args.wides.now args.bases.now args.names.now args.kinds.now
     args.values.now args.ways.now a) _ _ _ c.stop.ensures)
 
@@ -22,8 +21,7 @@ returns-then-kind_byte c =
     let pre = c.requires in
     λ a. let h = held_there args.slots.now
     (joined (on_program args.cells.now args.places.now args.wides.now args.bases.now args.names.now
-    args.kinds.now args.values.now args.ways.now a) args.core).numbers args.number c.slot_of-slot.result pre.2
-    c.slot_of-slot.ensures c.if-slot-eq0.false in
+    args.kinds.now args.values.now args.ways.now a) args.core).numbers args.number pre.2 _ c.in-Some.ensures in
     enter_body
     (joined (on_program args.cells.now args.places.now args.wides.now args.bases.now args.names.now
     args.kinds.now args.values.now args.ways.now a) args.core) args.number args.next _ h.1 h.0 h.2
@@ -38,8 +36,7 @@ returns-then-core-gt-DATA_MOST c =
     let pre = c.requires in
     λ a. let h = held_there args.slots.now
     (joined (on_program args.cells.now args.places.now args.wides.now args.bases.now args.names.now
-    args.kinds.now args.values.now args.ways.now a) args.core).numbers args.number c.slot_of-slot.result pre.2
-    c.slot_of-slot.ensures c.if-slot-eq0.false in
+    args.kinds.now args.values.now args.ways.now a) args.core).numbers args.number pre.2 _ c.in-Some.ensures in
     enter_high
     (joined (on_program args.cells.now args.places.now args.wides.now args.bases.now args.names.now
     args.kinds.now args.values.now args.ways.now a) args.core) args.number args.next _ h.1 h.0 h.2
@@ -54,8 +51,7 @@ returns c =
     let pre = c.requires in
     λ a. let h = held_there args.slots.now
     (joined (on_program args.cells.now args.places.now args.wides.now args.bases.now args.names.now
-    args.kinds.now args.values.now args.ways.now a) args.core).numbers args.number c.slot_of-slot.result pre.2
-    c.slot_of-slot.ensures c.if-slot-eq0.false in
+    args.kinds.now args.values.now args.ways.now a) args.core).numbers args.number pre.2 _ c.in-Some.ensures in
     enter_value
     (joined (on_program args.cells.now args.places.now args.wides.now args.bases.now args.names.now
     args.kinds.now args.values.now args.ways.now a) args.core) args.number args.next _ h.1 h.0 h.2

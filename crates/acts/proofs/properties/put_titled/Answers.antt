@@ -28,8 +28,8 @@ returns-then-bad_string c =
       refl,
     )
 
-pub put_title-kept-requires : goal.put_title-kept-requires
-put_title-kept-requires c =
+pub put_in-kept-requires : goal.put_in-kept-requires
+put_in-kept-requires c =
     let pre = c.requires in
     pre.2
 
@@ -41,21 +41,21 @@ returns c =
     let x = c.args in
     let k = x.core in
     let n =
-    filed_numbers k 2 x.next c.put_title-kept.result.held c.put_title-kept.result.tail c.put_title-kept.result.outcome _ c.file_kept.ensures
+    filed_numbers k 2 x.next c.put_in-kept.result.held c.put_in-kept.result.tail c.put_in-kept.result.outcome _ c.file_kept.ensures
     in (
       λ a w.
           let b = on_files x.cells.now x.owners.now x.titles.now x.sizes.now a in
           let st = joined b k in
-          let e = c.put_title-kept.ensures.0 st.tree w in
+          let e = (rw c.title_of.ensures at c.put_in-kept.ensures).0 st.tree w in
           let low = c.if-core-lt2.false in
           let valued = sym c.bad_string.ensures
           ∙ c.if-bad_string.false in
           let value = c.resolve-value.ensures in
           title_told x.rom.now x.work.now x.store.now st x.number x.next c.requires.0 low (taken_on b c.pop-p.result)
           (taken_on b c.pop-q.result) (c.pop-p.ensures b) (c.pop-q.ensures b) _ _ _ _ valued c.requires.2.0 w value e.0 e.1
-          (filed_back b _ k 2 x.next c.put_title-kept.result.held c.put_title-kept.result.tail _ c.put_title-kept.result.outcome _ refl
+          (filed_back b _ k 2 x.next c.put_in-kept.result.held c.put_in-kept.result.tail _ c.put_in-kept.result.outcome _ refl
           c.file_kept.ensures refl
           (λ why d. put_same _ why d st.tree _ _ _ _ e.0)),
-      rw (n.0, n.1) c.put_title-kept.ensures.1,
+      rw (n.0, n.1) c.put_in-kept.ensures.1,
       n.2,
     )

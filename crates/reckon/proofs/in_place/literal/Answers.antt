@@ -9,10 +9,10 @@ returns-then-length-place c =
     rw c.refuse.ensures (literal_cut a.rom.now a.length a.h a.b a.place a.stack.now c.requires.0 c.requires.1
     (search rules))
 
-pub returns-then-h-ge64 : goal.returns-then-h-ge64
-returns-then-h-ge64 c =
+pub returns-then-h-ge-DATA_MOST : goal.returns-then-h-ge-DATA_MOST
+returns-then-h-ge-DATA_MOST c =
     let a = c.args in
-    rw c.refuse-then-h-ge64.ensures (literal_high a.rom.now a.length a.h a.b a.place a.stack.now c.requires.0 c.requires.1
+    rw c.refuse-then-h-ge-DATA_MOST.ensures (literal_high a.rom.now a.length a.h a.b a.place a.stack.now c.requires.0 c.requires.1
     (search rules) (search rules))
 
 pub returns : goal.returns

@@ -8,10 +8,10 @@ returns-then-b-base c =
     rw c.refuse.ensures (copy_low a.base a.h a.b a.place a.stack.now a.back.now c.requires.0 c.requires.1
     (search rules))
 
-pub returns-then-h-ge64 : goal.returns-then-h-ge64
-returns-then-h-ge64 c =
+pub returns-then-h-ge-DATA_MOST : goal.returns-then-h-ge-DATA_MOST
+returns-then-h-ge-DATA_MOST c =
     let a = c.args in
-    rw c.refuse-then-h-ge64.ensures (copy_high a.base a.h a.b a.place a.stack.now a.back.now c.requires.0 c.requires.1
+    rw c.refuse-then-h-ge-DATA_MOST.ensures (copy_high a.base a.h a.b a.place a.stack.now a.back.now c.requires.0 c.requires.1
     (search rules) (search rules))
 
 pub returns : goal.returns

@@ -15,12 +15,12 @@ returns-in-ByZero c =
     let y = get_or a.stack.now (a.h - 1) 0 in
     rw c.refuse-in-ByZero.ensures (divide_made a.h a.b a.place a.stack.now c.requires.0 c.requires.1 21 a.h _
     (divide_zero a.h a.b a.stack.now c.requires.0 (search rules)
-    (by_zero x y (sym c.in-ByZero.is ∙ c.u_mod-parts.ensures))))
+    (by_zero x y (sym c.in-ByZero.is ∙ c.u_mod.ensures))))
 
 pub returns-in-Parts : goal.returns-in-Parts
 returns-in-Parts c =
     let a = c.args in
     let x = get_or a.stack.now (a.h - 2) 0 in let y = get_or a.stack.now (a.h - 1) 0 in
-    let p = parted x y _ _ (sym c.in-Parts.is ∙ c.u_mod-parts.ensures) in
+    let p = parted x y _ _ (sym c.in-Parts.is ∙ c.u_mod.ensures) in
     rw c.on.ensures (divide_made a.h a.b a.place a.stack.now c.requires.0 c.requires.1 0 a.h _
     (divide_fine a.h a.b a.stack.now c.requires.0 (search rules) _ _ p.0 p.1 p.2))

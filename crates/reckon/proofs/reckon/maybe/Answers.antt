@@ -15,10 +15,10 @@ returns-then-top-eq0 c =
     rw c.on.ensures (maybe_made a.h a.b a.place a.stack.now c.requires.0 c.requires.1 0 a.h _
     (maybe_zero a.h a.b a.stack.now c.requires.0 (search rules) c.if-top-eq0.true))
 
-pub returns-then-h-ge64 : goal.returns-then-h-ge64
-returns-then-h-ge64 c =
+pub returns-then-h-ge-DATA_MOST : goal.returns-then-h-ge-DATA_MOST
+returns-then-h-ge-DATA_MOST c =
     let a = c.args in
-    rw c.refuse-then-h-ge64.ensures (maybe_made a.h a.b a.place a.stack.now c.requires.0 c.requires.1 15 a.h _
+    rw c.refuse-then-h-ge-DATA_MOST.ensures (maybe_made a.h a.b a.place a.stack.now c.requires.0 c.requires.1 15 a.h _
     (maybe_high a.h a.b a.stack.now c.requires.0 (search rules) c.if-top-eq0.false (search rules)))
 
 pub returns : goal.returns

@@ -12,11 +12,11 @@ returns-then-h-lt4 c =
     rw c.refuse.ensures (data_low 0x54 a.h a.b a.place 0x0100_0046 a.stack.now refl (refl, refl, refl, refl)
     c.requires.0 c.requires.1 (search rules))
 
-pub returns-then-h-gt62 : goal.returns-then-h-gt62
+pub returns-then-h-gt-DATA_MOST : goal.returns-then-h-gt-DATA_MOST
 unfolding code_of row_of table ends lows highs doubles
-returns-then-h-gt62 c =
+returns-then-h-gt-DATA_MOST c =
     let a = c.args in
-    rw c.refuse-then-h-gt62.ensures (data_high 0x54 a.h a.b a.place 0x0100_0046 a.stack.now refl (refl, refl, refl, refl)
+    rw c.refuse-then-h-gt-DATA_MOST.ensures (data_high 0x54 a.h a.b a.place 0x0100_0046 a.stack.now refl (refl, refl, refl, refl)
     c.requires.0 c.requires.1 (search rules) (search rules))
 
 pub returns : goal.returns

@@ -19,5 +19,5 @@ pub returns : goal.returns
 returns c =
     let a = c.args in
     rw c.on.ensures (roll_made a.h a.b a.place a.stack.now c.requires.0 c.requires.1 0 _ _
-    (roll_fine a.h a.b a.stack.now c.requires.0 c.count_of-count.result c.count_of-count.ensures.0 (search rules) (search rules) _ _
-    c.turn-g.ensures.1 c.turn-g.ensures.0))
+    (roll_fine a.h a.b a.stack.now c.requires.0 c.count_of-count.result c.count_of-count.ensures.0 (search rules) (search rules) _
+    c.turn.ensures))

@@ -8,10 +8,10 @@ returns-then-h-lt1 c =
     rw c.refuse.ensures (λ base. to_low base a.h a.b a.place a.stack.now a.back.now c.requires.0 c.requires.1
     (search rules))
 
-pub returns-then-b-ge32 : goal.returns-then-b-ge32
-returns-then-b-ge32 c =
+pub returns-then-b-ge-RETURN_MOST : goal.returns-then-b-ge-RETURN_MOST
+returns-then-b-ge-RETURN_MOST c =
     let a = c.args in
-    rw c.refuse-then-b-ge32.ensures (λ base. to_high base a.h a.b a.place a.stack.now a.back.now c.requires.0 c.requires.1
+    rw c.refuse-then-b-ge-RETURN_MOST.ensures (λ base. to_high base a.h a.b a.place a.stack.now a.back.now c.requires.0 c.requires.1
     (search rules) (search rules))
 
 pub returns : goal.returns

@@ -12,11 +12,11 @@ returns-then-h-lt2 c =
     rw c.refuse.ensures (data_low 0x4C a.h a.b a.place 0x0100_0023 a.stack.now refl (refl, refl, refl, refl)
     c.requires.0 c.requires.1 (search rules))
 
-pub returns-then-h-ge64 : goal.returns-then-h-ge64
+pub returns-then-h-ge-DATA_MOST : goal.returns-then-h-ge-DATA_MOST
 unfolding code_of row_of table ends lows highs doubles
-returns-then-h-ge64 c =
+returns-then-h-ge-DATA_MOST c =
     let a = c.args in
-    rw c.refuse-then-h-ge64.ensures (data_high 0x4C a.h a.b a.place 0x0100_0023 a.stack.now refl (refl, refl, refl, refl)
+    rw c.refuse-then-h-ge-DATA_MOST.ensures (data_high 0x4C a.h a.b a.place 0x0100_0023 a.stack.now refl (refl, refl, refl, refl)
     c.requires.0 c.requires.1 (search rules) (search rules))
 
 pub returns : goal.returns
