@@ -9,7 +9,7 @@ ghost use Rattle.state.specs.Joints.Apart.{joined, arrays};
 ghost use Rattle.state.specs.Laws.Sized.{Sized};
 ghost use Rattle.acts.specs.Joints.Acts.{Ready};
 ghost use Rattle.machine.specs.Joints.Cruised.{cruised_by, cruised_to, one_of};
-ghost use Rattle.machine.specs.Joints.Rooms.{small_room, middle_room, large_room, RoomFor, SpreadIs, Laying};
+ghost use Rattle.machine.specs.Joints.Rooms.{large_room, RoomFor, SpreadIs, Laying};
 
 use acts::{cold_token, fill_tables};
 use reckon::{Fared, fast};
@@ -17,7 +17,7 @@ use rom::sizes::{
     DATA_MOST, FRAMES_MOST, NODES_MOST, NUMBERS_MOST, PROPERTIES_MOST, RETURN_MOST, ROM_LEAST,
     ROM_MOST, STORE_SIZE, WORK_SIZE,
 };
-use rom::{Spread, fcode_count, lay_fcode, least, spread_of, wrong_length, wrong_rom};
+use rom::{Spread, fcode_count, lay_fcode, spread_of, wrong_length, wrong_rom};
 use state::{
     Answer, Back, Calls, Core, Numbers, Ran, Stack, State, Stepped, Told, core_of, going, is_whole,
 };
@@ -40,6 +40,7 @@ pub struct Cruised {
 }
 
 // What is known before a token is looked at: 6, 1, 7, 4, or that the state is finished.
+#[tactic(auto, unfolding(state::specs::Step::ready_of))]
 fn ready(fcode: &[u8], work: &[u8], store: &[u8], st: State) -> Answer
     ensures { result ≡ ready_of (scene fcode.now work.now store.now st) }
 {
@@ -69,9 +70,9 @@ fn halted(answer: Answer, count: u32, core: Core) -> Cruised
     ensures { result ≡ cruised_by answer count core }
 {
     Cruised {
-        answer: answer,
-        count: count,
-        core: core,
+        answer,
+        count,
+        core,
     }
 }
 
@@ -113,60 +114,39 @@ fn cruise(
 {
     let mut slots = [0u16; PROGRAMS_MOST];
     let mut known = [0u8; PROGRAMS_MOST];
-    fill_tables(&mut slots, &mut known, &*names, &*kinds, start.held);
-    let mut tail = tail_of(&*titles, &*sizes, start.records);
+    fill_tables(&mut slots, &mut known, names, kinds, start.held);
+    let mut tail = tail_of(titles, sizes, start.records);
     let mut core = start;
-    let mut n = 0;
-    while n < budget {
+    for n in 0..budget {
         let t = fast(
             rom,
             core.length,
             core.wide,
-            &mut *cells,
-            &mut *back,
+            cells,
+            back,
             core.height,
             core.returns,
-            &*bases,
+            bases,
             core.frames,
             core.place,
         );
         core.height = t.height;
         core.returns = t.returns;
         core.place = t.place;
-        let fared = t.fared;
-        match fared {
-            Fared::On => n += 1,
+        match t.fared {
+            Fared::On => continue,
             Fared::Not(why) => return halted(Answer::Refused(why), n, core),
             Fared::Cold => {
                 let r = cold_token(
-                    rom,
-                    &mut *work,
-                    &mut *store,
-                    &mut *cells,
-                    &mut *places,
-                    &mut *wides,
-                    &mut *bases,
-                    &mut *names,
-                    &mut *kinds,
-                    &mut *values,
-                    &mut *ways,
-                    &mut *parents,
-                    &mut *owners,
-                    &mut *titles,
-                    &mut *sizes,
-                    &mut slots,
-                    &mut known,
-                    core,
-                    tail,
+                    rom, work, store, cells, places, wides, bases, names, kinds, values, ways,
+                    parents, owners, titles, sizes, &mut slots, &mut known, core, tail,
                 );
                 core = r.core;
                 tail = r.tail;
-                let told = r.told;
-                match told {
+                match r.told {
                     Told::On => {
-                        n += 1;
                         if core.active == 0 {
-                            return halted(Answer::Refused(7), n, core);
+                            return halted(Answer::Refused(7), n + 1, core);
                         }
                     }
                     Told::Over => return halted(Answer::Finished, n + 1, core),
@@ -175,7 +155,7 @@ fn cruise(
             }
         }
     }
-    halted(Answer::Spent(n), n, core)
+    halted(Answer::Spent(budget), budget, core)
 }
 
 // The same of a state: it is taken apart once and put together once.
@@ -184,24 +164,19 @@ fn tokens(rom: &[u8], work: &mut [u8], store: &mut [u8], st: State, budget: u32)
     ensures { told_ran result work.new store.new ≡ run_of budget
         (scene rom.now work.old store.old st) }
 {
-    let stack = st.stack;
-    let mut cells = stack.cells;
-    let returns = st.back;
-    let mut back = returns.cells;
-    let calls = st.calls;
-    let mut places = calls.places;
-    let mut wides = calls.wides;
-    let mut bases = calls.bases;
-    let numbers = st.numbers;
-    let mut names = numbers.programs;
-    let mut kinds = numbers.kinds;
-    let mut values = numbers.values;
-    let mut ways = numbers.wides;
-    let tree = st.tree;
-    let mut parents = tree.parents;
-    let mut owners = tree.owners;
-    let mut titles = tree.name_sizes;
-    let mut sizes = tree.value_sizes;
+    let mut cells = st.stack.cells;
+    let mut back = st.back.cells;
+    let mut places = st.calls.places;
+    let mut wides = st.calls.wides;
+    let mut bases = st.calls.bases;
+    let mut names = st.numbers.programs;
+    let mut kinds = st.numbers.kinds;
+    let mut values = st.numbers.values;
+    let mut ways = st.numbers.wides;
+    let mut parents = st.tree.parents;
+    let mut owners = st.tree.owners;
+    let mut titles = st.tree.name_sizes;
+    let mut sizes = st.tree.value_sizes;
     let r = cruise(
         rom,
         work,
@@ -222,7 +197,6 @@ fn tokens(rom: &[u8], work: &mut [u8], store: &mut [u8], st: State, budget: u32)
         core_of(st),
         budget,
     );
-    let answer = r.answer;
     let core = r.core;
     let state = State {
         length: core.length,
@@ -230,7 +204,7 @@ fn tokens(rom: &[u8], work: &mut [u8], store: &mut [u8], st: State, budget: u32)
         wide: core.wide,
         finished: core.finished,
         stack: Stack {
-            cells: cells,
+            cells,
             height: core.height,
         },
         back: Back {
@@ -238,15 +212,15 @@ fn tokens(rom: &[u8], work: &mut [u8], store: &mut [u8], st: State, budget: u32)
             height: core.returns,
         },
         calls: Calls {
-            places: places,
-            wides: wides,
-            bases: bases,
+            places,
+            wides,
+            bases,
             count: core.frames,
         },
         numbers: Numbers {
             programs: names,
-            kinds: kinds,
-            values: values,
+            kinds,
+            values,
             wides: ways,
             count: core.held,
         },
@@ -254,24 +228,24 @@ fn tokens(rom: &[u8], work: &mut [u8], store: &mut [u8], st: State, budget: u32)
         active: core.active,
         first: core.first,
         tree: Tree {
-            parents: parents,
+            parents,
             nodes: core.nodes,
-            owners: owners,
+            owners,
             name_sizes: titles,
             value_sizes: sizes,
             held: core.records,
         },
     };
-    ended(answer, r.count, state)
+    ended(r.answer, r.count, state)
 }
 
 fn ended(answer: Answer, count: u32, state: State) -> Ran
     ensures { result ≡ ran_of answer count state }
 {
     Ran {
-        answer: answer,
-        count: count,
-        state: state,
+        answer,
+        count,
+        state,
     }
 }
 
@@ -280,11 +254,9 @@ fn run_fcode(fcode: &[u8], work: &mut [u8], store: &mut [u8], st: State, budget:
     ensures { told_ran result work.new store.new ≡ run_of budget
         (scene fcode.now work.old store.old st) }
 {
-    match ready(fcode, &*work, &*store, st) {
+    match ready(fcode, work, store, st) {
         Answer::Going => tokens(fcode, work, store, st, budget),
-        Answer::Finished => ended(Answer::Finished, 0, st),
-        Answer::Refused(why) => ended(Answer::Refused(why), 0, st),
-        Answer::Spent(n) => ended(Answer::Spent(n), 0, st),
+        known => ended(known, 0, st),
     }
 }
 
@@ -307,8 +279,8 @@ fn run_laid(
     run_fcode(&room[..count], work, store, st, budget)
 }
 
-// A room is cleared at each call, so that a small program has a small one.
-fn run_small(
+// A room is cleared at each call, so that a small program has a small one, and each size of room is a function of its own.
+fn run_in<const ROOM: usize>(
     rom: &[u8],
     spread: Spread,
     count: usize,
@@ -317,45 +289,11 @@ fn run_small(
     st: State,
     budget: u32,
 ) -> Ran
-    requires { Laying spread rom.now st.length count × (count ≤ small_room) }
+    requires { Laying spread rom.now st.length count × (count ≤ ROOM) × (ROOM ≤ large_room) }
     ensures { told_ran result work.new store.new ≡ run_of budget
         (scene (view_of spread rom.now) work.old store.old st) }
 {
-    let mut room = [0u8; SMALL_ROOM];
-    run_laid(rom, spread, &mut room, count, work, store, st, budget)
-}
-
-fn run_middle(
-    rom: &[u8],
-    spread: Spread,
-    count: usize,
-    work: &mut [u8],
-    store: &mut [u8],
-    st: State,
-    budget: u32,
-) -> Ran
-    requires { Laying spread rom.now st.length count × (count ≤ middle_room) }
-    ensures { told_ran result work.new store.new ≡ run_of budget
-        (scene (view_of spread rom.now) work.old store.old st) }
-{
-    let mut room = [0u8; MIDDLE_ROOM];
-    run_laid(rom, spread, &mut room, count, work, store, st, budget)
-}
-
-fn run_large(
-    rom: &[u8],
-    spread: Spread,
-    count: usize,
-    work: &mut [u8],
-    store: &mut [u8],
-    st: State,
-    budget: u32,
-) -> Ran
-    requires { Laying spread rom.now st.length count × (count ≤ large_room) }
-    ensures { told_ran result work.new store.new ≡ run_of budget
-        (scene (view_of spread rom.now) work.old store.old st) }
-{
-    let mut room = [0u8; LARGE_ROOM];
+    let mut room = [0u8; ROOM];
     run_laid(rom, spread, &mut room, count, work, store, st, budget)
 }
 
@@ -364,11 +302,7 @@ fn run_large(
 fn asked(count: usize, length: u32) -> usize
     ensures { result ≡ min count (max rom_least length) }
 {
-    let wanted = length as usize;
-    if wanted < ROM_LEAST {
-        return least(count, ROM_LEAST);
-    }
-    least(count, wanted)
+    count.min(ROM_LEAST.max(length as usize))
 }
 
 // A run of a spread ROM. One that is refused for its size is so by 1 as any that is too short, and there is nothing to lay out.
@@ -389,12 +323,12 @@ fn run_spread(
     }
     let count = asked(fcode_count(rom, spread), st.length);
     if count <= SMALL_ROOM {
-        return run_small(rom, spread, count, work, store, st, budget);
+        return run_in::<SMALL_ROOM>(rom, spread, count, work, store, st, budget);
     }
     if count <= MIDDLE_ROOM {
-        return run_middle(rom, spread, count, work, store, st, budget);
+        return run_in::<MIDDLE_ROOM>(rom, spread, count, work, store, st, budget);
     }
-    run_large(rom, spread, count, work, store, st, budget)
+    run_in::<LARGE_ROOM>(rom, spread, count, work, store, st, budget)
 }
 
 // Tokens until one finishes or is refused or the budget is spent: 6, 1, 7 and 4 are tested first, then finish, then budget, then the token.
@@ -415,22 +349,13 @@ pub fn run(rom: &[u8], work: &mut [u8], store: &mut [u8], st: State, budget: u32
 fn one(ran: Ran) -> Stepped
     ensures { result ≡ one_of ran }
 {
-    let answer = ran.answer;
-    let state = ran.state;
-    if ran.count == 0 {
-        return Stepped {
-            answer: answer,
-            state: state,
-        };
-    }
-    match answer {
-        Answer::Going => going(state),
-        Answer::Finished => Stepped {
-            answer: Answer::Finished,
-            state: state,
-        },
-        Answer::Refused(_) => going(state),
-        Answer::Spent(_) => going(state),
+    if ran.count == 0 || matches!(ran.answer, Answer::Finished) {
+        Stepped {
+            answer: ran.answer,
+            state: ran.state,
+        }
+    } else {
+        going(ran.state)
     }
 }
 

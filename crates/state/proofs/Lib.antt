@@ -1,2 +1,1 @@
 pub mod Wholes
-pub mod Opened

@@ -1,46 +1,34 @@
 -- A test of every number below a count, as the code makes it: one after the other, until one fails. Assumes nothing.
-use Prim.Native.Nat.{ℕ, suc, ◌+◌, ◌<◌, ◌≤◌}
-use mathlib.Core.Path.{◌≡◌, refl, sym, ◌∙◌, subst}
-use lib.ListN.{get_or}
-use Rattle.cells.specs.Laws.Facts.{holds}
-use Rattle.state.specs.Whole.{entry_kept, entry_whole}
-use Rattle.state.specs.declared.state.Numbers.{Numbers}
-use mathlib.Core.Bool.{Bool, true, false, not}
-use native.Mathlib.Omega.{arith}
-use lib.Dec.{T}
-use Rattle.tree.specs.Laws.Trees.{every_one}
+use Prim.Native.Nat.{ℕ, zero, suc, ◌+◌}
+use mathlib.Core.Path.{◌≡◌, refl, sym, ◌∙◌, ap}
+use mathlib.Core.Bool.{Bool, ◌&&◌}
+use native.Mathlib.Nat.{sub-zero}
+use denote.Param.Members.{Mut}
+use Rattle.std.proofs.Common.{zero-add, add-zero, arith}
+use Rattle.std.proofs.Math.Bool.{and_assoc, and-true}
+use Rattle.std.specs.declared.ops.Range.{Range}
+use Rattle.std.specs.Fn.{Called}
+use Rattle.std.specs.Iterator.{ChecksAll}
+use Rattle.std.specs.List.{list_all, range_with_len}
+use Rattle.std.proofs.iter.Yields.{nat_range_steps}
+use Rattle.std.proofs.lemmas.Iterator.{YieldsList-from_range}
+use Rattle.std.proofs.lemmas.Iterator.Search.{all_from_yields_List}
 use Rattle.tree.specs.Whole.{every_below}
 
-pub one_fails : (n : ℕ) (f : ℕ → Bool) (i : ℕ) (b : Bool) → i < n → b ≡ f i → not b ≡ true → false ≡ every_below n f
-one_fails n f i b l e t = by (every_below n f) refl
-  where
-    off : (b : Bool) → not b ≡ true → T b → ⊥
-    off true t u = subst T (sym t) tt
-    off false t u = u
+-- one number more at the end
+one_more : (f : ℕ → Bool) (a n : ℕ) → list_all f (range_with_len a (suc n)) ≡ list_all f (range_with_len a n) && f (a + n)
+one_more f a zero = rw (add-zero a) (and-true (f a))
+one_more f a (suc n) =
+    let e : a + 1 + n ≡ a + suc n = omega arith in
+    ap (λ b. f a && b) (rw e at (one_more f (a + 1) n)) ∙ sym (and_assoc (f a) (list_all f (range_with_len (a + 1) n)) (f (a + suc n)))
 
-    by : (x : Bool) → every_below n f ≡ x → false ≡ x
-    by true q = absurd (off b t (subst T (sym e) (every_one n f (holds _ q) i l)))
-    by false q = refl
-
-pub one_more : (f : ℕ → Bool) (i : ℕ) (b : Bool) → every_below i f ≡ true → b ≡ f i → not b ≡ false → every_below (i + 1) f ≡ true
+every_listed : (n : ℕ) (f : ℕ → Bool) → list_all f (range_with_len 0 n) ≡ every_below n f
 unfolding every_below
-one_more f i b h e t =
-    let s : i + 1 ≡ suc i = omega arith in
-    rw (s, h, ← e) (on b t)
-  where
-    on : (b : Bool) → not b ≡ false → b ≡ true
-    on true t = refl
-    on false t = sym t
+every_listed zero f = refl
+every_listed (suc n) f = one_more f 0 n ∙ rw (zero-add n, every_listed n f)
 
-pub none_yet : (f : ℕ → Bool) → every_below 0 f ≡ true
-unfolding every_below
-none_yet f = refl
-
-pub all_hold : (n i : ℕ) (f : ℕ → Bool) → i ≤ n → n ≤ i → every_below i f ≡ true → true ≡ every_below n f
-all_hold n i f a b h = let e : i ≡ n = omega arith in sym (rw e at h)
-
--- an entry by its three numbers
-pub same_entry : (size : ℕ) (ns : Numbers) (i name kind v : ℕ) (b : Bool) → name ≡ get_or ns.programs i 0 → kind ≡ get_or ns.kinds i 0
-    → v ≡ get_or ns.values i 0
-    → b ≡ entry_kept size name kind v → b ≡ entry_whole size ns i
-same_entry size ns i name kind v b p q r e = e ∙ rw (p, q, r)
+pub every_told : {F : Type 0} {g : Mut F (ℕ × Unit {0}) Bool} (n : ℕ) (f : ℕ → Bool) (u : Range ℕ) (q : F) (r : Bool)
+    → ChecksAll nat_range_steps g (record { start = 0; end = n }) q r u
+    → ((i : ℕ) (b : Bool) (p : F) → Called g q (i, tt) b p → (p ≡ q) × (b ≡ f i)) → r ≡ every_below n f
+every_told n f u q r a h =
+    all_from_yields_List f u q r a (YieldsList-from_range 0 n n refl (sub-zero n)) h ∙ every_listed n f

@@ -32,9 +32,8 @@ pub fn number_of(answer: Answer) -> u32
     ensures { result ≡ answer_number answer }
 {
     match answer {
-        Answer::Going => 0,
-        Answer::Finished => 0,
+        Answer::Going | Answer::Finished => 0,
         Answer::Refused(why) => why,
-        Answer::Spent(count) => 28,
+        Answer::Spent(_) => 28,
     }
 }

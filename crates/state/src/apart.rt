@@ -52,7 +52,7 @@ pub fn stop(core: Core, why: u32) -> Handed
 {
     Handed {
         told: Told::Not(why),
-        core: core,
+        core,
     }
 }
 
@@ -61,7 +61,7 @@ pub fn go(core: Core) -> Handed
 {
     Handed {
         told: Told::On,
-        core: core,
+        core,
     }
 }
 
@@ -69,24 +69,19 @@ pub fn go(core: Core) -> Handed
 pub fn core_of(st: State) -> Core
     ensures { result ≡ core_of st }
 {
-    let stack = st.stack;
-    let back = st.back;
-    let calls = st.calls;
-    let numbers = st.numbers;
-    let tree = st.tree;
     Core {
         length: st.length,
         place: st.place,
         wide: st.wide,
         finished: st.finished,
-        height: stack.height,
-        returns: back.height,
-        frames: calls.count,
-        held: numbers.count,
+        height: st.stack.height,
+        returns: st.back.height,
+        frames: st.calls.count,
+        held: st.numbers.count,
         work_place: st.work_place,
-        nodes: tree.nodes,
+        nodes: st.tree.nodes,
         active: st.active,
         first: st.first,
-        records: tree.held,
+        records: st.tree.held,
     }
 }

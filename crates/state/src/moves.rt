@@ -1,12 +1,13 @@
 // One cell pushed or popped, a body entered or left: each takes the state's numbers by value and hands them back with an answer, and is
 // lent the arrays that it changes or looks at.
-ghost use Rattle.std.specs.Prelude.{◌≡◌, false, get_or};
+ghost use Rattle.std.specs.Prelude.{◌≡◌};
 ghost use Rattle.state.specs.Joints.Moves.{push_of, call_of, leave_of, stepped};
 ghost use Rattle.state.specs.Joints.Apart.{on_stack, on_calls, Moves, Looks, Takes, base_in};
 ghost use Rattle.state.specs.declared.answer.Answer.TheVariants.{Refused, Going};
 
 use crate::answer::{Answer, Stepped};
 use crate::apart::{Core, Handed, Taken, Told, go, stop};
+use crate::entries::entry_or;
 use crate::state::State;
 use rom::sizes::{DATA_MOST, FRAMES_MOST};
 
@@ -29,40 +30,24 @@ pub fn going(st: State) -> Stepped
     }
 }
 
-// An entry of an array, and 0 past its end.
-pub fn entry(cells: &[u32], at: usize) -> u32
-    ensures { result ≡ get_or cells.now at 0 }
-{
-    if at < cells.len() { cells[at] } else { 0 }
-}
-
-pub fn base_at(bases: &[usize], at: usize) -> usize
-    ensures { result ≡ get_or bases.now at 0 }
-{
-    if at < bases.len() { bases[at] } else { 0 }
-}
-
-pub fn wide_at(wides: &[bool], at: usize) -> bool
-    ensures { result ≡ get_or wides.now at false }
-{
-    if at < wides.len() { wides[at] } else { false }
-}
-
 // A cell onto the data stack; 15 where it is full.
+#[tactic(auto, unfolding(crate::specs::Joints::Moves::push_of))]
 pub fn push(cells: &mut [u32; DATA_MOST], core: Core, cell: u32) -> Handed
     ensures { Moves (on_stack cells.old) core result (on_stack cells.new) (λ s t. t ≡ push_of s cell) }
 {
     let h = core.height;
     if h < DATA_MOST {
         cells[h] = cell;
-        let mut k = core;
-        k.height = h + 1;
-        return go(k);
+        return go(Core {
+            height: h + 1,
+            ..core
+        });
     }
     stop(core, 15)
 }
 
 // The top of the data stack; 14 where it is empty.
+#[tactic(auto, unfolding(crate::specs::Joints::Moves::pop_of))]
 pub fn pop(cells: &[u32; DATA_MOST], core: Core) -> Taken
     ensures { Takes (on_stack cells.now) core result }
 {
@@ -71,15 +56,16 @@ pub fn pop(cells: &[u32; DATA_MOST], core: Core) -> Taken
         return Taken {
             told: Told::Not(14),
             cell: 0,
-            core: core,
+            core,
         };
     }
-    let mut k = core;
-    k.height = h - 1;
     Taken {
         told: Told::On,
-        cell: entry(cells, h - 1),
-        core: k,
+        cell: entry_or(cells, h - 1, 0),
+        core: Core {
+            height: h - 1,
+            ..core
+        },
     }
 }
 
@@ -88,13 +74,14 @@ pub fn base(bases: &[usize; FRAMES_MOST], frames: usize) -> usize
     ensures { result ≡ base_in bases.now frames }
 {
     if 0 < frames {
-        base_at(bases, frames - 1)
+        entry_or(bases, frames - 1, 0)
     } else {
         0
     }
 }
 
 // Into a body that starts at a place, in the width that it was defined in; the caller goes on at `next`. 17 where 16 calls are open.
+#[tactic(auto, unfolding(crate::specs::Joints::Moves::call_of))]
 pub fn call(
     places: &mut [u32; FRAMES_MOST],
     wides: &mut [bool; FRAMES_MOST],
@@ -112,16 +99,18 @@ pub fn call(
         places[open] = next;
         wides[open] = core.wide;
         bases[open] = core.returns;
-        let mut k = core;
-        k.frames = open + 1;
-        k.place = to;
-        k.wide = wide;
-        return go(k);
+        return go(Core {
+            place: to,
+            wide,
+            frames: open + 1,
+            ..core
+        });
     }
     stop(core, 17)
 }
 
 // Out of a body, back to the caller's place and width. 18 where no call is open, 16 where the return stack is not at the frame's base.
+#[tactic(auto, unfolding(crate::specs::Joints::Moves::leave_of))]
 pub fn leave(
     places: &[u32; FRAMES_MOST],
     wides: &[bool; FRAMES_MOST],
@@ -134,12 +123,13 @@ pub fn leave(
     if open == 0 {
         return stop(core, 18);
     }
-    if core.returns != base_at(bases, open - 1) {
+    if core.returns != entry_or(bases, open - 1, 0) {
         return stop(core, 16);
     }
-    let mut k = core;
-    k.place = entry(places, open - 1);
-    k.wide = wide_at(wides, open - 1);
-    k.frames = open - 1;
-    go(k)
+    go(Core {
+        place: entry_or(places, open - 1, 0),
+        wide: entry_or(wides, open - 1, false),
+        frames: open - 1,
+        ..core
+    })
 }

@@ -7,7 +7,6 @@ ghost use Rattle.state.specs.Open.{empty_state, zero_state, open_of};
 use crate::answer::Stepped;
 use crate::moves::{going, refused};
 use crate::state::{Back, Calls, Numbers, Stack, State};
-use memory::clear_from;
 use rom::sizes::{
     DATA_MOST, FIRST_PLACE, FRAMES_MOST, NUMBERS_MOST, RETURN_MOST, STORE_SIZE, WORK_SIZE,
 };
@@ -42,18 +41,18 @@ fn empty_state(length: u32, place: u32, wide: bool, first: u32, tree: Tree) -> S
         count: 0,
     };
     State {
-        length: length,
-        place: place,
-        wide: wide,
+        length,
+        place,
+        wide,
         finished: false,
-        stack: stack,
-        back: back,
-        calls: calls,
-        numbers: numbers,
+        stack,
+        back,
+        calls,
+        numbers,
         work_place: 0,
         active: first,
-        first: first,
-        tree: tree,
+        first,
+        tree,
     }
 }
 
@@ -66,14 +65,12 @@ fn zero_state() -> State
 
 // Tests the buffers and the header in the order 6, 1, 2, 3, 4, 5, and starts the program: work memory and store are zeroed. A refused
 // opening writes nothing and hands back the all-zero state.
+#[tactic(auto, unfolding(crate::specs::Open::open_of))]
 pub fn open(rom: &[u8], work: &mut [u8], store: &mut [u8]) -> Stepped
     ensures { handed_back result work.new store.new
         ≡ open_of (fcode_of rom.now) work.old store.old }
 {
-    if work.len() != WORK_SIZE {
-        return refused(zero_state(), 6);
-    }
-    if store.len() != STORE_SIZE {
+    if work.len() != WORK_SIZE || store.len() != STORE_SIZE {
         return refused(zero_state(), 6);
     }
     let why = check_header(rom);
@@ -81,7 +78,7 @@ pub fn open(rom: &[u8], work: &mut [u8], store: &mut [u8]) -> Stepped
         return refused(zero_state(), why);
     }
     let length = program_length(rom, spread_of(rom));
-    clear_from(work, 0);
-    clear_from(store, 0);
+    work.fill(0);
+    store.fill(0);
     going(empty_state(length, START, wide_start(rom), 1, fresh_tree()))
 }

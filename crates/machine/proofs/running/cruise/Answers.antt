@@ -1,4 +1,4 @@
-use Rattle.std.proofs.Common.{rules, refl, ap, ◌∙◌, arith}
+use Rattle.std.proofs.Common.{◌≡◌, rules, refl, ap, ◌∙◌, arith}
 use Rattle.machine.proofs.Turns.{fit, hot_fit, hot_goes, hot_left, hot_refused, turned_to, tree_whole, begun, came, ends_spent, turn_ends}
 use Rattle.machine.proofs.Turns.{turn_rooted, turn_goes}
 use Rattle.state.specs.Joints.Apart.{arrays, joined, answer_of}
@@ -80,9 +80,6 @@ overflow_add-n c =
     let fits = c.ranges in
     let lt = c.loop-n-test.true in let most = fits.budget in omega arith
 
-pub loop-n-smaller-in-On : goal.loop-n-smaller-in-On
-loop-n-smaller-in-On c = let lt = c.loop-n-test.true in omega arith
-
 pub loop-n-preserved-in-On : goal.loop-n-preserved-in-On
 loop-n-preserved-in-On c =
     let lt = c.loop-n-test.true in (
@@ -125,11 +122,6 @@ cold_token-r-requires c =
     let i = h.0 in
     (fit _ i.0, h.1, i.1.numbers.programs, i.1.numbers.kinds, c.loop-n.invariant.2)
 
-pub overflow_add-n-in-On-told : goal.overflow_add-n-in-On-told
-overflow_add-n-in-On-told c =
-    let fits = c.ranges in
-    let lt = c.loop-n-test.true in let most = fits.budget in omega arith
-
 pub shape_of-work-then-core-eq0 : goal.shape_of-work-then-core-eq0
 shape_of-work-then-core-eq0 c = c.cold_token-r.auto.work ∙ c.loop-n.invariant.0.1
 
@@ -149,9 +141,6 @@ returns-then-core-eq0 c =
     (came _ (turned_to c.loop-n.core c.fast-t.result) _ _ _ _ _ _ _ _ _ _ _ _ _ _ _ _ i.0 c.cold_token-r.ensures.0 refl refl refl refl refl
     refl refl
     refl refl refl refl refl refl) (ap answer_of c.in-On-told.is) c.if-core-eq0.true)
-
-pub loop-n-smaller : goal.loop-n-smaller
-loop-n-smaller c = let lt = c.loop-n-test.true in omega arith
 
 pub loop-n-preserved : goal.loop-n-preserved
 loop-n-preserved c =
@@ -223,4 +212,6 @@ pub shape_of-store : goal.shape_of-store
 shape_of-store c = c.loop-n.invariant.0.2
 
 pub returns : goal.returns
-returns c = rw c.halted-2.ensures (ends_spent _ _ _ _ c.loop-n.invariant.1 c.loop-n-test.false)
+returns c =
+    let end : c.loop-n.n ≡ c.args.budget = let most = c.loop-n.invariant.0.0 in let least = c.loop-n-test.false in omega arith in
+    rw c.halted-2.ensures (rw end at (ends_spent _ _ _ _ c.loop-n.invariant.1 c.loop-n-test.false))

@@ -1,4 +1,4 @@
-use Rattle.std.proofs.Common.{◌≤◌, ◌-◌, length, ◌≡◌}
+use Rattle.std.proofs.Common.{◌≤◌, length, ◌≡◌}
 use Rattle.acts.specs.Joints.Acts.{ActsKept}
 use Rattle.machine.proofs.Turns.{Going-on}
 use Rattle.state.specs.Joints.Apart.{arrays, joined}
@@ -17,6 +17,3 @@ invariant-loop-n l =
     (scene l.rom l.work l.store (joined (arrays l.cells l.back l.places l.wides l.bases l.names l.kinds l.values l.ways l.parents l.owners
     l.titles l.sizes) l.core)))
     × ActsKept l.slots l.known l.names l.kinds l.store l.titles l.sizes l.core l.tail
-
-abbrev pub decreases-loop-n : goal.decreases-loop-n
-decreases-loop-n l = l.budget - l.n

@@ -1,34 +1,24 @@
+use Rattle.std.proofs.Common.{◌≡◌, ℕ, List, replicate, sym, ◌∙◌, eq-eqb, rules}
 use Rattle.rom.specs.Spread.{fcode_of}
-use Rattle.rom.specs.Laws.Header.{lent_wide}
-use Rattle.std.proofs.Common.{sym, ◌∙◌}
-use Rattle.state.proofs.Opened.{all_zero, bad_work, bad_store, bad_header, good_header}
 use Rattle.rom.specs.Sizes.{work_size, store_size}
+use Rattle.rom.specs.Laws.Header.{lent_wide}
+use Rattle.cells.specs.Laws.Facts.{when_true}
+use Rattle.state.specs.Scene.{turn}
+use Rattle.state.specs.Open.{fresh_state, zero_state, open_refusal, open_of}
+use Rattle.state.specs.declared.answer.Answer.TheVariants.{Going, Refused}
 use Rattle.state.proofs.opening.open.Goals as goal
 
-pub returns-then-work-ne-WORK_SIZE : goal.returns-then-work-ne-WORK_SIZE
-returns-then-work-ne-WORK_SIZE c =
-    let a = c.args in
-    rw (c.refused.ensures, c.zero_state.ensures) (bad_work (fcode_of a.rom.now) a.work.now a.store.now
-    c.if-work-ne-WORK_SIZE.true)
-
-pub returns-then-store-ne-STORE_SIZE : goal.returns-then-store-ne-STORE_SIZE
-returns-then-store-ne-STORE_SIZE c =
-    let a = c.args in
-    rw (c.refused-then-store-ne-STORE_SIZE.ensures, c.zero_state-then-store-ne-STORE_SIZE.ensures)
-    (bad_store (fcode_of a.rom.now) a.work.now a.store.now c.if-work-ne-WORK_SIZE.false c.if-store-ne-STORE_SIZE.true)
-
-pub returns-then-why-ne0 : goal.returns-then-why-ne0
-returns-then-why-ne0 c =
-    let a = c.args in
-    rw (c.refused-then-why-ne0.ensures, c.zero_state-then-why-ne0.ensures)
-    (bad_header (fcode_of a.rom.now) a.work.now a.store.now c.if-work-ne-WORK_SIZE.false c.if-store-ne-STORE_SIZE.false
-    c.check_header-why.result
-    c.check_header-why.ensures
-    c.if-why-ne0.true)
+opened : (rom work store : List ℕ) → open_refusal rom work store ≡ 0
+    → open_of rom work store ≡ turn Going (fresh_state rom) (replicate work_size 0) (replicate store_size 0)
+unfolding open_of
+opened rom work store e = when_true _ (turn (Refused (open_refusal rom work store)) zero_state work store) _ (eq-eqb _ _ e)
 
 pub returns : goal.returns
 returns c =
     let a = c.args in
+    let good : open_refusal (fcode_of a.rom.now) a.work.now a.store.now ≡ 0 =
+    simp (eq-eqb _ _ c.if-work-ne-WORK_SIZE.false, eq-eqb _ _ c.if-store-ne-STORE_SIZE.false)
+    (sym c.check_header-why.ensures ∙ c.if-why-ne0.false) in
     rw (
       c.going.ensures,
       c.empty_state.ensures,
@@ -37,10 +27,9 @@ returns c =
       lent_wide a.rom.now,
       c.program_length-length.ensures,
       c.spread_of.ensures,
-      c.clear_from.ensures,
-      c.clear_from-2.ensures,
-      all_zero a.work.now work_size c.if-work-ne-WORK_SIZE.false,
-      all_zero a.store.now store_size c.if-store-ne-STORE_SIZE.false,
+      c.fill.ensures.after (λ y e. search rules),
+      c.fill-2.ensures.after (λ y e. search rules),
+      opened _ _ _ good,
+      c.if-work-ne-WORK_SIZE.false,
+      c.if-store-ne-STORE_SIZE.false,
     )
-    (good_header (fcode_of a.rom.now) a.work.now a.store.now c.if-work-ne-WORK_SIZE.false c.if-store-ne-STORE_SIZE.false
-    (sym c.check_header-why.ensures ∙ c.if-why-ne0.false))
