@@ -11,8 +11,8 @@ use Rattle.tokens.specs.Body.{number_in}
 use Rattle.tokens.specs.declared.decoding.Operand.{Operand}
 use Rattle.tokens.specs.declared.decoding.Operand.TheVariants.{Nothing, Literal, Text, Branch, Number, Definition}
 use Rattle.tokens.specs.declared.decoding.Token.{Token}
-use Rattle.tokens.specs.declared.body.Body.{Body}
-use Rattle.tokens.specs.declared.body.Body.TheVariants.{Ends, Stops}
+use Rattle.tokens.specs.Body.{Body}
+use Rattle.tokens.specs.Body.{Ends, Stops}
 use Rattle.memory.specs.Window.{rom_base, work_base}
 use Rattle.memory.specs.Writing.{written_of, bytes_of}
 use Rattle.tree.specs.Property.{tree_put, store_put}
@@ -27,7 +27,7 @@ use Rattle.state.specs.Scene.{Scene, Turn, turn, refuse, goes, cell_of}
 use Rattle.state.specs.Refusals.{body_here, rounded, is_cell, string_at, title_of, named_here, value_here, titled_here}
 use Rattle.state.specs.declared.state.State.{State}
 use Rattle.state.specs.declared.state.Calls.{Calls}
-use Rattle.state.specs.declared.answer.Answer.TheVariants.{Finished, Going}
+use Rattle.state.specs.Answer.{Finished, Going}
 
 abbrev pub Effect : Type 0
 Effect = Scene → Token → Turn

@@ -6,6 +6,8 @@ pub mod State
 pub mod Numbers
 -- Refusal 7, a damaged state.
 pub mod Whole
+-- What a step or a run answers.
+pub mod Answer
 -- What a step has before it and what it leaves; the number of an answer.
 pub mod Scene
 -- Why a token is refused, 12 to 27, and in which order.

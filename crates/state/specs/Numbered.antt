@@ -2,8 +2,9 @@
 -- Assumes nothing.
 use Rattle.std.specs.Prelude.{[], ◌∷◌}
 use Rattle.cells.specs.Numbered.{Numbered, gives, refuses}
-use Rattle.state.specs.declared.answer.Answer.{Answer}
-use Rattle.state.specs.declared.answer.Answer.TheVariants.{Going, Finished, Refused, Spent}
+use Rattle.rom.specs.Refusal.{refusal_number}
+use Rattle.state.specs.Answer.{Answer}
+use Rattle.state.specs.Answer.{Going, Finished, Refused, Spent}
 use Rattle.state.specs.declared.apart.Told.{Told}
 use Rattle.state.specs.declared.apart.Told.TheVariants.{On, Over, Not}
 
@@ -17,4 +18,4 @@ answer_says (Spent count) = record { number = 28; values = count ∷ [] }
 abbrev pub told_says : Told → Numbered
 told_says On = gives []
 told_says Over = gives []
-told_says (Not why) = refuses why
+told_says (Not why) = refuses (refusal_number why)

@@ -12,7 +12,7 @@ use Rattle.state.specs.Numbers.{numbers_on}
 use Rattle.state.specs.Scene.{Turn, turn}
 use Rattle.state.specs.Step.{wrong_sizes}
 use Rattle.state.specs.declared.state.State.{State}
-use Rattle.state.specs.declared.answer.Answer.TheVariants.{Going, Refused}
+use Rattle.state.specs.Answer.{Going, Refused}
 
 -- nothing on the stacks, no calls, no numbers; the first node is active
 abbrev pub empty_state : ℕ → ℕ → Bool → ℕ → Tree → State

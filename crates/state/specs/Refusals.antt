@@ -1,11 +1,9 @@
 -- Why a token is refused that may stand where it stands: document 01's "Numbers handed back" from 12 on, one condition a number, and the
 -- one order of them: "12, 13, 14, 19, 16, 15, 17, 20, and 21 to 27 by number"; a body is read after its head's own tests. 10, 18 and 11
 -- come before, as the token is read. Assumes nothing.
-use Rattle.std.specs.Prelude.{ℕ, ◌+◌, ◌-◌, ◌*◌, ◌/◌, ◌%◌, ◌^◌, Bool, true, false, not, ◌&&◌, ◌||◌, List, [], ◌∷◌, ltb, leb, eqb}
+use Rattle.std.specs.Prelude.{ℕ, ◌+◌, ◌-◌, ◌*◌, ◌/◌, ◌%◌, ◌^◌, Bool, true, false, not, ◌&&◌, ◌||◌, List, [], ◌∷◌, ltb, leb, eqb, None, Option, Some}
 use Rattle.cells.specs.Choice.{pick, find}
 use Rattle.rom.specs.Sizes.{data_most, frames_most, numbers_most, work_size}
-use Rattle.rom.specs.declared.branch.Aim.{Aim}
-use Rattle.rom.specs.declared.branch.Aim.TheVariants.{Inside, Outside}
 use Rattle.tokens.specs.Family.{plain, always, choice, divide, pick_up, roll_up, maybe, leave, fetch, store, define, assign, call}
 use Rattle.tokens.specs.Family.{encode_int, encode_string, join, property, titled, new_device, finish_device}
 use Rattle.tokens.specs.Code.{family_in, gives_in}
@@ -13,8 +11,8 @@ use Rattle.tokens.specs.Body.{unknown_of, body_of}
 use Rattle.tokens.specs.declared.decoding.Operand.{Operand}
 use Rattle.tokens.specs.declared.decoding.Operand.TheVariants.{Nothing, Literal, Text, Branch, Number, Definition}
 use Rattle.tokens.specs.declared.decoding.Token.{Token}
-use Rattle.tokens.specs.declared.body.Body.{Body}
-use Rattle.tokens.specs.declared.body.Body.TheVariants.{Ends, Stops}
+use Rattle.tokens.specs.Body.{Body}
+use Rattle.tokens.specs.Body.{Ends, Stops}
 use Rattle.memory.specs.Window.{bad_range, bad_string, resolve_of}
 use Rattle.memory.specs.Cells.{uneven, outside_work}
 use Rattle.tree.specs.Property.{value_of, bad_name, overfull, would_hold}
@@ -63,9 +61,9 @@ abbrev pub low : Scene → Token → Bool
 low s t = ltb s.state.stack.height (takes_here t) || asked pick_up t reaches_below s || asked roll_up t reaches_below s
 
 -- ---- 19: "taken branch to outside 8..length-1"
-abbrev pub outside_program : Aim → Bool
-outside_program (Inside to) = false
-outside_program Outside = true
+abbrev pub outside_program : Option ℕ → Bool
+outside_program (Some to) = false
+outside_program None = true
 
 abbrev pub leads_out : Operand → Bool
 leads_out Nothing = false

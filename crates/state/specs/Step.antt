@@ -2,21 +2,19 @@
 -- to 27 by number. A refused step leaves state, work memory and store as before it. After the first four tests a finished state says
 -- finished again and takes no step." The ROM is its FCode bytes, whose first one tells the spread: 1 asks for both its parts, and 4 for the
 -- bytes that the length needs, as the header test does. Assumes nothing.
-use Rattle.std.specs.Prelude.{ℕ, Bool, true, false, not, ◌||◌, List, length, eqb}
+use Rattle.std.specs.Prelude.{ℕ, Bool, true, false, not, ◌||◌, List, length, eqb, Err, Ok, Result}
 use Rattle.cells.specs.Choice.{pick}
 use Rattle.rom.specs.Sizes.{work_size, store_size}
 use Rattle.rom.specs.Header.{wrong_rom, wrong_length}
 use Rattle.tokens.specs.Place.{read_of}
 use Rattle.tokens.specs.declared.decoding.Token.{Token}
-use Rattle.tokens.specs.declared.read.Read.{Read}
-use Rattle.tokens.specs.declared.read.Read.TheVariants.{Refused as Unread, Good}
 use Rattle.state.specs.State.{is_open}
 use Rattle.state.specs.Whole.{damaged_of}
 use Rattle.state.specs.Scene.{Scene, Turn, turn, refuse}
 use Rattle.state.specs.Refusals.{refusal_of}
 use Rattle.state.specs.Effects.{act_of}
-use Rattle.state.specs.declared.answer.Answer.{Answer}
-use Rattle.state.specs.declared.answer.Answer.TheVariants.{Going, Finished, Refused, Spent}
+use Rattle.state.specs.Answer.{Answer}
+use Rattle.state.specs.Answer.{Going, Finished, Refused, Spent}
 
 -- 6: "a lent buffer has the wrong size"
 abbrev pub wrong_sizes : List ℕ → List ℕ → Bool
@@ -35,9 +33,9 @@ ready_of s =
 unfoldable pub done_of : Scene → Token → Turn
 done_of s t = elim (eqb (refusal_of s t) 0) [ true ↦ act_of s t | false ↦ refuse (refusal_of s t) s ]
 
-abbrev pub read_turn : Scene → Read → Turn
-read_turn s (Unread why) = refuse why s
-read_turn s (Good t) = done_of s t
+abbrev pub read_turn : Scene → Result Token ℕ → Turn
+read_turn s (Err why) = refuse why s
+read_turn s (Ok t) = done_of s t
 
 -- the token at the state's place, of a state that is ready
 unfoldable pub token_turn : Scene → Turn

@@ -5,6 +5,7 @@ ghost use Rattle.state.specs.Joints.Apart.{core_of, handed};
 ghost use Rattle.state.specs.declared.apart.Told.TheVariants.{On, Not};
 
 use crate::state::State;
+use rom::Refusal;
 
 // The numbers of a state: place, width, heights, counts, the active node and the first.
 #[derive(Clone, Copy)]
@@ -24,12 +25,12 @@ pub struct Core {
     pub records: usize,
 }
 
-// How a token ended: carried out, the program's last one, or refused with a number. A budget is the run's, so there is no case for it.
+// How a token ended: carried out, the program's last one, or refused and why. A budget is the run's, so there is no case for it.
 #[derive(Clone, Copy)]
 pub enum Told {
     On,
     Over,
-    Not(u32),
+    Not(Refusal),
 }
 
 #[derive(Clone, Copy)]
@@ -46,8 +47,8 @@ pub struct Taken {
     pub core: Core,
 }
 
-// The numbers as they are, with the number of a refusal.
-pub fn stop(core: Core, why: u32) -> Handed
+// The numbers as they are, with why a token is refused.
+pub fn stop(core: Core, why: Refusal) -> Handed
     ensures { result ≡ handed (Not why) core }
 {
     Handed {

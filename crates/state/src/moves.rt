@@ -3,17 +3,19 @@
 ghost use Rattle.std.specs.Prelude.{◌≡◌};
 ghost use Rattle.state.specs.Joints.Moves.{push_of, call_of, leave_of, stepped};
 ghost use Rattle.state.specs.Joints.Apart.{on_stack, on_calls, Moves, Looks, Takes, base_in};
-ghost use Rattle.state.specs.declared.answer.Answer.TheVariants.{Refused, Going};
+ghost use Rattle.state.specs.Answer.{Refused, Going, stepped_in};
+ghost use Rattle.rom.specs.Refusal.{refusal_number};
 
 use crate::answer::{Answer, Stepped};
 use crate::apart::{Core, Handed, Taken, Told, go, stop};
 use crate::entries::entry_or;
 use crate::state::State;
+use rom::Refusal;
 use rom::sizes::{DATA_MOST, FRAMES_MOST};
 
-// The state as it is, with the number of a refusal.
-pub fn refused(st: State, why: u32) -> Stepped
-    ensures { result ≡ stepped (Refused why) st }
+// The state as it is, with why a step is refused.
+pub fn refused(st: State, why: Refusal) -> Stepped
+    ensures { stepped_in result ≡ stepped (Refused (refusal_number why)) st }
 {
     Stepped {
         answer: Answer::Refused(why),
@@ -22,7 +24,7 @@ pub fn refused(st: State, why: u32) -> Stepped
 }
 
 pub fn going(st: State) -> Stepped
-    ensures { result ≡ stepped Going st }
+    ensures { stepped_in result ≡ stepped Going st }
 {
     Stepped {
         answer: Answer::Going,
@@ -43,7 +45,7 @@ pub fn push(cells: &mut [u32; DATA_MOST], core: Core, cell: u32) -> Handed
             ..core
         });
     }
-    stop(core, 15)
+    stop(core, Refusal::TooHigh)
 }
 
 // The top of the data stack; 14 where it is empty.
@@ -54,7 +56,7 @@ pub fn pop(cells: &[u32; DATA_MOST], core: Core) -> Taken
     let h = core.height;
     if h == 0 {
         return Taken {
-            told: Told::Not(14),
+            told: Told::Not(Refusal::TooLow),
             cell: 0,
             core,
         };
@@ -106,7 +108,7 @@ pub fn call(
             ..core
         });
     }
-    stop(core, 17)
+    stop(core, Refusal::TooManyCalls)
 }
 
 // Out of a body, back to the caller's place and width. 18 where no call is open, 16 where the return stack is not at the frame's base.
@@ -121,10 +123,10 @@ pub fn leave(
 {
     let open = core.frames;
     if open == 0 {
-        return stop(core, 18);
+        return stop(core, Refusal::Misplaced);
     }
     if core.returns != entry_or(bases, open - 1, 0) {
-        return stop(core, 16);
+        return stop(core, Refusal::WrongReturns);
     }
     go(Core {
         place: entry_or(places, open - 1, 0),

@@ -1,5 +1,6 @@
 // Opening a ROM.
 ghost use Rattle.std.specs.Prelude.{◌≡◌, false};
+ghost use Rattle.state.specs.Answer.{stepped_in};
 ghost use Rattle.state.specs.Scene.{handed_back};
 ghost use Rattle.rom.specs.Spread.{fcode_of};
 ghost use Rattle.state.specs.Open.{empty_state, zero_state, open_of};
@@ -10,7 +11,7 @@ use crate::state::{Back, Calls, Numbers, Stack, State};
 use rom::sizes::{
     DATA_MOST, FIRST_PLACE, FRAMES_MOST, NUMBERS_MOST, RETURN_MOST, STORE_SIZE, WORK_SIZE,
 };
-use rom::{check_header, program_length, spread_of, wide_start};
+use rom::{Refusal, check_header, program_length, spread_of, wide_start};
 use tree::{Tree, fresh_tree, no_tree};
 
 const START: u32 = FIRST_PLACE as u32;
@@ -67,14 +68,13 @@ fn zero_state() -> State
 // opening writes nothing and hands back the all-zero state.
 #[tactic(auto, unfolding(crate::specs::Open::open_of))]
 pub fn open(rom: &[u8], work: &mut [u8], store: &mut [u8]) -> Stepped
-    ensures { handed_back result work.new store.new
+    ensures { handed_back (stepped_in result) work.new store.new
         ≡ open_of (fcode_of rom.now) work.old store.old }
 {
     if work.len() != WORK_SIZE || store.len() != STORE_SIZE {
-        return refused(zero_state(), 6);
+        return refused(zero_state(), Refusal::WrongSize);
     }
-    let why = check_header(rom);
-    if why != 0 {
+    if let Err(why) = check_header(rom) {
         return refused(zero_state(), why);
     }
     let length = program_length(rom, spread_of(rom));

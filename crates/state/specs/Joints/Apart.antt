@@ -2,14 +2,15 @@
 -- fields are, so that what is put together from a state's own parts is that state, by computing. Assumes nothing.
 use Rattle.std.specs.Prelude.{ℕ, ◌-◌, ◌≡◌, refl, Bool, List, ltb, get_or}
 use Rattle.cells.specs.Choice.{pick}
+use Rattle.rom.specs.Refusal.{refusal_number}
 use Rattle.tree.specs.Tree.{tree_of}
 use Rattle.state.specs.Joints.Moves.{Popped, popped, stepped, pop_of}
 use Rattle.state.specs.State.{state_of, calls_on}
 use Rattle.state.specs.Numbers.{numbers_on}
 use Rattle.state.specs.declared.state.State.{State}
-use Rattle.state.specs.declared.answer.Answer.{Answer}
-use Rattle.state.specs.declared.answer.Answer.TheVariants.{Going, Finished, Refused}
-use Rattle.state.specs.declared.answer.Stepped.{Stepped}
+use Rattle.state.specs.Answer.{Answer}
+use Rattle.state.specs.Answer.{Going, Finished, Refused}
+use Rattle.state.specs.Answer.{Stepped}
 use Rattle.state.specs.declared.apart.Core.{Core}
 use Rattle.state.specs.declared.apart.Told.{Told}
 use Rattle.state.specs.declared.apart.Told.TheVariants.{On, Over, Not}
@@ -120,7 +121,7 @@ handed t k = record { told = t; core = k }
 abbrev pub answer_of : Told → Answer
 answer_of On = Going
 answer_of Over = Finished
-answer_of (Not why) = Refused why
+answer_of (Not why) = Refused (refusal_number why)
 
 -- and the same of the state that is put together
 abbrev pub back_on : Arrays → Handed → Stepped

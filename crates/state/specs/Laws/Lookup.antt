@@ -1,7 +1,7 @@
 -- Lookups and the node table of a state: of a whole state they answer what the tree's own calls do, of a damaged one 7, wherever the damage
 -- is, once what is lent has its size. Both come from one law: they answer what the tree's calls do of the tree that a whole state has, and
 -- a damaged one has none. Assumes nothing.
-use Rattle.std.specs.Prelude.{ℕ, Bool, not, ◌&&◌, List, [], ◌≡◌, length}
+use Rattle.std.specs.Prelude.{ℕ, Bool, not, ◌&&◌, List, [], ◌≡◌, length, Err, Result}
 use Rattle.std.proofs.Common.{ap, arith, sym, ◌∙◌}
 use Rattle.std.proofs.Math.Bool.{true, false}
 use Rattle.std.proofs.Math.Path.{refl}
@@ -16,9 +16,7 @@ use Rattle.tree.specs.Path.{find_node_of, find_property_of, property_value_of}
 use Rattle.tree.specs.Rows.{table_refusal, rows_refusal, rows_then}
 use Rattle.tree.specs.Laws.Layout.{either}
 use Rattle.tree.specs.declared.tree.Tree.{Tree}
-use Rattle.tree.specs.declared.lookup.NodeSought.{NodeSought}
-use Rattle.tree.specs.declared.lookup.NodeSought.TheVariants.{Refused}
-use Rattle.tree.specs.declared.lookup.ValueSought.TheVariants.{Refused as Unfound}
+use Rattle.tree.specs.Sought.{Unfound}
 use Rattle.state.specs.Whole.{heights_whole, calls_whole, numbers_whole, nodes_whole, whole_of, damaged_of}
 use Rattle.state.specs.Lookup.{find_node_in, find_property_in, property_value_in, table_refusal_in, rows_refusal_in}
 use Rattle.state.specs.Joints.Lookup.{tree_or_none}
@@ -36,11 +34,11 @@ tree_whole st w =
     and_first tree nodes (and_second numbers (tree && nodes) (and_second frames (numbers && (tree && nodes)) rest))
 
 -- the tests of a damaged state, in their order, whatever stands behind them
-abbrev tested : State → List ℕ → NodeSought → NodeSought
-tested st store rest = pick (not (eqb (length store) store_size)) (Refused 6) (pick (damaged_of st) (Refused 7) rest)
+abbrev tested : State → List ℕ → Result ℕ ℕ → Result ℕ ℕ
+tested st store rest = pick (not (eqb (length store) store_size)) (Err 6) (pick (damaged_of st) (Err 7) rest)
 
-tested_damaged : (st : State) (store : List ℕ) (rest : NodeSought) → length store ≡ store_size → whole_of st ≡ false
-    → tested st store rest ≡ Refused 7
+tested_damaged : (st : State) (store : List ℕ) (rest : Result ℕ ℕ) → length store ≡ store_size → whole_of st ≡ false
+    → tested st store rest ≡ Err 7
 tested_damaged st store rest e w = rw (eq-eqb (length store) store_size e, w)
 
 module _ (st : State) (store path : List ℕ) where
@@ -50,12 +48,12 @@ module _ (st : State) (store path : List ℕ) where
   node_whole w = rw (w, tree_whole st w)
 
   -- of a damaged one 7
-  pub node_damaged : length store ≡ store_size → whole_of st ≡ false → find_node_in st store path ≡ Refused 7
+  pub node_damaged : length store ≡ store_size → whole_of st ≡ false → find_node_in st store path ≡ Err 7
   unfolding find_node_in
   node_damaged e w = tested_damaged st store _ e w
 
   -- and 6 before either
-  pub node_sizeless : eqb (length store) store_size ≡ false → find_node_in st store path ≡ Refused 6
+  pub node_sizeless : eqb (length store) store_size ≡ false → find_node_in st store path ≡ Err 6
   unfolding find_node_in
   node_sizeless e = rw e
 
@@ -67,7 +65,7 @@ module _ (st : State) (store path : List ℕ) where
     pub property_damaged : length store ≡ store_size → whole_of st ≡ false → find_property_in st store path name ≡ Unfound 7
     unfolding find_node_in find_property_in
     property_damaged e w =
-        let n : find_node_in st store path ≡ Refused 7 = tested_damaged st store _ e w in
+        let n : find_node_in st store path ≡ Err 7 = tested_damaged st store _ e w in
         rw (n, find_property_in)
 
     pub value_whole : whole_of st ≡ true → property_value_in st store path name ≡ property_value_of st.tree store path name
@@ -77,7 +75,7 @@ module _ (st : State) (store path : List ℕ) where
     pub value_damaged : length store ≡ store_size → whole_of st ≡ false → property_value_in st store path name ≡ []
     unfolding find_node_in property_value_in
     value_damaged e w =
-        let n : find_node_in st store path ≡ Refused 7 = tested_damaged st store _ e w in
+        let n : find_node_in st store path ≡ Err 7 = tested_damaged st store _ e w in
         rw (n, property_value_in)
 
 -- the node table, of two columns and of rows
@@ -101,7 +99,7 @@ module _ (st : State) where
   rows_damaged size e w = rw (eq-eqb size nodes_most e, w)
 
 -- ---- the calls on the tree that a state has to show
-none_node : (store path : List ℕ) → find_node_of no_tree store path ≡ pick (not (eqb (length store) store_size)) (Refused 6) (Refused 7)
+none_node : (store path : List ℕ) → find_node_of no_tree store path ≡ pick (not (eqb (length store) store_size)) (Err 6) (Err 7)
 unfolding find_node_of whole_tree
 none_node store path = refl
 
@@ -113,13 +111,13 @@ tree_none st w = rw w
 
 module _ (st : State) (store path : List ℕ) where
   -- a damaged state refuses every path
-  tests_refused : whole_of st ≡ false → (sized : Bool) → eqb (length store) store_size ≡ sized → (rest : NodeSought)
-      → (find_node_of no_tree store path ≡ Refused (pick sized 7 6)) × (tested st store rest ≡ Refused (pick sized 7 6))
+  tests_refused : whole_of st ≡ false → (sized : Bool) → eqb (length store) store_size ≡ sized → (rest : Result ℕ ℕ)
+      → (find_node_of no_tree store path ≡ Err (pick sized 7 6)) × (tested st store rest ≡ Err (pick sized 7 6))
   tests_refused w true e rest = (rw (none_node store path, e), rw (e, w))
   tests_refused w false e rest = (rw (none_node store path, e), rw e)
 
   refused : whole_of st ≡ false → (sized : Bool) → eqb (length store) store_size ≡ sized
-      → (find_node_of no_tree store path ≡ Refused (pick sized 7 6)) × (find_node_in st store path ≡ Refused (pick sized 7 6))
+      → (find_node_of no_tree store path ≡ Err (pick sized 7 6)) × (find_node_in st store path ≡ Err (pick sized 7 6))
   unfolding find_node_in
   refused w sized e = tests_refused w sized e _
 
@@ -136,7 +134,7 @@ module _ (st : State) (store path : List ℕ) where
     unfolding find_node_in find_property_of find_property_in
     property_none w =
         let r = tests_refused w (eqb (length store) store_size) refl _ in
-        let n : find_node_in st store path ≡ Refused (pick (eqb (length store) store_size) 7 6) = r.1 in
+        let n : find_node_in st store path ≡ Err (pick (eqb (length store) store_size) 7 6) = r.1 in
         rw (r.0, find_property_of, n, find_property_in)
 
     pub property_shown : find_property_of (tree_or_none st) store path name ≡ find_property_in st store path name
@@ -146,7 +144,7 @@ module _ (st : State) (store path : List ℕ) where
         (λ w. ap (λ t. find_property_of t store path name) (tree_shown st w) ∙ sym (property_whole st store path name w))
         (λ w.
         let r = tests_refused w (eqb (length store) store_size) refl _ in
-        let n : find_node_in st store path ≡ Refused (pick (eqb (length store) store_size) 7 6) = r.1 in
+        let n : find_node_in st store path ≡ Err (pick (eqb (length store) store_size) 7 6) = r.1 in
         let p : find_property_of no_tree store path name ≡ find_property_in st store path name =
         rw (r.0, find_property_of, n, find_property_in) in
         ap (λ t. find_property_of t store path name) (tree_none st w) ∙ p)
@@ -155,7 +153,7 @@ module _ (st : State) (store path : List ℕ) where
     unfolding find_node_in property_value_of property_value_in
     value_none w =
         let r = tests_refused w (eqb (length store) store_size) refl _ in
-        let n : find_node_in st store path ≡ Refused (pick (eqb (length store) store_size) 7 6) = r.1 in
+        let n : find_node_in st store path ≡ Err (pick (eqb (length store) store_size) 7 6) = r.1 in
         rw (r.0, property_value_of, n, property_value_in)
 
     pub value_shown : property_value_of (tree_or_none st) store path name ≡ property_value_in st store path name
@@ -164,7 +162,7 @@ module _ (st : State) (store path : List ℕ) where
         either (whole_of st) (λ w. ap (λ t. property_value_of t store path name) (tree_shown st w) ∙ sym (value_whole st store path name w))
         (λ w.
         let r = tests_refused w (eqb (length store) store_size) refl _ in
-        let n : find_node_in st store path ≡ Refused (pick (eqb (length store) store_size) 7 6) = r.1 in
+        let n : find_node_in st store path ≡ Err (pick (eqb (length store) store_size) 7 6) = r.1 in
         let p : property_value_of no_tree store path name ≡ property_value_in st store path name =
         rw (r.0, property_value_of, n, property_value_in) in
         ap (λ t. property_value_of t store path name) (tree_none st w) ∙ p)

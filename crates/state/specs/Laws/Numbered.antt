@@ -1,5 +1,5 @@
 -- What the enums of this crate say is what the definitions compute. Assumes nothing.
-use Rattle.std.specs.Prelude.{ℕ, zero, suc, ◌+◌, Bool, true, false, not, List, [], ◌∷◌, ◌≡◌, refl, eqb, length}
+use Rattle.std.specs.Prelude.{ℕ, zero, suc, ◌+◌, Bool, true, false, not, List, [], ◌∷◌, ◌≡◌, refl, eqb, length, Err, Ok, Result}
 use Rattle.std.proofs.Common.{arith, sym, ap, subst, eqb-true}
 use Rattle.cells.specs.Choice.{pick}
 use Rattle.cells.specs.Laws.Tests.{pick_is, when_is}
@@ -9,8 +9,6 @@ use Rattle.tokens.specs.Code.{family_in}
 use Rattle.tokens.specs.Definition.{colon, value, variable, kind_in}
 use Rattle.tokens.specs.Place.{read_of}
 use Rattle.tokens.specs.declared.decoding.Token.{Token}
-use Rattle.tokens.specs.declared.read.Read.{Read}
-use Rattle.tokens.specs.declared.read.Read.TheVariants.{Refused as Unread, Good}
 use Rattle.state.specs.Scene.{Scene, Turn, answer_number}
 use Rattle.state.specs.State.{is_open}
 use Rattle.state.specs.Whole.{damaged_of, whole_of}
@@ -22,8 +20,8 @@ use Rattle.rom.specs.Header.{wrong_rom, wrong_length}
 use Rattle.state.specs.Step.{wrong_sizes, ready_of, done_of, read_turn, token_turn}
 use Rattle.state.specs.Run.{RunResult, ended, then, run_on, unless, run_from, run_of}
 use Rattle.state.specs.Laws.Keeps.Tests.{◌▸◌, find_at}
-use Rattle.state.specs.declared.answer.Answer.{Answer}
-use Rattle.state.specs.declared.answer.Answer.TheVariants.{Going, Finished, Refused, Spent}
+use Rattle.state.specs.Answer.{Answer}
+use Rattle.state.specs.Answer.{Going, Finished, Refused, Spent}
 use Rattle.state.specs.Numbered.{answer_says}
 use Rattle.rom.specs.Sizes.{store_size}
 use Rattle.tree.specs.Path.{parts_of, malformed, behind_slash}
@@ -63,9 +61,9 @@ ready_says s =
     (λ d. either s.state.finished (λ e. rw (a, b, c, d, e)) (λ e. rw (a, b, c, d, e))))))
 
 -- ---- a token's refusal, as it is read and then where it stands, or 0; and a step's, of a state that is not finished the token's
-abbrev pub read_refusal : Scene → Read → ℕ
-read_refusal s (Unread why) = why
-read_refusal s (Good t) = refusal_of s t
+abbrev pub read_refusal : Scene → Result Token ℕ → ℕ
+read_refusal s (Err why) = why
+read_refusal s (Ok t) = refusal_of s t
 
 abbrev pub token_refusal : Scene → ℕ
 token_refusal s =
@@ -117,9 +115,9 @@ done_unspent : (s : Scene) (t : Token) → Unspent (done_of s t).answer
 unfolding done_of
 done_unspent s t = when_is (λ (r : Turn). Unspent r.answer) (eqb (refusal_of s t) 0) (act_of s t) _ (λ e. act_unspent s t) (λ e. tt)
 
-read_unspent : (s : Scene) (r : Read) → Unspent (read_turn s r).answer
-read_unspent s (Unread why) = tt
-read_unspent s (Good t) = done_unspent s t
+read_unspent : (s : Scene) (r : Result Token ℕ) → Unspent (read_turn s r).answer
+read_unspent s (Err why) = tt
+read_unspent s (Ok t) = done_unspent s t
 
 pub token_unspent : (s : Scene) → Unspent (token_turn s).answer
 unfolding token_turn

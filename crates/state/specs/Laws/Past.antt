@@ -1,7 +1,7 @@
 -- "Bytes past the length are ignored": a step and a run are the same with two ROMs whose bytes are the same below the state's length.
 -- What a token takes of the ROM is its own bytes, those of a body, and what the ROM's window shows, all of it before that length.
 -- Assumes nothing.
-use Rattle.std.specs.Prelude.{ℕ, zero, suc, ◌+◌, ◌-◌, ◌≤◌, min, ◌≡◌, Bool, ◌||◌, length, replicate, eqb}
+use Rattle.std.specs.Prelude.{ℕ, zero, suc, ◌+◌, ◌-◌, ◌≤◌, min, ◌≡◌, Bool, ◌||◌, length, replicate, eqb, Err, Ok, Result}
 use Rattle.std.proofs.Common.{arith, sym, ◌∙◌, subst}
 use Rattle.std.proofs.Math.Path.{refl, ap}
 use Rattle.std.proofs.Math.Bool.{true, false, not}
@@ -22,8 +22,6 @@ use Rattle.tokens.specs.Code.{family_in}
 use Rattle.tokens.specs.Family.{fetch, store as storing, encode_string, property, titled}
 use Rattle.tokens.specs.Definition.{colon, kind_in, of_kind, value, variable}
 use Rattle.tokens.specs.declared.decoding.Token.{Token}
-use Rattle.tokens.specs.declared.read.Read.{Read}
-use Rattle.tokens.specs.declared.read.Read.TheVariants.{Refused as Unread, Good}
 use Rattle.memory.specs.Window.{rom_base, held_by, range_of, bad_string, resolve_of}
 use Rattle.memory.specs.Laws.Memory.{window_is}
 use Rattle.memory.specs.Cells.{outside_work}
@@ -56,8 +54,8 @@ use Rattle.state.specs.Run.{RunResult, ended, then, run_on, unless, run_from}
 use Rattle.state.specs.Laws.Keeps.Tests.{find_at, ◌▸◌}
 use Rattle.state.specs.Stacks.{top_of}
 use Rattle.state.specs.declared.state.State.{State}
-use Rattle.state.specs.declared.answer.Answer.{Answer}
-use Rattle.state.specs.declared.answer.Answer.TheVariants.{Going, Finished, Refused, Spent}
+use Rattle.state.specs.Answer.{Answer}
+use Rattle.state.specs.Answer.{Going, Finished, Refused, Spent}
 
 -- ---- a token keeps the state's length
 module _ (s : Scene) (t : Token) where
@@ -89,9 +87,9 @@ module _ (s : Scene) (t : Token) where
   unfolding done_of
   done_length = when_is KeepsLength (eqb (refusal_of s t) 0) (act_of s t) (refuse (refusal_of s t) s) (λ c. act_length) (λ c. refl)
 
-read_length : (s : Scene) (r : Read) → (read_turn s r).state.length ≡ s.state.length
-read_length s (Unread why) = refl
-read_length s (Good t) = done_length s t
+read_length : (s : Scene) (r : Result Token ℕ) → (read_turn s r).state.length ≡ s.state.length
+read_length s (Err why) = refl
+read_length s (Ok t) = done_length s t
 
 pub token_length : (s : Scene) → (token_turn s).state.length ≡ s.state.length
 unfolding token_turn
@@ -120,7 +118,7 @@ pub record Sees (rom other work : List ℕ) (st : State) (t : Token) : Type 0 wh
 -- the token at a state's place, if there is one
 abbrev pub SeesHere : List ℕ → List ℕ → List ℕ → State → Type 0
 SeesHere rom other work st =
-    (t : Token) → read_of rom st.length st.wide (is_open st.calls) st.place ≡ Good t → Sees rom other work st t
+    (t : Token) → read_of rom st.length st.wide (is_open st.calls) st.place ≡ Ok t → Sees rom other work st t
 
 -- both are read up to the state's length, and the same tokens stand in them
 pub record SameRead (rom other : List ℕ) (size : ℕ) : Type 0 where
@@ -245,9 +243,9 @@ module _ (rom other work store : List ℕ) (st : State) (a : SameRead rom other 
     unfolding done_of
     same_done = λ i. elim (eqb (same_refusal i) 0) [ true ↦ same_act i | false ↦ refuse (same_refusal i) here ]
 
-  same_turn : (r : Read) → ((t : Token) → r ≡ Good t → Sees rom other work st t) → read_turn here r ≡ read_turn there r
-  same_turn (Unread why) sees = refl
-  same_turn (Good t) sees = same_done t (sees t refl)
+  same_turn : (r : Result Token ℕ) → ((t : Token) → r ≡ Ok t → Sees rom other work st t) → read_turn here r ≡ read_turn there r
+  same_turn (Err why) sees = refl
+  same_turn (Ok t) sees = same_done t (sees t refl)
 
   pub same_token : SeesHere rom other work st → token_turn here ≡ token_turn there
   unfolding token_turn

@@ -1,13 +1,11 @@
 -- The laws of steps and runs: a refused step changes nothing, a finished state stays, a step of a ready state is its token, and a run asks
 -- what it asks of a state once. Assumes nothing.
-use Rattle.std.specs.Prelude.{ℕ, zero, suc, ◌+◌, ◌≤◌, ◌≡◌, refl, Bool, true, false, List, [], ◌∷◌, length, leb, eqb}
+use Rattle.std.specs.Prelude.{ℕ, zero, suc, ◌+◌, ◌≤◌, ◌≡◌, refl, Bool, true, false, List, [], ◌∷◌, length, leb, eqb, Err, Ok, Result}
 use Rattle.std.proofs.Common.{arith, ap, subst, ◌∙◌, sym, ne_eqb, le-leb}
 use Rattle.cells.specs.Laws.Tests.{when_is}
 use Rattle.tokens.specs.Code.{family_in}
 use Rattle.tokens.specs.Place.{read_of}
 use Rattle.tokens.specs.declared.decoding.Token.{Token}
-use Rattle.tokens.specs.declared.read.Read.{Read}
-use Rattle.tokens.specs.declared.read.Read.TheVariants.{Refused as Unread, Good}
 use Rattle.tree.specs.Laws.Kept.{whole_is as tree_whole}
 use Rattle.tokens.specs.Definition.{colon, kind_in, value, variable}
 use Rattle.state.specs.State.{is_open}
@@ -28,8 +26,8 @@ use Rattle.state.specs.Run.{RunResult, ended, then, run_on, unless, run_from, ru
 use Rattle.tree.specs.Whole.{whole_tree}
 use Rattle.cells.specs.Choice.{pick}
 use Rattle.state.specs.declared.state.State.{State}
-use Rattle.state.specs.declared.answer.Answer.{Answer}
-use Rattle.state.specs.declared.answer.Answer.TheVariants.{Going, Finished, Refused, Spent}
+use Rattle.state.specs.Answer.{Answer}
+use Rattle.state.specs.Answer.{Going, Finished, Refused, Spent}
 
 -- the same of tokens alone, where nothing is asked beforehand: what a run does from an opened state on (`run_opened`)
 unfoldable pub tokens_from : ℕ → ℕ → Scene → RunResult
@@ -77,9 +75,9 @@ done_fair : (s : Scene) (t : Token) → FairTurn s (done_of s t)
 unfolding done_of
 done_fair s t = when_is (FairTurn s) (eqb (refusal_of s t) 0) (act_of s t) (refuse (refusal_of s t) s) (λ e. act_fair s t) (λ e. refl)
 
-read_fair : (s : Scene) (r : Read) → FairTurn s (read_turn s r)
-read_fair s (Unread why) = refl
-read_fair s (Good t) = done_fair s t
+read_fair : (s : Scene) (r : Result Token ℕ) → FairTurn s (read_turn s r)
+read_fair s (Err why) = refl
+read_fair s (Ok t) = done_fair s t
 
 token_fair : (s : Scene) → FairTurn s (token_turn s)
 unfolding token_turn

@@ -14,7 +14,7 @@ use Rattle.state.specs.Scene.{Scene, scene, turn}
 use Rattle.state.specs.Step.{ready_of}
 use Rattle.state.specs.Open.{fresh_state, open_of}
 use Rattle.state.specs.Laws.Keeps.Whole.{Parts, Rooted, parts_whole, facts_ready}
-use Rattle.state.specs.declared.answer.Answer.TheVariants.{Going}
+use Rattle.state.specs.Answer.{Going}
 
 fresh_tree_lem : WholeTree fresh_tree
 unfolding live_among every_below

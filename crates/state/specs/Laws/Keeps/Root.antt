@@ -20,7 +20,7 @@ use Rattle.state.specs.Effects.{effects, act_of}
 use Rattle.state.specs.Step.{ready_of, done_of, token_turn}
 use Rattle.state.specs.Run.{then}
 use Rattle.state.specs.Open.{empty_state}
-use Rattle.state.specs.declared.answer.Answer.TheVariants.{Going, Refused}
+use Rattle.state.specs.Answer.{Going, Refused}
 
 -- two children of the root
 abbrev two_children : Tree

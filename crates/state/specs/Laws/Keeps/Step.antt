@@ -1,6 +1,6 @@
 -- A token that is carried out keeps everything that refusals 6, 1, 7 and 4 ask: family by family. Assumes nothing.
 use Prim.Native.Nat.{ℕ, suc, ◌+◌, ◌-◌, ◌%◌, ◌^◌, ◌<◌, ◌≤◌}
-use Rattle.std.proofs.Common.{arith, ◌∙◌, length-set, length-append, length-take, eqb→eq, nltb→le, ltb→lt, eq-eqb, ltb-true}
+use Rattle.std.proofs.Common.{arith, ◌∙◌, length-set, length-append, length-take, eqb→eq, nltb→le, ltb→lt, eq-eqb, ltb-true, Err, Ok, Result}
 use Rattle.std.specs.Prelude.{◌≡◌, Bool, true, false, not, ◌&&◌, ◌||◌, List, [], ◌∷◌, ◌++◌, length, get_or, set, ltb, leb, eqb}
 use Rattle.std.proofs.Math.Path.{refl, ap, subst}
 use Rattle.std.proofs.Math.Dec.{T, nleb→lt}
@@ -15,8 +15,6 @@ use Rattle.tokens.specs.Code.{code_of, family_in, takes_in, gives_in, return_tak
 use Rattle.tokens.specs.Body.{number_in, unknown_of}
 use Rattle.tokens.specs.Place.{read_of}
 use Rattle.tokens.specs.declared.decoding.Token.{Token}
-use Rattle.tokens.specs.declared.read.Read.{Read}
-use Rattle.tokens.specs.declared.read.Read.TheVariants.{Refused as Unread, Good}
 use Rattle.memory.specs.declared.window.Window.{Window}
 use Rattle.memory.specs.declared.window.Window.TheVariants.{Rom, Work, Nowhere}
 use Rattle.memory.specs.Window.{rom_base, work_base, held_by, range_of, resolve_of}
@@ -58,7 +56,7 @@ use Rattle.state.specs.Laws.Keeps.Parts.{numbers_defined, entries_assigned, numb
 use Rattle.state.specs.declared.state.State.{State}
 use Rattle.state.specs.declared.state.Calls.{Calls}
 use Rattle.state.specs.declared.state.Numbers.{Numbers}
-use Rattle.state.specs.declared.answer.Answer.TheVariants.{Going}
+use Rattle.state.specs.Answer.{Going}
 
 -- ---- no refusal was given
 record AllowedAct (s : Scene) (t : Token) : Type 0 where
@@ -678,10 +676,10 @@ module _ (s : Scene) (z : Sized s.state) (l : Lent s) (w : Parts s.state) (a : 1
       when_is (λ (r : Turn). r.answer ≡ Going → Kept s r) (eqb (refusal_of s t) 0) (act_of s t) (refuse (refusal_of s t) s)
       (λ c. act_keeps s t z l w a d (allowed s t (eqb→eq (refusal_of s t) 0 c))) (λ c g. absurd (not_going (refusal_of s t) g))
 
-  read_keeps : (r : Read) → read_of s.rom s.state.length s.state.wide (is_open s.state.calls) s.state.place ≡ r
+  read_keeps : (r : Result Token ℕ) → read_of s.rom s.state.length s.state.wide (is_open s.state.calls) s.state.place ≡ r
       → (read_turn s r).answer ≡ Going → Kept s (read_turn s r)
-  read_keeps (Unread why) e g = absurd (not_going why g)
-  read_keeps (Good t) e g =
+  read_keeps (Err why) e g = absurd (not_going why g)
+  read_keeps (Ok t) e g =
       done_keeps t (stands s.rom s.state.length s.state.wide (is_open s.state.calls) s.state.place t e) g
 
 pub token_keeps : (s : Scene) → Sized s.state → ready_of s ≡ Going → (token_turn s).answer ≡ Going → Kept s (token_turn s)

@@ -1,7 +1,7 @@
 -- What is known of a token that may stand where it stands, by the token list and by its bytes. Assumes nothing.
 use Prim.Native.Nat.{ℕ, zero, suc, ◌-◌, ◌<◌, ◌≤◌}
 use native.Mathlib.Omega.{arith}
-use Rattle.std.specs.Prelude.{◌≡◌, refl, Bool, false, not, ◌&&◌, ◌||◌, List, [], ◌∷◌, eqb}
+use Rattle.std.specs.Prelude.{◌≡◌, refl, Bool, false, not, ◌&&◌, ◌||◌, List, [], ◌∷◌, eqb, Err, None, Ok, Option, Result, Some}
 use Rattle.std.proofs.Math.Bool.{true}
 use Rattle.std.proofs.Math.Dec.{T}
 use Rattle.std.proofs.Common.{eqb→eq}
@@ -9,8 +9,6 @@ use Rattle.cells.specs.Choice.{pick, find}
 use Rattle.cells.specs.Laws.Facts.{both_hold, either}
 use Rattle.rom.specs.Branch.{aim_of, place_in}
 use Rattle.rom.specs.Laws.Branch.{AimFits, aim_fits}
-use Rattle.rom.specs.declared.branch.Aim.{Aim}
-use Rattle.rom.specs.declared.branch.Aim.TheVariants.{Inside, Outside}
 use Rattle.tokens.specs.Family.{plain, always, choice, text, divide, pick_up, roll_up, maybe, leave, fetch, store, define, kind, assign}
 use Rattle.tokens.specs.Family.{encode_int, encode_string, join, property, titled}
 use Rattle.tokens.specs.Row.{offset, head, named_head}
@@ -26,9 +24,7 @@ use Rattle.tokens.specs.Laws.Stands.{Stands}
 use Rattle.tokens.specs.declared.decoding.Operand.{Operand}
 use Rattle.tokens.specs.declared.decoding.Operand.TheVariants.{Definition}
 use Rattle.tokens.specs.declared.decoding.Token.{Token}
-use Rattle.tokens.specs.declared.read.Read.{Read}
-use Rattle.tokens.specs.declared.read.Read.TheVariants.{Refused as Unread, Good}
-use Rattle.tokens.specs.declared.body.Body.{Body}
+use Rattle.tokens.specs.Body.{Body}
 use Rattle.tokens.specs.Definition.{new_number}
 use Rattle.state.specs.Refusals.{outside_program, leads_out}
 use Rattle.state.specs.Effects.{aimed, behind_body}
@@ -121,9 +117,9 @@ module _ (c n f : ℕ) (e : c ≡ code_of n) (k : family_in c ≡ f) where
       eqb→eq (out_of_place_in c) outside_bodies (first_way (eqb f leave) _ true v (rw k at h))
 
 -- ---- where a branch that does not lead out leads
-fit : (size : ℕ) (a : Aim) → AimFits size a → T (not (outside_program a)) → Place size (place_in a)
-fit size (Inside to) f h = let l = f.1 in record { from = f.0; to = omega arith }
-fit size Outside f h = absurd h
+fit : (size : ℕ) (a : Option ℕ) → AimFits size a → T (not (outside_program a)) → Place size (place_in a)
+fit size (Some to) f h = let l = f.1 in record { from = f.0; to = omega arith }
+fit size None f h = absurd h
 
 module _ (rom : List ℕ) (size : ℕ) (wide : Bool) (at : ℕ) (form : ℕ) where
   branch_aims : (o : Operand) → o ≡ operand_of rom size wide at form → form ≡ offset → T (not (leads_out o)) → Place size (aimed o)
@@ -174,10 +170,10 @@ module _ (rom : List ℕ) (size : ℕ) (wide : Bool) (kinds : List ℕ) where
   onward_behind false true p q go l m h = (omega arith, omega arith)
   onward_behind false false p q go l m h = (omega arith, h.1)
 
-  after_behind : (p : ℕ) (r : Read) (go : ℕ → Body) → AheadRead size p r → p ≤ size → ((q : ℕ) → q ≤ size → Behind q (go q))
+  after_behind : (p : ℕ) (r : Result Token ℕ) (go : ℕ → Body) → AheadRead size p r → p ≤ size → ((q : ℕ) → q ≤ size → Behind q (go q))
       → Behind p (after_of kinds p r go)
-  after_behind p (Unread why) go a l h = (omega arith, omega arith)
-  after_behind p (Good t) go a l h = onward_behind (eqb t.number 0xC2) (unknown_of kinds t) p t.next go a.0 a.1
+  after_behind p (Err why) go a l h = (omega arith, omega arith)
+  after_behind p (Ok t) go a l h = onward_behind (eqb t.number 0xC2) (unknown_of kinds t) p t.next go a.0 a.1
       (h t.next a.1)
 
   from_behind : (k p : ℕ) → p ≤ size → Behind p (body_from rom size wide kinds k p)
