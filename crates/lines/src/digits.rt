@@ -3,7 +3,7 @@ ghost use Rattle.std.specs.Prelude.{◌≡◌, ◌<◌};
 ghost use Rattle.lines.specs.Digits.{decimal_of, hex_digit, hex_pair, hex_word, hex_of};
 ghost use Rattle.lines.specs.Wrote.{Wrote};
 
-use crate::words::letter;
+use crate::words::{each, letter};
 
 // The digits of the tenth, and behind them the last one.
 pub fn decimal(text: &mut [u8], at: usize, n: u32) -> usize
@@ -34,18 +34,11 @@ pub fn hex_byte(text: &mut [u8], at: usize, byte: u8) -> usize
 pub fn hex_word(text: &mut [u8], at: usize, word: u16) -> usize
     ensures { Wrote text.old text.new at result (hex_word word) }
 {
-    let at = hex_byte(text, at, (word / 256) as u8);
-    hex_byte(text, at, (word % 256) as u8)
+    hex(text, at, &word.to_be_bytes())
 }
 
 pub fn hex(text: &mut [u8], at: usize, value: &[u8]) -> usize
     ensures { Wrote text.old text.new at result (hex_of value.now) }
 {
-    let mut end = at;
-    let mut k = 0;
-    while k < value.len() {
-        end = hex_byte(text, end, value[k]);
-        k += 1;
-    }
-    end
+    each(text, at, value, hex_byte)
 }

@@ -27,19 +27,13 @@ use tree::{Tree, is_whole, own_value};
 fn start_words(text: &mut [u8], at: usize, byte: u8) -> usize
     ensures { Wrote text.old text.new at result (start_words byte) }
 {
-    if byte == 0xFD {
-        return say(text, at, b", 8-bit branch offsets");
+    match byte {
+        0xFD => say(text, at, b", 8-bit branch offsets"),
+        0xF1 => say(text, at, b", 16-bit branch offsets"),
+        0xF2 => say(text, at, b", 16-bit branch offsets, bytes two apart"),
+        0xF3 => say(text, at, b", 16-bit branch offsets, bytes four apart"),
+        _ => say(text, at, b", which starts no FCode program"),
     }
-    if byte == 0xF1 {
-        return say(text, at, b", 16-bit branch offsets");
-    }
-    if byte == 0xF2 {
-        return say(text, at, b", 16-bit branch offsets, bytes two apart");
-    }
-    if byte == 0xF3 {
-        return say(text, at, b", 16-bit branch offsets, bytes four apart");
-    }
-    say(text, at, b", which starts no FCode program")
 }
 
 fn start_line(text: &mut [u8], at: usize, fcode: &[u8]) -> usize
@@ -84,10 +78,7 @@ fn bad_length(fcode: &[u8]) -> bool
     ensures { result ≡ wrong_length fcode.now (length_of fcode.now) }
 {
     let length = program_length(fcode, Spread::One);
-    if length < 9 {
-        return true;
-    }
-    fcode.len() < (length as usize)
+    (length < 9) | (fcode.len() < length as usize)
 }
 
 // What a program's bytes add up to, beside the header's sum, where its length is good.
@@ -149,13 +140,7 @@ pub fn header_lines(text: &mut [u8], at: usize, size: usize, fcode: &[u8]) -> us
 fn is_title(value: &[u8]) -> bool
     ensures { result ≡ is_title value.now }
 {
-    if value.len() < 2 {
-        return false;
-    }
-    if 32 < value.len() {
-        return false;
-    }
-    is_text(value)
+    (2 <= value.len()) & (value.len() <= 32) & is_text(value)
 }
 
 fn title(text: &mut [u8], at: usize, store: &[u8], tree: Tree, node: u32) -> usize
@@ -173,8 +158,7 @@ fn title(text: &mut [u8], at: usize, store: &[u8], tree: Tree, node: u32) -> usi
 fn parent_of(tree: Tree, node: u32) -> u32
     ensures { result ≡ parent_of tree node }
 {
-    let k = node as usize;
-    if k < NODES_MOST { tree.parents[k] } else { 0 }
+    tree.parents.get(node as usize).copied().unwrap_or(0)
 }
 
 // The way to a node's parent, and then the node. A tree is at most so deep.

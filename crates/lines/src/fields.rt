@@ -6,7 +6,7 @@ ghost use Rattle.lines.specs.Fields.{text_field, labelled as fields_labelled};
 ghost use Rattle.lines.specs.Wrote.{Wrote};
 
 use crate::printed::{is_text, quoted, text_of};
-use crate::words::{letter, say};
+use crate::words::{each, letter, say};
 
 // A control byte is a ?, so that no name reaches a terminal as a command.
 fn plain_byte(byte: u8) -> u8
@@ -22,13 +22,12 @@ fn plain_byte(byte: u8) -> u8
 pub fn plain(text: &mut [u8], at: usize, bytes: &[u8]) -> usize
     ensures { Wrote text.old text.new at result (fields_plain bytes.now) }
 {
-    let mut end = at;
-    let mut k = 0;
-    while k < bytes.len() {
-        end = letter(text, end, plain_byte(bytes[k]));
-        k += 1;
-    }
-    end
+    each(
+        text,
+        at,
+        bytes,
+        |text, at, byte| letter(text, at, plain_byte(byte)),
+    )
 }
 
 fn doubled_byte(text: &mut [u8], at: usize, byte: u8) -> usize
@@ -43,13 +42,7 @@ fn doubled_byte(text: &mut [u8], at: usize, byte: u8) -> usize
 fn doubled(text: &mut [u8], at: usize, bytes: &[u8]) -> usize
     ensures { Wrote text.old text.new at result (fields_doubled bytes.now) }
 {
-    let mut end = at;
-    let mut k = 0;
-    while k < bytes.len() {
-        end = doubled_byte(text, end, bytes[k]);
-        k += 1;
-    }
-    end
+    each(text, at, bytes, doubled_byte)
 }
 
 pub fn field(text: &mut [u8], at: usize, bytes: &[u8]) -> usize

@@ -14,12 +14,6 @@ use crate::words::{letter, say};
 use rom::word32;
 use tree::Tree;
 
-fn wide(x: u32) -> usize
-    ensures { result ≡ x }
-{
-    x as usize
-}
-
 fn node_line(text: &mut [u8], at: usize, k: u32, parent: u32) -> usize
     ensures { Wrote text.old text.new at result (node_line k parent) }
 {
@@ -126,11 +120,10 @@ pub fn own_lines(
     ensures { Wrote text.old text.new at result (own_lines people (held_of tree store.now) node) }
 {
     let mut end = at;
-    let mut i = 0;
     let mut name = 0;
-    while i < tree.held {
-        let value = name + wide(tree.name_sizes[i]);
-        let next = value + wide(tree.value_sizes[i]);
+    for i in 0..tree.held {
+        let value = name + tree.name_sizes[i] as usize;
+        let next = value + tree.value_sizes[i] as usize;
         end = own_line(
             text,
             end,
@@ -141,7 +134,6 @@ pub fn own_lines(
             &store[value..next],
         );
         name = next;
-        i += 1;
     }
     end
 }
@@ -153,11 +145,9 @@ pub fn node_lines(text: &mut [u8], at: usize, store: &[u8], tree: Tree) -> usize
         (node_lines tree (held_of tree store.now) tree.nodes 0) }
 {
     let mut end = at;
-    let mut k = 0;
-    while k < tree.nodes {
+    for k in 0..tree.nodes {
         let own = node_line(text, end, k as u32, tree.parents[k]);
         end = own_lines(text, own, false, store, tree, k as u32);
-        k += 1;
     }
     end
 }

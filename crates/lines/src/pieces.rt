@@ -92,7 +92,7 @@ fn cuts_of(fcode: &[u8], start: usize, next: usize, form: u32) -> Cuts
         },
         6 => Cuts {
             first: start + 1,
-            second: start + 1 + (byte(fcode, start) as usize),
+            second: start + 1 + usize::from(byte(fcode, start)),
             third: next - 1,
         },
         _ => Cuts {
@@ -227,19 +227,19 @@ pub fn piece_line(text: &mut [u8], at: usize, fcode: &[u8], wide: bool, place: u
         return PieceTold {
             end: at,
             next: place,
-            wide: wide,
+            wide,
         };
     }
     match piece_in(fcode, Spread::One, wide, place) {
         Piece::End => PieceTold {
             end: at,
             next: place,
-            wide: wide,
+            wide,
         },
         Piece::Raw(next) => PieceTold {
             end: raw_line(text, at, fcode, place, next),
-            next: next,
-            wide: wide,
+            next,
+            wide,
         },
         Piece::Listed {
             token,

@@ -23,7 +23,7 @@ fn raw_more(so: Tally, place: u32, next: u32) -> Tally
     if so.raws == 0 {
         return Tally {
             pieces: so.pieces + 1,
-            raws: so.raws + 1,
+            raws: 1,
             place,
             next,
         };
@@ -31,8 +31,7 @@ fn raw_more(so: Tally, place: u32, next: u32) -> Tally
     Tally {
         pieces: so.pieces + 1,
         raws: so.raws + 1,
-        place: so.place,
-        next: so.next,
+        ..so
     }
 }
 
@@ -42,9 +41,7 @@ fn token_more(so: Tally) -> Tally
 {
     Tally {
         pieces: so.pieces + 1,
-        raws: so.raws,
-        place: so.place,
-        next: so.next,
+        ..so
     }
 }
 
@@ -61,6 +58,7 @@ pub fn tally_of(fcode: &[u8]) -> Tally
         place: 0,
         next: 0,
     };
+    // a while: the next place is where the piece ends, no count
     while place < length {
         match piece_in(fcode, Spread::One, wide, place) {
             Piece::End => {

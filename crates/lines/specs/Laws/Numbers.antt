@@ -2,7 +2,7 @@
 use Rattle.std.specs.Prelude.{ℕ, zero, suc, ◌<◌, ◌≤◌, Bool, true, false, not, ◌&&◌, ◌||◌, [], ◌∷◌, ◌≡◌, refl, T, ltb, leb, eqb, length}
 use Prim.Native.String.{String}
 use Rattle.std.proofs.Math.Decide.{dec_lt}
-use Rattle.std.proofs.Common.{arith, sym, eqb→eq, ltb→lt, leb→le, le-ltb}
+use Rattle.std.proofs.Common.{arith, sym, ap, eqb→eq, ltb→lt, leb→le, le-ltb}
 use Rattle.cells.specs.Choice.{find}
 use Rattle.cells.specs.Laws.Facts.{both_hold, is_true, is_false}
 use Rattle.cells.specs.Laws.Tests.{pick_is}
@@ -80,6 +80,11 @@ module _ (n : ℕ) where
       let m = above 21 n moving here tt (omega arith) in
       let e = above 14 n naming here tt (omega arith) in
       rw (by_parts n, above 28 n running here tt l, m, e, above 10 n opening here tt (omega arith))
+
+-- no number from 32 on has words
+pub words_none : (n : ℕ) → 32 ≤ n → words_of n ≡ []
+unfolding words_of opening naming moving running other letters_of
+words_none n l = ap letters_of (above 32 n numbers "" tt l)
 
 -- the longest words are those of 16
 pub length_words : (n : ℕ) → length (words_of n) ≤ 107

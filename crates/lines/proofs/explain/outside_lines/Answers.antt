@@ -3,12 +3,6 @@ use Rattle.rom.specs.Words.{letters_of}
 use Rattle.lines.specs.Laws.Wrote.{wrote_then}
 use Rattle.lines.proofs.explain.outside_lines.Goals as goal
 
-pub raw_line-requires : goal.raw_line-requires
-unfolding outside_lines letters_of
-raw_line-requires c =
-    let pre = c.requires in
-    pre
-
 pub returns : goal.returns
 unfolding outside_lines letters_of
 returns c =

@@ -1,36 +1,26 @@
-use Rattle.std.proofs.Common.{eq-eqb, ne_eqb}
+use Rattle.std.proofs.Common.{ne_eqb, rules}
 use Rattle.rom.specs.Words.{letters_of}
 use Rattle.lines.proofs.explain.start_words.Goals as goal
 
-pub returns-then-byte-eq253 : goal.returns-then-byte-eq253
+pub returns-in-253 : goal.returns-in-253
 unfolding letters_of
-returns-then-byte-eq253 c = rw (eq-eqb _ _ c.if-byte-eq253.true) c.say.ensures
+returns-in-253 c = rw c.in-253.is c.say.ensures
 
-pub returns-then-byte-eq241 : goal.returns-then-byte-eq241
+pub returns-in-241 : goal.returns-in-241
 unfolding letters_of
-returns-then-byte-eq241 c = rw (ne_eqb _ _ c.if-byte-eq253.false, eq-eqb _ _ c.if-byte-eq241.true) c.say-then-byte-eq241.ensures
+returns-in-241 c = rw c.in-241.is c.say-in-241.ensures
 
-pub returns-then-byte-eq242 : goal.returns-then-byte-eq242
+pub returns-in-242 : goal.returns-in-242
 unfolding letters_of
-returns-then-byte-eq242 c = rw (ne_eqb _ _ c.if-byte-eq253.false, ne_eqb _ _ c.if-byte-eq241.false, eq-eqb _ _ c.if-byte-eq242.true)
-    c.say-then-byte-eq242.ensures
+returns-in-242 c = rw c.in-242.is c.say-in-242.ensures
 
-pub returns-then-byte-eq243 : goal.returns-then-byte-eq243
+pub returns-in-243 : goal.returns-in-243
 unfolding letters_of
-returns-then-byte-eq243 c = rw (
-  ne_eqb _ _ c.if-byte-eq253.false,
-  ne_eqb _ _ c.if-byte-eq241.false,
-  ne_eqb _ _ c.if-byte-eq242.false,
-  eq-eqb
-      _ _ c.if-byte-eq243.true,
-) c.say-then-byte-eq243.ensures
+returns-in-243 c = rw c.in-243.is c.say-in-243.ensures
 
-pub returns : goal.returns
+pub returns-in_default : goal.returns-in_default
 unfolding letters_of
-returns c = rw (
-  ne_eqb _ _ c.if-byte-eq253.false,
-  ne_eqb _ _ c.if-byte-eq241.false,
-  ne_eqb _ _ c.if-byte-eq242.false,
-  ne_eqb _ _
-      c.if-byte-eq243.false,
-) c.say-2.ensures
+returns-in_default c =
+    let b = c.args.byte in
+    rw (ne_eqb b 253 (search rules), ne_eqb b 241 (search rules), ne_eqb b 242 (search rules), ne_eqb b 243 (search rules))
+    c.say-in_default.ensures

@@ -4,12 +4,3 @@ use Rattle.lines.proofs.explain.sums.Goals as goal
 
 pub returns-then-bad_length : goal.returns-then-bad_length
 returns-then-bad_length c = rw (sym c.bad_length.ensures ∙ c.if-bad_length.true) wrote_none
-
-pub returns : goal.returns
-returns c = rw (
-  sym c.bad_length.ensures ∙ c.if-bad_length.false,
-  ← c.word16-field.ensures,
-  ← c.program_length-length.ensures,
-  ←
-      c.body_sum.ensures,
-) c.sum_words.ensures

@@ -9,12 +9,6 @@ unfolding tally_lines letters_of
 returns-then-tally-eq0 c = rw (eq-eqb _ _ c.if-tally-eq0.true)
     (wrote_then c.say-at.ensures (wrote_then c.decimal-at.ensures (wrote_then c.say-at-then-tally-eq0.ensures c.letter.ensures)))
 
-pub outside_lines-requires : goal.outside_lines-requires
-unfolding tally_lines letters_of
-outside_lines-requires c =
-    let pre = c.requires in
-    pre
-
 pub returns : goal.returns
 unfolding tally_lines letters_of
 returns c = rw (ne_eqb _ _ c.if-tally-eq0.false) (wrote_then c.say-at.ensures (wrote_then c.decimal-at.ensures c.outside_lines.ensures))

@@ -1,5 +1,5 @@
 use Rattle.std.proofs.Common.{sym, ◌∙◌}
-use Rattle.cells.specs.Laws.Facts.{not_off, not_on}
+use Rattle.cells.specs.Laws.Facts.{not_off}
 use Rattle.rom.specs.Words.{letters_of}
 use Rattle.lines.specs.Fields.{each_as, field}
 use Rattle.lines.proofs.fields.text_field.Goals as goal
@@ -9,9 +9,3 @@ unfolding field each_as letters_of
 returns-then-not-is_text c =
     rw (sym c.is_text.ensures ∙ not_off _ c.if-not-is_text.true-raw)
     c.say.ensures
-
-pub returns : goal.returns
-unfolding field each_as letters_of
-returns c =
-    rw (sym c.is_text.ensures ∙ not_on _ c.if-not-is_text.false-raw, ← c.text_of.ensures)
-    c.field.ensures

@@ -1,4 +1,4 @@
-use Rattle.std.proofs.Common.{arith, eq-eqb, ne_eqb}
+use Rattle.std.proofs.Common.{arith, eq-eqb}
 use Rattle.rom.specs.Words.{letters_of}
 use Rattle.lines.proofs.lines.closing_line.Goals as goal
 
@@ -7,9 +7,3 @@ unfolding letters_of
 returns-then-number-eq0 c =
     let args = c.args in
     rw (eq-eqb args.number 0 (omega arith)) c.say.ensures
-
-pub returns : goal.returns
-unfolding letters_of
-returns c =
-    let args = c.args in
-    rw (ne_eqb args.number 0 (λ e. omega arith)) c.refused_line.ensures

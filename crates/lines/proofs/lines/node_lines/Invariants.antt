@@ -1,4 +1,4 @@
-use Rattle.std.proofs.Common.{◌-◌, ◌≤◌}
+use Rattle.std.proofs.Common.{◌-◌}
 use Rattle.tree.specs.Held.{held_of}
 use Rattle.lines.specs.Lines.{node_lines}
 use Rattle.lines.specs.Laws.Wrote.{Ahead}
@@ -6,9 +6,5 @@ use Rattle.lines.proofs.lines.node_lines.Given as goal
 
 abbrev pub invariant-loop-k : goal.invariant-loop-k
 invariant-loop-k l =
-    (l.k ≤ l.tree.nodes)
-    × Ahead l.initial.text l.at (node_lines l.tree (held_of l.tree l.store) l.tree.nodes 0) l.text l.end
+    Ahead l.initial.text l.at (node_lines l.tree (held_of l.tree l.store) l.tree.nodes 0) l.text l.end
     (node_lines l.tree (held_of l.tree l.store) (l.tree.nodes - l.k) l.k)
-
-abbrev pub decreases-loop-k : goal.decreases-loop-k
-decreases-loop-k l = l.tree.nodes - l.k

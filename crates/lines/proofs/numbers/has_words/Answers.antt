@@ -1,5 +1,6 @@
-use Rattle.lines.specs.Laws.Numbers.{has_words_lem}
+use Rattle.lines.specs.Numbers.{has_words}
 use Rattle.lines.proofs.numbers.has_words.Goals as goal
 
 pub returns : goal.returns
-returns c = has_words_lem c.args.number
+unfolding has_words
+returns c = rw (c.is_empty.ensures, c.words.ensures)

@@ -20,9 +20,6 @@ no_branch (Branch bits aim) h =
 no_branch (Number n) h = refl
 no_branch (Definition n k) h = refl
 
-pub returns-in-Branch : goal.returns-in-Branch
-returns-in-Branch c = rw c.in-Branch.is c.aim_remark.ensures
-
 pub returns-in_default : goal.returns-in_default
 returns-in_default c =
     let args = c.args in

@@ -3,12 +3,6 @@ use Rattle.lines.specs.TokenLines.{all_shown, line_text}
 use Rattle.lines.specs.Laws.Wrote.{wrote_none, wrote_then}
 use Rattle.lines.proofs.pieces.token_line.Goals as goal
 
-pub operand_shown-at-requires : goal.operand_shown-at-requires
-unfolding line_text all_shown letters_of
-operand_shown-at-requires c =
-    let pre = c.requires in
-    pre.2
-
 pub returns : goal.returns
 unfolding line_text all_shown letters_of
 returns c =

@@ -1,23 +1,18 @@
-use Rattle.std.proofs.Common.{refl, sym, ◌∙◌, rules}
-use Rattle.cells.specs.Laws.Facts.{not_off, not_on}
-use Rattle.lines.specs.Laws.Texts.{printed_more, printed_stops, printed_end}
+use Rattle.std.proofs.Common.{◌≡◌, ◌∙◌, List, [], ◌∷◌, ◌&&◌, ℕ, refl, ap, rules}
+use borrow.Author.Tests.{tests}
+use Rattle.std.specs.List.{list_all}
+use Rattle.std.proofs.lemmas.Iterator.{YieldsList-from_slice}
+use Rattle.std.proofs.lemmas.Iterator.Search.{all_from_yields_List}
+use Rattle.lines.specs.Printed.{printed, all_printed}
 use Rattle.lines.proofs.printed.all_printed.Goals as goal
 
-pub loop-k-init : goal.loop-k-init
-loop-k-init c = (search rules, refl)
-
-pub returns-then-not-is_printed : goal.returns-then-not-is_printed
-returns-then-not-is_printed c = sym (printed_stops _ c.loop-k.k (search rules)
-    (sym c.is_printed.ensures ∙ not_off c.is_printed.result c.if-not-is_printed.true-raw)) ∙ c.loop-k.invariant.1
-
-pub loop-k-preserved : goal.loop-k-preserved
-loop-k-preserved c = (
-  search rules,
-  printed_more _ c.loop-k.k (search rules)
-      (sym c.is_printed.ensures ∙ not_on c.is_printed.result c.if-not-is_printed.false-raw) ∙ c.loop-k.invariant.1,
-)
+each_printed : (bytes : List ℕ) → list_all printed bytes ≡ all_printed bytes
+unfolding all_printed
+each_printed [] = refl
+each_printed (b ∷ bs) = ap (λ t. printed b && t) (each_printed bs)
 
 pub returns : goal.returns
 returns c =
-    let args = c.args in
-    sym (printed_end args.bytes.now c.loop-k.k (search rules)) ∙ c.loop-k.invariant.1
+    let bytes = c.args.bytes.now in
+    all_from_yields_List printed _ _ _ c.all.ensures.ran (YieldsList-from_slice bytes cc) (λ x b q k. search (rules, tests))
+    ∙ each_printed bytes

@@ -1,18 +1,18 @@
-use Rattle.std.proofs.Common.{eq-eqb, ne_eqb}
-use Rattle.lines.specs.Printed.{is_text}
+use Rattle.std.proofs.Common.{◌≡◌, ◌-◌, ◌&&◌, List, [], ◌∷◌, ◌++◌, ℕ, eqb, length, arith, ne_eqb, eq-eqb, length-append}
+use Rattle.std.proofs.Math.Seq.{get_or-append_seam, take-append_seam}
+use Rattle.lines.specs.Printed.{all_printed, is_text}
 use Rattle.lines.proofs.printed.is_text.Goals as goal
 
-pub returns-then-value-eq0 : goal.returns-then-value-eq0
+ends_with : (text : List ℕ) (last : ℕ) → is_text (text ++ (last ∷ [])) ≡ (eqb last 0 && all_printed text)
 unfolding is_text
-returns-then-value-eq0 c = rw (eq-eqb _ 0 c.if-value-eq0.true)
+ends_with text last =
+    let n = length-append text (last ∷ []) in
+    let e : length (text ++ (last ∷ [])) - 1 ≡ length text = omega arith in
+    rw (ne_eqb (length (text ++ (last ∷ []))) 0 (λ z. omega arith), e, get_or-append_seam text last [] 0, take-append_seam text (last ∷ []))
 
-pub returns-then-value-last-ne0 : goal.returns-then-value-last-ne0
-unfolding is_text
-returns-then-value-last-ne0 c = rw (ne_eqb _ 0 c.if-value-eq0.false, ← c.last_of-last.ensures, ne_eqb _ 0 c.if-value-last-ne0.true)
+pub returns-in-Some : goal.returns-in-Some
+returns-in-Some c = rw (c.in-Some.ensures.cases.0, ends_with c.in-Some.text.now c.in-Some.last.now, c.all_printed.ensures)
 
-pub returns : goal.returns
+pub returns-in-None : goal.returns-in-None
 unfolding is_text
-returns c =
-    let e = c.last_of-last.ensures in
-    rw (ne_eqb _ 0 c.if-value-eq0.false, ← c.text_of.ensures, ← e, eq-eqb _ 0 c.if-value-last-ne0.false)
-    c.all_printed.ensures
+returns-in-None c = rw (eq-eqb _ 0 c.in-None.ensures.cases)

@@ -1,5 +1,5 @@
 use Rattle.rom.specs.Words.{letters_of}
-use Rattle.std.proofs.Common.{◌<◌, true, ◌≡◌, refl, sym, ◌∙◌, arith, length, rules, eq-eqb, ne_eqb}
+use Rattle.std.proofs.Common.{◌<◌, true, ◌≡◌, refl, sym, ◌∙◌, arith, length, eq-eqb, ne_eqb}
 use borrow.Author.Tests.{not-false}
 use Rattle.tree.specs.Whole.{whole_tree}
 use Rattle.tree.specs.Laws.Trees.{whole_facts}
@@ -50,14 +50,6 @@ bounds-text-at c =
     let e = wrote_whole (omega arith) listing in
     let l = length_wrote listing in
     omega arith
-
-pub shape_of-text : goal.shape_of-text
-unfolding run_told run_text letters_of
-shape_of-text c =
-    let listing : let a = c.args in Wrote a.text.now c.closing_line-at.new.text 0 c.closing_line-at.result
-    (run_text a.tree a.store.now a.steps a.number) = wrote_then c.say-at.ensures
-    (wrote_then c.node_lines-at.ensures (wrote_then c.steps_line-at.ensures c.closing_line-at.ensures)) in
-    let l = length_wrote listing in search rules
 
 pub returns : goal.returns
 unfolding run_told run_text letters_of
