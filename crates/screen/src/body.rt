@@ -2,29 +2,24 @@
 ghost use Rattle.std.specs.Prelude.{◌≡◌, true, false, ◌≢◌, suc, ◌≤◌, ◌<◌, ◌+◌, ◌-◌, length as len};
 ghost use Rattle.rom.specs.Sizes.{rom_most};
 ghost use Rattle.tokens.specs.Joints.Quick.{Codes};
-ghost use Rattle.screen.specs.Laws.Found.Model.{marked, starts_of, sum_told, passes_of};
+ghost use Rattle.screen.specs.Laws.Found.Model.{starts_of, sum_told, passes_of};
 ghost use Rattle.screen.specs.Laws.Found.Model.{shifted_cell, shift_of, places as model_places, body_text};
 ghost use Rattle.screen.specs.Laws.Code.Visit.{tally_in};
-ghost use Rattle.screen.specs.Laws.Code.Body.{Bounded, Low, StandsBy, SurveyIs};
+ghost use Rattle.screen.specs.Laws.Code.Body.{Bounded, Low, MarksIs, StandsBy, SurveyIs};
 ghost use Rattle.screen.specs.Laws.Code.Walk.{WalkTables};
 
-use crate::cell::{ENTRY_CELL, UNMET, less, moved};
+use crate::cell::{ENTRY_CELL, UNMET, moved};
 use crate::effect::Sum;
 use crate::limits::{BODY_MOST, ENTERED};
 use crate::rounds::Stand;
-use crate::tally::{Tally, no_tally};
+use crate::tally::Tally;
 use crate::walking::{Text, walk_from};
 use tokens::programs::PROGRAMS_MOST;
 use tokens::{Glance, family, family_of, glance_from, kind_of, out_of_place, quick_at};
 
-// How far the token starts of a body were marked: whether up to its C2, and the place.
-#[derive(Clone, Copy)]
-pub struct Span(pub bool, pub u32);
-
-// A body that was walked: whether it passes, the place of its C2, and what it comes to.
+// A body that was walked and passes: the place of its C2, and what it comes to.
 #[derive(Clone, Copy)]
 pub struct Survey {
-    pub good: bool,
     pub end: u32,
     pub tally: Tally,
 }
@@ -48,7 +43,7 @@ fn stands(kinds: &[u8; PROGRAMS_MOST], glance: Glance) -> bool
     }
 }
 
-// Marks the token starts of a body, up to its C2.
+// Marks the token starts of a body, up to its C2, whose place that is.
 fn mark_starts(
     codes: &[u32; 256],
     rom: &[u8],
@@ -57,12 +52,12 @@ fn mark_starts(
     kinds: &[u8; PROGRAMS_MOST],
     seen: &mut [u32],
     entry: u32,
-) -> Span
+) -> Option<u32>
     requires { Codes codes.now × (length ≤ len seen.old) × (length ≤ rom_most) }
-    ensures { (marked result.0 result.1 seen.new ≡ starts_of rom.now length wide kinds.now rom_most entry seen.old)
-        × (result.0 ≡ true → result.1 < length) }
+    ensures { MarksIs length (starts_of rom.now length wide kinds.now rom_most entry seen.old) result seen.new }
 {
     let mut at = entry;
+    // a while: the next place is where the token ends
     while at < length {
         let k = at as usize;
         let quick = quick_at(codes, rom, length, at);
@@ -72,16 +67,16 @@ fn mark_starts(
         } else {
             let glance = glance_from(rom, length, wide, at, quick.first, quick.code);
             if !stands(kinds, glance) {
-                return Span(false, at);
+                return None;
             }
             seen[k] = UNMET;
             if quick.first == 0xC2 {
-                return Span(true, at);
+                return Some(at);
             }
             at = glance.next;
         }
     }
-    Span(false, at)
+    None
 }
 
 // A body ends, all its ends agree, and it stays within the limit where it is entered at its need.
@@ -89,13 +84,7 @@ fn passes(tally: Tally) -> bool
     requires { Low (tally_in tally) }
     ensures { result ≡ passes_of (tally_in tally) }
 {
-    if tally.fine == 0 {
-        return false;
-    }
-    if tally.out == 0 {
-        return false;
-    }
-    tally.peak + tally.need <= BODY_MOST
+    tally.fine != 0 && tally.out != 0 && tally.peak + tally.need <= BODY_MOST
 }
 
 // The sum of a body, as it is where it is entered at its need.
@@ -105,8 +94,8 @@ pub fn sum_of(tally: Tally) -> Sum
 {
     Sum {
         need: tally.need,
-        out: less(less(tally.out, 1) + tally.need, ENTERED),
-        peak: less(tally.peak + tally.need, ENTERED),
+        out: (tally.out.saturating_sub(1) + tally.need).saturating_sub(ENTERED),
+        peak: (tally.peak + tally.need).saturating_sub(ENTERED),
         return_peak: tally.return_peak,
         frames: tally.frames,
     }
@@ -116,10 +105,7 @@ fn moved_cell(need: u32, cell: u32) -> u32
     requires { (need ≤ 1024) × (cell ≤ 0x4000_0000) }
     ensures { result ≡ shifted_cell need cell }
 {
-    if cell == 0 {
-        return 0;
-    }
-    if cell == UNMET {
+    if cell == 0 || cell == UNMET {
         return 0;
     }
     moved(cell, need, ENTERED)
@@ -130,11 +116,9 @@ pub fn shift(seen: &mut [u32], need: u32, entry: u32, count: u32)
     requires { (need ≤ 1024) × (entry + count ≤ len seen.old) × Bounded 0x4000_0000 seen.old }
     ensures { seen.new ≡ shift_of need count entry seen.old }
 {
-    let mut place = entry as usize;
-    let end = place + (count as usize);
-    while place < end {
+    let start = entry as usize;
+    for place in start..start + (count as usize) {
         seen[place] = moved_cell(need, seen[place]);
-        place += 1;
     }
 }
 
@@ -143,28 +127,18 @@ pub fn places(entry: u32, end: u32) -> u32
     requires { end < rom_most }
     ensures { result ≡ model_places entry end }
 {
-    less(end + 1, entry)
+    (end + 1).saturating_sub(entry)
 }
 
 fn body(length: u32, wide: bool, entry: u32) -> Text
     ensures { result ≡ body_text length wide entry }
 {
     Text {
-        length: length,
-        wide: wide,
+        length,
+        wide,
         within: true,
         low: entry,
         children: 0,
-    }
-}
-
-fn failed(end: u32) -> Survey
-    ensures { result.good ≡ false }
-{
-    Survey {
-        good: false,
-        end: end,
-        tally: no_tally(),
     }
 }
 
@@ -179,27 +153,19 @@ pub fn survey_body(
     work: &mut [u16],
     stand: Stand,
     entry: u32,
-) -> Survey
+) -> Option<Survey>
     requires { Codes codes.now × WalkTables length seen.old work.old × (entry ≢ 0) × (entry ≤ length) }
     ensures { SurveyIs rom.now length kinds.now sums.now seen.old stand entry result
         seen.new }
 {
-    let span = mark_starts(codes, rom, length, stand.wide, kinds, &mut *seen, entry);
-    let end = span.1;
-    if !span.0 {
-        return failed(end);
-    }
+    let end = mark_starts(codes, rom, length, stand.wide, kinds, &mut *seen, entry)?;
     let text = body(length, stand.wide, entry);
     let walk = walk_from(
         codes, rom, text, kinds, sums, &mut *seen, &mut *work, entry, ENTRY_CELL,
-    );
-    if !walk.good {
-        return failed(end);
-    }
+    )?;
     let tally = walk.tally;
-    Survey {
-        good: passes(tally),
-        end: end,
-        tally: tally,
+    if !passes(tally) {
+        return None;
     }
+    Some(Survey { end, tally })
 }

@@ -1,6 +1,6 @@
 // A place's cell: 0 where no token was met, else one more than the data height, and 256 times the return height. Its low byte is the mark.
 // No other file packs or unpacks one.
-ghost use Rattle.std.specs.Prelude.{◌≡◌, ◌+◌, ◌-◌, ◌<◌, max};
+ghost use Rattle.std.specs.Prelude.{◌≡◌, ◌+◌, ◌<◌};
 ghost use Rattle.screen.specs.Laws.Found.Cell.{heights, cell_with, height_in, back_in, mark_in, moved_cell};
 
 use crate::limits::ENTERED;
@@ -17,8 +17,7 @@ pub const ENTRY_CELL: u32 = ENTERED + 1;
 pub fn height_in(cell: u32) -> u32
     ensures { (result ≡ height_in cell) × (result < 255) }
 {
-    let low = cell % 256;
-    if low == 0 { 0 } else { low - 1 }
+    (cell % 256).saturating_sub(1)
 }
 
 // Its return height.
@@ -48,19 +47,5 @@ pub fn moved(cell: u32, up: u32, down: u32) -> u32
     requires { cell + up < 0x1_0000_0000 }
     ensures { result ≡ moved_cell up down cell }
 {
-    less(cell + up, down)
-}
-
-// The larger of two.
-pub fn larger(a: u32, b: u32) -> u32
-    ensures { result ≡ max a b }
-{
-    if a < b { b } else { a }
-}
-
-// The difference, 0 where there is none.
-pub fn less(a: u32, b: u32) -> u32
-    ensures { result ≡ a - b }
-{
-    if b <= a { a - b } else { 0 }
+    (cell + up).saturating_sub(down)
 }

@@ -58,11 +58,11 @@ pub fn pack(sum: Sum) -> u64
     requires { sum.need < 65536 }
     ensures { result ≡ packed_sum sum }
 {
-    let need = sum.need as u64;
-    let out = sum.out as u64;
-    let peak = sum.peak as u64;
-    let back = sum.return_peak as u64;
-    let frames = sum.frames as u64;
+    let need = u64::from(sum.need);
+    let out = u64::from(sum.out);
+    let peak = u64::from(sum.peak);
+    let back = u64::from(sum.return_peak);
+    let frames = u64::from(sum.frames);
     need * 0x1_0000_0000 + out * 0x100_0000 + peak * 0x1_0000 + back * 0x100 + frames
 }
 
@@ -88,12 +88,8 @@ pub fn takes_seen(code: u32, kind: u32) -> u32
 pub fn fixes(code: u32) -> bool
     ensures { result ≡ fixes_by code }
 {
-    let work = family_of(code);
-    match work {
-        family::DEFINE => true,
-        family::WIDEN => true,
-        family::NEW_DEVICE => true,
-        family::FINISH_DEVICE => true,
-        _ => false,
-    }
+    matches!(
+        family_of(code),
+        family::DEFINE | family::WIDEN | family::NEW_DEVICE | family::FINISH_DEVICE
+    )
 }

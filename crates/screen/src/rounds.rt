@@ -1,5 +1,5 @@
 // From one token that must be met exactly once to the next.
-ghost use Rattle.std.specs.Prelude.{◌≡◌, false, ◌&&◌, ◌||◌, ◌≢◌, eqb, ltb, suc, ◌≤◌, ◌<◌, ◌+◌, set};
+ghost use Rattle.std.specs.Prelude.{◌≡◌, false, ◌&&◌, ◌||◌, ◌≢◌, eqb, ltb, suc, ◌≤◌, ◌<◌, ◌+◌, ◌-◌, set};
 ghost use Rattle.tokens.specs.Body.{kind_of};
 ghost use Rattle.tokens.specs.Joints.Quick.{Codes};
 ghost use Rattle.rom.specs.Sizes.{rom_most, numbers_most};
@@ -14,11 +14,11 @@ ghost use Rattle.screen.specs.Laws.Code.Body.{Bounded};
 ghost use Rattle.screen.specs.Laws.Code.Walk.{WalkTables};
 ghost use Rattle.screen.specs.Laws.Code.Round.{EndBy, PassIs, StandFits, DefinesWithin, NodeIs, TurnIs, RoundIs, AfterIs, PassedIs};
 
-use crate::body::{places, shift, sum_of, survey_body};
-use crate::cell::{back_in, cell_of, height_in, less};
+use crate::body::{Survey, places, shift, sum_of, survey_body};
+use crate::cell::{back_in, cell_of, height_in};
 use crate::effect::{Sum, fixes, is_a, pack};
 use crate::limits::{NODES_MOST, NUMBERS_MOST, ROM_MOST};
-use crate::tables::{cell_at, set_kind, set_sum};
+use crate::tables::{item_at, set_kind, set_sum};
 use crate::walking::{Text, walk_from};
 use tokens::programs::PROGRAMS_MOST;
 use tokens::{
@@ -37,21 +37,7 @@ pub struct Stand {
     pub count: u32,
 }
 
-// A round: whether it is good, and the highest place that it came to.
-#[derive(Clone, Copy)]
-pub struct Round {
-    pub good: bool,
-    pub far: u32,
-}
-
-// What a token that ends a round leaves: whether it may stand there, and where the next round starts.
-#[derive(Clone, Copy)]
-pub struct Turned {
-    pub good: bool,
-    pub stand: Stand,
-}
-
-// What comes behind a round.
+// What comes behind a round: three outcomes by their names, plainer than an Option within an Option.
 #[derive(Clone, Copy)]
 pub enum After {
     Fails,
@@ -63,7 +49,7 @@ fn outside(length: u32, stand: Stand) -> Text
     ensures { result ≡ outside_text length stand }
 {
     Text {
-        length: length,
+        length,
         wide: stand.wide,
         within: false,
         low: stand.start,
@@ -71,28 +57,21 @@ fn outside(length: u32, stand: Stand) -> Text
     }
 }
 
-// Where the token of a place ends, by a glance at it, or 0 where it may not stand: one that ends a round is the highest.
-fn end_seen(far: u32, place: u32, glance: Glance) -> u32
+// Where the token of a place ends, by a glance at it, if it may stand there: one that ends a round is the highest.
+fn end_seen(far: u32, place: u32, glance: Glance) -> Option<u32>
     requires { place < 0x4000_0000 }
     ensures { EndBy far place glance result }
 {
-    if glance.code == 0 {
-        return place + 1;
+    if glance.code == 0 || out_of_place(glance.code, false) {
+        return Some(place + 1);
     }
-    if out_of_place(glance.code, false) {
-        return place + 1;
+    if place != far && fixes(glance.code) {
+        return None;
     }
-    if place == far {
-        return glance.next;
-    }
-    if fixes(glance.code) {
-        return 0;
-    }
-    glance.next
+    Some(glance.next)
 }
 
-// A place of a round: no token may start before the last one ends, and one that ends a round is the highest. Where the next may start, or
-// 0.
+// A place of a round: no token may start before the last one ends, and one that ends a round is the highest. Where the next may start.
 fn passed(
     codes: &[u32; 256],
     rom: &[u8],
@@ -101,56 +80,44 @@ fn passed(
     cell: u32,
     place: u32,
     free: u32,
-) -> u32
-    requires { Codes codes.now × (place < 0x4000_0000) × (free ≢ 0) }
+) -> Option<u32>
+    requires { Codes codes.now × (place < 0x4000_0000) }
     ensures { PassIs rom.now text far cell place free result }
 {
     if cell == 0 {
-        return free;
+        return Some(free);
     }
     if place < free {
-        return 0;
+        return None;
     }
     if text.length <= place {
-        return place + 1;
+        return Some(place + 1);
     }
     let quick = quick_at(codes, rom, text.length, place);
     if quick.next != 0 {
-        return quick.next;
+        return Some(quick.next);
     }
     let glance = glance_from(rom, text.length, text.wide, place, quick.first, quick.code);
     end_seen(far, place, glance)
 }
 
 // No two tokens of a round overlap, and none but the highest ends it.
-fn apart(
-    codes: &[u32; 256],
-    rom: &[u8],
-    text: Text,
-    seen: &[u32],
-    far: u32,
-    count: u32,
-    start: u32,
-) -> bool
-    requires { Codes codes.now × (start + count < 0x4000_0000) × (start ≢ 0) }
-    ensures { result ≡ apart_of rom.now text seen.now far count start 0 }
+fn apart(codes: &[u32; 256], rom: &[u8], text: Text, seen: &[u32], far: u32, start: u32) -> bool
+    requires { Codes codes.now × (far < 0x4000_0000) }
+    ensures { result ≡ apart_of rom.now text seen.now far (far + 1 - start) start 0 }
 {
-    let mut place = start;
     let mut free = start;
-    let mut left = count;
-    while 0 < left {
-        let end = passed(codes, rom, text, far, cell_at(seen, place), place, free);
-        if end == 0 {
+    for place in start..far + 1 {
+        let cell = item_at(seen, place, 0);
+        let Some(end) = passed(codes, rom, text, far, cell, place, free) else {
             return false;
-        }
+        };
         free = end;
-        place += 1;
-        left -= 1;
     }
     true
 }
 
-// The walk of a round, and its overlaps.
+// The walk of a round, and its overlaps: the highest place that it came to, where it is good.
 fn walk_round(
     codes: &[u32; 256],
     rom: &[u8],
@@ -160,14 +127,14 @@ fn walk_round(
     seen: &mut [u32],
     work: &mut [u16],
     stand: Stand,
-) -> Round
+) -> Option<u32>
     requires { Codes codes.now × WalkTables length seen.old work.old × StandFits stand × (stand.cell ≤ 0x1000_0000)
         × Bounded 0x1000_0000 seen.old }
     ensures { RoundIs rom.now length (board seen.old kinds.now sums.now stand) result
         seen.new }
 {
     let text = outside(length, stand);
-    let w = walk_from(
+    let walk = walk_from(
         codes,
         rom,
         text,
@@ -177,43 +144,29 @@ fn walk_round(
         &mut *work,
         stand.start,
         stand.cell,
-    );
-    let far = w.far;
-    if !w.good {
-        return Round {
-            good: false,
-            far: far,
-        };
+    )?;
+    if !apart(codes, rom, text, &*seen, walk.far, stand.start) {
+        return None;
     }
-    let count = less(far + 1, stand.start);
-    Round {
-        good: apart(codes, rom, text, &*seen, far, count, stand.start),
-        far: far,
-    }
+    Some(walk.far)
 }
 
 fn widened(token: Token, wide: bool) -> bool
     ensures { result ≡ (is_a widen token || wide) }
 {
-    if is_a(family::WIDEN, token) {
-        true
-    } else {
-        wide
-    }
+    is_a(family::WIDEN, token) || wide
 }
 
 // Behind the token that ended a round.
 fn moved(stand: Stand, token: Token, cell: u32) -> Stand
     ensures { result ≡ model_moved stand token cell }
 {
-    let height = less(height_in(cell), takes_here(token));
+    let height = height_in(cell).saturating_sub(takes_here(token));
     Stand {
         start: token.next,
         cell: cell_of(height, back_in(cell)),
         wide: widened(token, stand.wide),
-        children: stand.children,
-        nodes: stand.nodes,
-        count: stand.count,
+        ..stand
     }
 }
 
@@ -223,66 +176,39 @@ fn counted(stand: Stand, start: u32) -> Stand
     ensures { result ≡ with_count stand start (suc stand.count) }
 {
     Stand {
-        start: start,
-        cell: stand.cell,
-        wide: stand.wide,
-        children: stand.children,
-        nodes: stand.nodes,
+        start,
         count: stand.count + 1,
+        ..stand
     }
 }
 
-fn refused(stand: Stand) -> Turned
-    ensures { result.good ≡ false }
-{
-    Turned {
-        good: false,
-        stand: stand,
-    }
-}
-
-// new-device
-fn new_node(stand: Stand) -> Turned
+// new-device, and the stand that it leaves where it may stand, as of each token that ends a round.
+fn new_node(stand: Stand) -> Option<Stand>
     requires { StandFits stand }
     ensures { NodeIs (λ b. new_node b stand) stand result }
 {
     if NODES_MOST <= stand.nodes {
-        return refused(stand);
+        return None;
     }
-    let s = Stand {
-        start: stand.start,
-        cell: stand.cell,
-        wide: stand.wide,
+    Some(Stand {
         children: stand.children + 1,
         nodes: stand.nodes + 1,
-        count: stand.count,
-    };
-    Turned {
-        good: true,
-        stand: s,
-    }
+        ..stand
+    })
 }
 
 // finish-device
-fn close_node(stand: Stand) -> Turned
+fn close_node(stand: Stand) -> Option<Stand>
     requires { StandFits stand }
     ensures { NodeIs (λ b. closed_node b stand) stand result }
 {
     if stand.children == 0 {
-        return refused(stand);
+        return None;
     }
-    let s = Stand {
-        start: stand.start,
-        cell: stand.cell,
-        wide: stand.wide,
+    Some(Stand {
         children: stand.children - 1,
-        nodes: stand.nodes,
-        count: stand.count,
-    };
-    Turned {
-        good: true,
-        stand: s,
-    }
+        ..stand
+    })
 }
 
 // A number goes into the tables, with its kind and its sum.
@@ -307,37 +233,25 @@ fn colon(
     stand: Stand,
     number: u32,
     entry: u32,
-) -> Turned
+) -> Option<Stand>
     requires { Codes codes.now × WalkTables length seen.old work.old × (entry ≢ 0) × (entry ≤ length) × (number ≤ last_program)
         × (stand.count < numbers_most) × StandFits stand × Bounded 0x1000_0000 seen.old }
     ensures { (st : Stand) → TurnIs (colon_of rom.now length (board seen.old kinds.old sums.old st) stand number entry)
         seen.old stand.cell result seen.new kinds.new sums.new }
 {
-    let s = survey_body(
+    let Survey { end, tally } = survey_body(
         codes, rom, length, &*kinds, &*sums, &mut *seen, &mut *work, stand, entry,
-    );
-    if !s.good {
-        return refused(stand);
-    }
-    let end = s.end;
-    let tally = s.tally;
+    )?;
     shift(&mut *seen, tally.need, entry, places(entry, end));
     enter(kinds, sums, number, 0xB7, sum_of(tally));
-    Turned {
-        good: true,
-        stand: counted(stand, end + 1),
-    }
+    Some(counted(stand, end + 1))
 }
 
 // A number is new that was not defined, where there is room for one more.
 fn is_new(kinds: &[u8; PROGRAMS_MOST], stand: Stand, number: u32) -> bool
     ensures { result ≡ (eqb (kind_of kinds.now number) 0 && ltb stand.count numbers_most) }
 {
-    if kind_of(kinds, number) == 0 {
-        stand.count < NUMBERS_MOST
-    } else {
-        false
-    }
+    kind_of(kinds, number) == 0 && stand.count < NUMBERS_MOST
 }
 
 // A value, a variable or a constant gives one cell.
@@ -364,7 +278,7 @@ fn define(
     sums: &mut [u64],
     stand: Stand,
     token: Token,
-) -> Turned
+) -> Option<Stand>
     requires { Codes codes.now × WalkTables length seen.old work.old × DefinesWithin length token × StandFits stand
         × Bounded 0x1000_0000 seen.old }
     ensures { (st : Stand) → st.count ≡ stand.count → TurnIs (define_of rom.now length (board seen.old
@@ -374,7 +288,7 @@ fn define(
     let number = new_number(operand);
     let kind = kind_in(operand);
     if !is_new(&*kinds, stand, number) {
-        return refused(stand);
+        return None;
     }
     if kind == 0xB7 {
         return colon(
@@ -382,10 +296,7 @@ fn define(
         );
     }
     enter(kinds, sums, number, kind as u8, value_sum());
-    Turned {
-        good: true,
-        stand: counted(stand, token.next),
-    }
+    Some(counted(stand, token.next))
 }
 
 // The token that ended a round is carried out.
@@ -400,7 +311,7 @@ fn advance(
     stand: Stand,
     cell: u32,
     token: Token,
-) -> Turned
+) -> Option<Stand>
     requires { Codes codes.now × WalkTables length seen.old work.old × DefinesWithin length token × StandFits stand
         × Bounded 0x1000_0000 seen.old }
     ensures { TurnIs (advance_of rom.now length (board seen.old kinds.old sums.old stand) cell token)
@@ -414,10 +325,7 @@ fn advance(
         return new_node(s);
     }
     if is_a(family::WIDEN, token) {
-        return Turned {
-            good: true,
-            stand: s,
-        };
+        return Some(s);
     }
     close_node(s)
 }
@@ -443,12 +351,13 @@ fn next_round(
             if !fixes(token.code) {
                 return After::Ends;
             }
-            let cell = cell_at(&*seen, far);
-            let t = advance(
+            let cell = item_at(&*seen, far, 0);
+            match advance(
                 codes, rom, length, seen, work, kinds, sums, stand, cell, token,
-            );
-            let s = t.stand;
-            if t.good { After::Goes(s) } else { After::Fails }
+            ) {
+                Some(next) => After::Goes(next),
+                None => After::Fails,
+            }
         }
     }
 }
@@ -469,14 +378,12 @@ pub fn all_rounds(
     ensures { PassedIs (rounds_of rom.now length rom_most (board seen.old kinds.old sums.old first)) result seen.new }
 {
     let mut stand = first;
-    let mut left = ROM_MOST;
-    while 0 < left {
-        let w = walk_round(
+    for _ in 0..ROM_MOST {
+        let Some(far) = walk_round(
             codes, rom, length, &*kinds, &*sums, &mut *seen, &mut *work, stand,
-        );
-        if !w.good {
+        ) else {
             return false;
-        }
+        };
         match next_round(
             codes,
             rom,
@@ -486,14 +393,11 @@ pub fn all_rounds(
             &mut *kinds,
             &mut *sums,
             stand,
-            w.far,
+            far,
         ) {
             After::Fails => return false,
             After::Ends => return true,
-            After::Goes(next) => {
-                stand = next;
-                left -= 1;
-            }
+            After::Goes(next) => stand = next,
         }
     }
     false

@@ -29,25 +29,10 @@ fn lay_marks(seen: &[u32], marks: &mut [u8])
     requires { (length seen.now ≤ length marks.old) × (length marks.old ≡ marks_size) }
     ensures { marks.new ≡ laid_of seen.now }
 {
-    let mut i = 0;
-    while i < seen.len() {
-        marks[i] = mark_in(seen[i]);
-        i += 1;
+    for (i, cell) in seen.iter().enumerate() {
+        marks[i] = mark_in(*cell);
     }
-    while i < marks.len() {
-        marks[i] = 0;
-        i += 1;
-    }
-}
-
-fn clear_marks(marks: &mut [u8])
-    ensures { marks.new ≡ replicate (length marks.old) 0 }
-{
-    let mut i = 0;
-    while i < marks.len() {
-        marks[i] = 0;
-        i += 1;
-    }
+    marks[seen.len()..].fill(0);
 }
 
 // Whether heights are found for a program of a length, by tables that have room for it; where they are, its cells hold them.
@@ -113,57 +98,18 @@ fn judge_in(
         lay_marks(&*seen, marks);
         return Verdict::Passes;
     }
-    clear_marks(marks);
+    marks.fill(0);
     Verdict::Refused(31)
 }
 
+// The same with tables of so many cells.
 #[inline(never)]
-fn judge_least(rom: &[u8], length: u32, marks: &mut [u8]) -> Verdict
-    requires { Judged (fcode_of rom.now) length marks.old 256 }
+fn judge_with<const N: usize>(rom: &[u8], length: u32, marks: &mut [u8]) -> Verdict
+    requires { Judged (fcode_of rom.now) length marks.old N }
     ensures { screened result marks.new ≡ judged_of (fcode_of rom.now) marks.old }
 {
-    let mut seen = [0u32; 256];
-    let mut work = [0u16; 256];
-    judge_in(rom, length, marks, &mut seen, &mut work)
-}
-
-#[inline(never)]
-fn judge_small(rom: &[u8], length: u32, marks: &mut [u8]) -> Verdict
-    requires { Judged (fcode_of rom.now) length marks.old 1024 }
-    ensures { screened result marks.new ≡ judged_of (fcode_of rom.now) marks.old }
-{
-    let mut seen = [0u32; 1024];
-    let mut work = [0u16; 1024];
-    judge_in(rom, length, marks, &mut seen, &mut work)
-}
-
-#[inline(never)]
-fn judge_middle(rom: &[u8], length: u32, marks: &mut [u8]) -> Verdict
-    requires { Judged (fcode_of rom.now) length marks.old 4096 }
-    ensures { screened result marks.new ≡ judged_of (fcode_of rom.now) marks.old }
-{
-    let mut seen = [0u32; 4096];
-    let mut work = [0u16; 4096];
-    judge_in(rom, length, marks, &mut seen, &mut work)
-}
-
-#[inline(never)]
-fn judge_large(rom: &[u8], length: u32, marks: &mut [u8]) -> Verdict
-    requires { Judged (fcode_of rom.now) length marks.old 16384 }
-    ensures { screened result marks.new ≡ judged_of (fcode_of rom.now) marks.old }
-{
-    let mut seen = [0u32; 16384];
-    let mut work = [0u16; 16384];
-    judge_in(rom, length, marks, &mut seen, &mut work)
-}
-
-#[inline(never)]
-fn judge_most(rom: &[u8], length: u32, marks: &mut [u8]) -> Verdict
-    requires { Judged (fcode_of rom.now) length marks.old rom_most }
-    ensures { screened result marks.new ≡ judged_of (fcode_of rom.now) marks.old }
-{
-    let mut seen = [0u32; ROM_MOST];
-    let mut work = [0u16; ROM_MOST];
+    let mut seen = [0u32; N];
+    let mut work = [0u16; N];
     judge_in(rom, length, marks, &mut seen, &mut work)
 }
 
@@ -183,16 +129,16 @@ pub fn screen(rom: &[u8], marks: &mut [u8]) -> Verdict
     }
     let length = program_length(rom, spread_of(rom));
     if length <= 256 {
-        return judge_least(rom, length, marks);
+        return judge_with::<256>(rom, length, marks);
     }
     if length <= 1024 {
-        return judge_small(rom, length, marks);
+        return judge_with::<1024>(rom, length, marks);
     }
     if length <= 4096 {
-        return judge_middle(rom, length, marks);
+        return judge_with::<4096>(rom, length, marks);
     }
     if length <= 16384 {
-        return judge_large(rom, length, marks);
+        return judge_with::<16384>(rom, length, marks);
     }
-    judge_most(rom, length, marks)
+    judge_with::<ROM_MOST>(rom, length, marks)
 }

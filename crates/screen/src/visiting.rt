@@ -88,8 +88,8 @@ fn plain(within: bool, takes: u32, code: u32, cell: u32, next: u32, aim: u32) ->
     }
     Visit {
         cell: cell_of(up, rest),
-        next: next,
-        aim: aim,
+        next,
+        aim,
     }
 }
 
@@ -123,7 +123,7 @@ fn called(within: bool, sums: &[u64], number: u32, cell: u32, next: u32) -> Visi
     }
     Visit {
         cell: cell_of(up, back),
-        next: next,
+        next,
         aim: 0,
     }
 }

@@ -6,9 +6,9 @@ ghost use Rattle.screen.specs.Laws.Found.Model.{blank_of, no_tally, walk_steps};
 ghost use Rattle.screen.specs.Laws.Code.Walk.{spoilt_way, out_way, path_of, KeptIs, WalkFit};
 ghost use Rattle.screen.specs.Laws.Code.Walk.{CameTo, CameIf, Settled, WentOn, SetOut, EndsWith, WalkIs};
 
-use crate::cell::{UNMET, larger};
+use crate::cell::UNMET;
 use crate::limits::ROM_MOST;
-use crate::tables::{cell_at, place_at};
+use crate::tables::item_at;
 use crate::tally::{Tally, no_tally};
 use crate::visiting::{Visit, visit_at};
 use tokens::programs::PROGRAMS_MOST;
@@ -24,10 +24,9 @@ pub struct Text {
     pub children: u32,
 }
 
-// How a walk ended: whether it is good, the highest place that it came to, and what a body comes to.
+// How a good walk ended: the highest place that it came to, and what a body comes to.
 #[derive(Clone, Copy)]
 pub struct Walk {
-    pub good: bool,
     pub far: u32,
     pub tally: Tally,
 }
@@ -53,13 +52,7 @@ fn blank(within: bool) -> u32
 fn spoilt(way: Way) -> Way
     ensures { result ≡ spoilt_way way }
 {
-    Way {
-        fine: 0,
-        far: way.far,
-        place: way.place,
-        cell: way.cell,
-        top: way.top,
-    }
+    Way { fine: 0, ..way }
 }
 
 // The place that is at hand waits in the table, behind those that wait there; how many these are then.
@@ -92,11 +85,11 @@ fn put(text: Text, seen: &mut [u32], work: &mut [u16], way: Way, place: u32, cel
         seen[k] = cell;
         let top = kept(work, way.place, way.top);
         return Way {
-            fine: way.fine,
-            far: larger(way.far, place),
-            place: place,
-            cell: cell,
-            top: top,
+            far: way.far.max(place),
+            place,
+            cell,
+            top,
+            ..way
         };
     }
     if old == cell { way } else { spoilt(way) }
@@ -125,13 +118,12 @@ fn settled(text: Text, seen: &[u32], work: &[u16], way: Way) -> Way
         return way;
     }
     let top = way.top - 1;
-    let place = place_at(work, top);
+    let place = u32::from(item_at(work, top, 0));
     Way {
-        fine: way.fine,
-        far: way.far,
-        place: place,
-        cell: cell_at(seen, place),
-        top: top,
+        place,
+        cell: item_at(seen, place, 0),
+        top,
+        ..way
     }
 }
 
@@ -141,11 +133,9 @@ fn onward(text: Text, seen: &mut [u32], work: &mut [u16], way: Way, visit: Visit
     ensures { WentOn text seen.old work.old way visit result seen.new work.new }
 {
     let off = Way {
-        fine: way.fine,
-        far: way.far,
         place: 0,
         cell: 0,
-        top: way.top,
+        ..way
     };
     if visit.cell == 0 {
         return spoilt(off);
@@ -173,16 +163,6 @@ fn set_out(start: u32) -> Way
     }
 }
 
-fn ended(good: bool, way: Way, tally: Tally) -> Walk
-    ensures { (result.good ≡ good) × (result.far ≡ way.far) × (result.tally ≡ tally) }
-{
-    Walk {
-        good: good,
-        far: way.far,
-        tally: tally,
-    }
-}
-
 // A walk to its end. Each place waits at most once, so that there are turns enough.
 fn walk_on(
     codes: &[u32; 256],
@@ -193,26 +173,30 @@ fn walk_on(
     seen: &mut [u32],
     work: &mut [u16],
     first: Way,
-) -> Walk
+) -> Option<Walk>
     requires { Codes codes.now × WalkFit text seen.old work.old first × (first.fine ≢ 0 → first.place ≡ 0 → first.top ≡ 0) }
     ensures { EndsWith (walk_steps rom.now text kinds.now sums.now rom_most (path_of seen.old work.old first no_tally)) result seen.new }
 {
     let mut way = first;
     let mut tally = no_tally();
     let mut left = ROM_MOST;
+    // a while: the walk ends where nothing waits or it is spoilt, and so many turns only bound it
     while way.fine != 0 {
         if way.place == 0 {
-            return ended(true, way, tally);
+            return Some(Walk {
+                far: way.far,
+                tally,
+            });
         }
         if left == 0 {
-            return ended(false, way, tally);
+            return None;
         }
         let met = visit_at(codes, rom, text, kinds, sums, way.place, way.cell, tally);
         tally = met.tally;
         way = onward(text, &mut *seen, &mut *work, way, met.visit);
         left -= 1;
     }
-    ended(false, way, tally)
+    None
 }
 
 // A walk from a place on.
@@ -226,7 +210,7 @@ pub fn walk_from(
     work: &mut [u16],
     start: u32,
     cell: u32,
-) -> Walk
+) -> Option<Walk>
     requires { Codes codes.now × SetOut text seen.old work.old start cell }
     ensures { WalkIs rom.now text kinds.now sums.now seen.old start cell result seen.new }
 {

@@ -1,6 +1,7 @@
-use Rattle.std.proofs.Common.{refl, sym, ◌∙◌, length-set, arith}
+use Rattle.std.proofs.Common.{refl, sym, ◌∙◌, ap, length-set, arith}
 use Rattle.cells.specs.Laws.Facts.{not_on, not_off}
-use Rattle.screen.specs.Laws.Code.Body.{off_on, quick_ahead, stood_ahead, marking_first, marking_past, marking_stops, marking_quick}
+use Rattle.screen.specs.Laws.Found.Model.{Marked}
+use Rattle.screen.specs.Laws.Code.Body.{quick_ahead, stood_ahead, marking_first, marking_past, marking_stops, marking_quick}
 use Rattle.screen.specs.Laws.Code.Body.{marking_ends, marking_goes}
 use Rattle.screen.proofs.body.mark_starts.Goals as goal
 
@@ -38,11 +39,9 @@ shape_of-seen-then-not-stands c = c.loop-at.invariant.0
 pub returns-then-not-stands : goal.returns-then-not-stands
 returns-then-not-stands c =
     let a = c.args in
-    let s = c.stands.ensures a.rom.now a.length a.wide c.loop-at.at (sym c.glance_from-glance.ensures) in (
-      marking_stops _ _ _ _ _ _ _ _ c.loop-at.invariant.1 c.loop-at-test.true (sym s ∙ not_off c.stands.result c.if-not-stands.true-raw),
-      λ e.
-          off_on e,
-    )
+    let s = c.stands.ensures a.rom.now a.length a.wide c.loop-at.at (sym c.glance_from-glance.ensures) in
+    let h = sym s ∙ not_off c.stands.result c.if-not-stands.true-raw in
+    ap (λ (m : Marked). m.good) (sym (marking_stops _ _ _ _ _ _ _ _ c.loop-at.invariant.1 c.loop-at-test.true h))
 
 pub bounds-seen-k-else-quick-ne0 : goal.bounds-seen-k-else-quick-ne0
 bounds-seen-k-else-quick-ne0 c =
@@ -57,11 +56,12 @@ shape_of-seen-then-quick c = simp length-set c.loop-at.invariant.0
 pub returns-then-quick : goal.returns-then-quick
 returns-then-quick c =
     let a = c.args in
-    let s = c.stands.ensures a.rom.now a.length a.wide c.loop-at.at (sym c.glance_from-glance.ensures) in (
-      marking_ends _ _ _ _ _ _ _ _ c.loop-at.invariant.1 c.loop-at-test.true _ c.glance_from-glance.ensures
-          (sym s ∙ not_on c.stands.result c.if-not-stands.false-raw) _ c.quick_at-quick.ensures.0 c.if-quick.true,
-      λ e. c.loop-at-test.true,
-    )
+    let s = c.stands.ensures a.rom.now a.length a.wide c.loop-at.at (sym c.glance_from-glance.ensures) in
+    record {
+      same = marking_ends _ _ _ _ _ _ _ _ c.loop-at.invariant.1 c.loop-at-test.true _ c.glance_from-glance.ensures
+          (sym s ∙ not_on c.stands.result c.if-not-stands.false-raw) _ c.quick_at-quick.ensures.0 c.if-quick.true;
+      inside = c.loop-at-test.true;
+    }
 
 pub loop-at-smaller : goal.loop-at-smaller
 loop-at-smaller c =
@@ -85,4 +85,4 @@ pub shape_of-seen : goal.shape_of-seen
 shape_of-seen c = c.loop-at.invariant.0
 
 pub returns : goal.returns
-returns c = (marking_past _ _ _ _ _ _ _ _ c.loop-at.invariant.1 c.loop-at-test.false, λ e. off_on e)
+returns c = ap (λ (m : Marked). m.good) (sym (marking_past _ _ _ _ _ _ _ _ c.loop-at.invariant.1 c.loop-at-test.false))

@@ -26,11 +26,6 @@ bounds-seen-place-in-loop-place c =
     let p = pre.1 in
     omega arith
 
-pub loop-place-smaller : goal.loop-place-smaller
-loop-place-smaller c =
-    let t = c.loop-place-test.true in
-    omega arith
-
 pub loop-place-preserved : goal.loop-place-preserved
 loop-place-preserved c = (
   simp length-set c.loop-place.invariant.0,

@@ -3,4 +3,4 @@ use Rattle.screen.proofs.cell.moved.Goals as goal
 
 pub returns : goal.returns
 unfolding moved_cell
-returns c = c.less.ensures
+returns c = c.saturating_sub.ensures

@@ -1,7 +1,7 @@
 use Rattle.std.proofs.Common.{◌∙◌, arith}
 use Rattle.cells.specs.Laws.Facts.{not_on, not_off}
 use Rattle.screen.specs.Laws.Found.Model.{board}
-use Rattle.screen.specs.Laws.Code.Round.{turn_fails, new_few, new_so, define_old, define_colon, turn_value}
+use Rattle.screen.specs.Laws.Code.Round.{new_few, new_so, define_old, define_colon, turn_value}
 use Rattle.screen.proofs.rounds.define.Goals as goal
 
 pub returns-then-not-is_new : goal.returns-then-not-is_new
@@ -9,10 +9,8 @@ returns-then-not-is_new c st e =
     let a = c.args in
     let b = board a.seen.now a.kinds.now a.sums.now st in
     let g = not_off c.is_new.result c.if-not-is_new.true-raw in
-    turn_fails _ _ _ _ _ _ _
-    (define_old a.rom.now a.length b a.stand a.token _ _ c.new_number-number.ensures c.kind_in-kind.ensures _ _ e
-    c.is_new.ensures g)
-    c.refused.ensures
+    define_old a.rom.now a.length b a.stand a.token _ _ c.new_number-number.ensures c.kind_in-kind.ensures _ _ e
+    c.is_new.ensures g
 
 pub colon-requires : goal.colon-requires
 colon-requires c =

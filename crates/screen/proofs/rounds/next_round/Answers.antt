@@ -1,6 +1,6 @@
 use Rattle.std.proofs.Common.{sym, ◌∙◌, refl, false}
-use Rattle.cells.specs.Laws.Facts.{not_on, not_off}
-use Rattle.screen.specs.Laws.Code.Round.{defining, behind_refused, behind_ends, behind_fails, behind_goes}
+use Rattle.cells.specs.Laws.Facts.{not_off}
+use Rattle.screen.specs.Laws.Code.Round.{defining, behind_refused, behind_ends}
 use Rattle.screen.proofs.rounds.next_round.Goals as goal
 
 pub returns-then-not-fixes : goal.returns-then-not-fixes
@@ -10,8 +10,8 @@ returns-then-not-fixes c =
     let f = sym c.fixes.ensures ∙ not_off c.fixes.result c.if-not-fixes.true-raw in
     (λ go. behind_ends a.rom.now a.length a.seen.now a.kinds.now a.sums.now a.stand a.far _ r f go, refl)
 
-pub advance-t-requires : goal.advance-t-requires
-advance-t-requires c =
+pub advance-requires : goal.advance-requires
+advance-requires c =
     let a = c.args in
     let p = c.requires in
     let r = sym c.read_at.ensures ∙ c.in-Good.is in
@@ -22,19 +22,3 @@ returns-in-Refused c =
     let a = c.args in
     λ go. behind_refused a.rom.now a.length a.seen.now a.kinds.now a.sums.now a.stand a.far _
     (sym c.read_at.ensures ∙ c.in-Refused.is) go
-
-pub returns-then-t : goal.returns-then-t
-returns-then-t c =
-    let a = c.args in
-    let r = sym c.read_at.ensures ∙ c.in-Good.is in
-    let f = sym c.fixes.ensures ∙ not_on c.fixes.result c.if-not-fixes.false-raw in
-    behind_goes a.rom.now a.length a.seen.now a.kinds.now a.sums.now a.stand a.far _ _ r f
-    c.cell_at-cell.ensures _ _ _ _ c.advance-t.ensures c.if-t.true
-
-pub returns-else-t : goal.returns-else-t
-returns-else-t c =
-    let a = c.args in
-    let r = sym c.read_at.ensures ∙ c.in-Good.is in
-    let f = sym c.fixes.ensures ∙ not_on c.fixes.result c.if-not-fixes.false-raw in
-    λ go. behind_fails a.rom.now a.length a.seen.now a.kinds.now a.sums.now a.stand a.far _ _ r f
-    c.cell_at-cell.ensures _ _ _ _ c.advance-t.ensures c.if-t.false go

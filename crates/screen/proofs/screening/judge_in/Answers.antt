@@ -56,5 +56,5 @@ returns c =
     let a = c.args in
     let k = c.requires in
     judge_refuses c.laid-program.result.now a.marks.now _ _ _ c.finds_heights.ensures c.if-finds_heights.false
-    (c.clear_marks.ensures ∙ ap (λ n. replicate n 0) c.lay_spread.auto.room)
+    (c.fill.ensures.after (λ y e. e) ∙ ap (λ n. replicate n 0) c.lay_spread.auto.room)
     ∙ judged_same a.marks.now same k.buffer k.cleared.header

@@ -34,24 +34,24 @@ returns-then-why-ne0 c =
     c.if-why-ne0.true)
 
 -- that the buffer has its size is left to the search, so that a size that is not tested is refused here
-pub judge_least-requires : goal.judge_least-requires
-judge_least-requires c =
+pub judge_with-requires : goal.judge_with-requires
+judge_with-requires c =
     ready c.args.rom.now c.args.marks.now (search rules) c.check_header-why.ensures c.if-why-ne0.false
     c.spread_of.ensures c.program_length-length.ensures _ (rw (le-leb _ _ c.if-length-le256.true))
 
-pub judge_small-requires : goal.judge_small-requires
-judge_small-requires c =
+pub judge_with-requires-then-length-le1024 : goal.judge_with-requires-then-length-le1024
+judge_with-requires-then-length-le1024 c =
     ready c.args.rom.now c.args.marks.now (search rules) c.check_header-why.ensures c.if-why-ne0.false
     c.spread_of.ensures c.program_length-length.ensures _ (rw (lt-leb _ _ c.if-length-le256.false, le-leb _ _ c.if-length-le1024.true))
 
-pub judge_middle-requires : goal.judge_middle-requires
-judge_middle-requires c =
+pub judge_with-requires-then-length-le4096 : goal.judge_with-requires-then-length-le4096
+judge_with-requires-then-length-le4096 c =
     ready c.args.rom.now c.args.marks.now (search rules) c.check_header-why.ensures c.if-why-ne0.false
     c.spread_of.ensures c.program_length-length.ensures _ (rw
     (lt-leb _ _ c.if-length-le256.false, lt-leb _ _ c.if-length-le1024.false, le-leb _ _ c.if-length-le4096.true))
 
-pub judge_large-requires : goal.judge_large-requires
-judge_large-requires c =
+pub judge_with-requires-then-length-le16384 : goal.judge_with-requires-then-length-le16384
+judge_with-requires-then-length-le16384 c =
     ready c.args.rom.now c.args.marks.now (search rules) c.check_header-why.ensures c.if-why-ne0.false
     c.spread_of.ensures c.program_length-length.ensures _ (rw (
       lt-leb _ _ c.if-length-le256.false,
@@ -61,8 +61,8 @@ judge_large-requires c =
           c.if-length-le16384.true,
     ))
 
-pub judge_most-requires : goal.judge_most-requires
-judge_most-requires c =
+pub judge_with-requires-2 : goal.judge_with-requires-2
+judge_with-requires-2 c =
     ready c.args.rom.now c.args.marks.now (search rules) c.check_header-why.ensures c.if-why-ne0.false
     c.spread_of.ensures c.program_length-length.ensures _ (rw (
       lt-leb _ _ c.if-length-le256.false,
@@ -74,20 +74,20 @@ judge_most-requires c =
 
 pub returns-then-length-le256 : goal.returns-then-length-le256
 returns-then-length-le256 c = kept c.args.rom.now c.args.marks.now (search rules) c.check_header-why.ensures
-    c.if-why-ne0.false c.judge_least.ensures
+    c.if-why-ne0.false c.judge_with.ensures
 
 pub returns-then-length-le1024 : goal.returns-then-length-le1024
 returns-then-length-le1024 c = kept c.args.rom.now c.args.marks.now (search rules) c.check_header-why.ensures
-    c.if-why-ne0.false c.judge_small.ensures
+    c.if-why-ne0.false c.judge_with-then-length-le1024.ensures
 
 pub returns-then-length-le4096 : goal.returns-then-length-le4096
 returns-then-length-le4096 c = kept c.args.rom.now c.args.marks.now (search rules) c.check_header-why.ensures
-    c.if-why-ne0.false c.judge_middle.ensures
+    c.if-why-ne0.false c.judge_with-then-length-le4096.ensures
 
 pub returns-then-length-le16384 : goal.returns-then-length-le16384
 returns-then-length-le16384 c = kept c.args.rom.now c.args.marks.now (search rules) c.check_header-why.ensures
-    c.if-why-ne0.false c.judge_large.ensures
+    c.if-why-ne0.false c.judge_with-then-length-le16384.ensures
 
 pub returns : goal.returns
 returns c = kept c.args.rom.now c.args.marks.now (search rules) c.check_header-why.ensures c.if-why-ne0.false
-    c.judge_most.ensures
+    c.judge_with-2.ensures

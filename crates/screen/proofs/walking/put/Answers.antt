@@ -20,7 +20,7 @@ returns-then-old-blank c =
     let a = c.args in
     let p = c.requires in
     came_new p.0 a.place a.cell c.if-place-text.false c.if-text-place.false (c.if-old-blank.true ∙ c.blank.ensures) p.2 p.1 _ _ _ _ refl
-    c.larger.ensures c.kept-top.ensures c.kept-top.auto.work
+    c.max.ensures c.kept-top.ensures c.kept-top.auto.work
 
 pub returns-then-old-cell : goal.returns-then-old-cell
 returns-then-old-cell c =

@@ -14,6 +14,6 @@ pub returns : goal.returns
 returns c =
     let a = c.args in
     let e = rw c.set_out.ensures at c.put-put_first.ensures in
-    end_so
+    end_so c.walk_on.result c.walk_on.new.seen
     (from_so a.rom.now a.text a.kinds.now a.sums.now a.start a.cell e c.settled-first.ensures)
     c.walk_on.ensures

@@ -13,8 +13,7 @@ shape_of-work-then-way-eq0 c = c.loop-way.invariant.0.1
 
 pub returns-then-way-eq0 : goal.returns-then-way-eq0
 returns-then-way-eq0 c =
-    let e = c.ended.ensures in
-    walks_ended _ _ _ _ c.loop-way.invariant.1 c.loop-way-test.true _ e.0 e.1 (rw e.2 refl) c.if-way-eq0.true
+    walks_ended _ _ _ _ c.loop-way.invariant.1 c.loop-way-test.true _ refl refl c.if-way-eq0.true
 
 pub shape_of-seen-then-left-eq0 : goal.shape_of-seen-then-left-eq0
 shape_of-seen-then-left-eq0 c = c.loop-way.invariant.0.0
@@ -23,8 +22,7 @@ pub shape_of-work-then-left-eq0 : goal.shape_of-work-then-left-eq0
 shape_of-work-then-left-eq0 c = c.loop-way.invariant.0.1
 
 pub returns-then-left-eq0 : goal.returns-then-left-eq0
-returns-then-left-eq0 c = walks_spent _ _ _ _ c.loop-way.invariant.1 c.loop-way-test.true c.if-way-eq0.false _ _
-    c.ended-then-left-eq0.ensures.0 c.if-left-eq0.true
+returns-then-left-eq0 c = walks_spent _ _ _ _ c.loop-way.invariant.1 c.loop-way-test.true c.if-way-eq0.false c.if-left-eq0.true
 
 pub visit_at-met-requires : goal.visit_at-met-requires
 visit_at-met-requires c = let p = c.requires in (p.0, c.loop-way.invariant.1.fit.near c.if-way-eq0.false)
@@ -55,4 +53,4 @@ pub shape_of-work : goal.shape_of-work
 shape_of-work c = c.loop-way.invariant.0.1
 
 pub returns : goal.returns
-returns c = walks_lost _ _ _ _ c.loop-way.invariant.1 _ _ c.ended-2.ensures.0 c.loop-way-test.false
+returns c = walks_lost _ _ _ _ c.loop-way.invariant.1 c.loop-way-test.false

@@ -1,6 +1,6 @@
 -- A body's definitions, by what the code has learnt where it returns. Assumes nothing.
 use Prim.Native.Nat.{ℕ, zero, suc, ◌+◌, ◌-◌, ◌<◌, ◌≤◌}
-use Rattle.std.specs.Prelude.{◌≡◌, Bool, false, not, ◌&&◌, ◌||◌, List, ◌≢◌, get_or, set, T, leb, eqb}
+use Rattle.std.specs.Prelude.{◌≡◌, Bool, false, not, ◌&&◌, ◌||◌, List, ◌≢◌, get_or, set, T, leb, eqb, Option, Some, None}
 use Rattle.std.proofs.Math.Path.{refl, ap}
 use Rattle.std.proofs.Common.{sym, ◌∙◌, subst, add-one, eq-eqb, ne_eqb, eqb-true, get_or-set_other, eqb→eq, leb→le}
 use Rattle.std.proofs.Math.Bool.{true, or-false, not-not}
@@ -30,7 +30,7 @@ use Rattle.screen.specs.Laws.Rules.Ways.{unnamed_known}
 use Rattle.screen.specs.Laws.Code.Codes.{SmallEffect}
 use Rattle.screen.specs.Laws.Code.Visit.{tally_in, VisitShown, shown, same_family, called_number, assigned_number, astray_aim}
 use Rattle.screen.specs.Laws.Code.Visit.{families_fit}
-use Rattle.screen.specs.Laws.Code.Walk.{WalkIs}
+use Rattle.screen.specs.Laws.Code.Walk.{EndsWell}
 use Rattle.screen.specs.Laws.Found.Model.{Path, walk_all, Marked, marked, start_in, starts_of, Tally, no_tally}
 use Rattle.screen.specs.Laws.Found.Model.{tallied, sum_told, passes_of, shifted_cell, shift_of, Board, board, RoundEnd, round_end}
 use Rattle.screen.specs.Laws.Found.Model.{body_text, entry_of, places}
@@ -245,6 +245,15 @@ module _ (rom : List ℕ) (length : ℕ) (wide : Bool) (kinds : List ℕ) where
               subst (λ (q : ℕ). Marking q (set seen p unmet)) d
               (goes t r.1 (subst (λ (y : Read). stands_in kinds y ≡ true) r.1 s) (λ q. n ((ends_first rom p b f).1 (sym h ∙ q))))
 
+-- how far they were marked: up to the C2, whose place that is, or not
+pub record Marks (length : ℕ) (m : Marked) (end : ℕ) (seen' : List ℕ) : Type 0 where
+  pub same : marked true end seen' ≡ m
+  pub inside : end < length
+
+abbrev pub MarksIs : ℕ → Marked → Option ℕ → List ℕ → Type 0
+MarksIs length m None seen' = m.good ≡ false
+MarksIs length m (Some end) seen' = Marks length m end seen'
+
 -- ---- the tally
 pub record Low (a : Tally) : Type 0 where
   pub need : a.need < 1024
@@ -314,17 +323,21 @@ module _ (need end : ℕ) (whole : List ℕ) (p : ℕ) (seen : List ℕ) (k : Sh
 
 -- ---- a body
 -- what is known of a body that was surveyed: where it passes, and where it does not
-pub record SurveyIs (rom : List ℕ) (length : ℕ) (kinds sums seen : List ℕ) (s : Stand) (entry : ℕ) (r : Survey)
+pub record SurveyGood (rom : List ℕ) (length : ℕ) (kinds sums seen : List ℕ) (s : Stand) (entry : ℕ) (r : Survey)
     (seen' : List ℕ) : Type 0 where
-  pub refuses : r.good ≡ false → (st : Stand) (n : ℕ) → (colon_of rom length (board seen kinds sums st) s n entry).good ≡ false
-  pub accepts : r.good ≡ true → (st : Stand) (n : ℕ) → colon_of rom length (board seen kinds sums st) s n entry
+  pub accepts : (st : Stand) (n : ℕ) → colon_of rom length (board seen kinds sums st) s n entry
       ≡ round_end true
       (entry_of (board (shift_of r.tally.need (places entry r.end) entry seen') kinds sums s) s n 0xB7 (sum_told (tally_in r.tally))
       (suc r.end))
-  pub inside : r.good ≡ true → r.end < length
-  pub low : r.good ≡ true → Low (tally_in r.tally)
-  pub fits : r.good ≡ true → r.tally.need ≤ body_most
-  pub bounded : r.good ≡ true → (b : ℕ) → 65536 ≤ b → Bounded b seen → Bounded b seen'
+  pub inside : r.end < length
+  pub low : Low (tally_in r.tally)
+  pub fits : r.tally.need ≤ body_most
+  pub bounded : (b : ℕ) → 65536 ≤ b → Bounded b seen → Bounded b seen'
+
+abbrev pub SurveyIs : List ℕ → ℕ → List ℕ → List ℕ → List ℕ → Stand → ℕ → Option Survey → List ℕ → Type 0
+SurveyIs rom length kinds sums seen s entry None seen' =
+    (st : Stand) (n : ℕ) → (colon_of rom length (board seen kinds sums st) s n entry).good ≡ false
+SurveyIs rom length kinds sums seen s entry (Some r) seen' = SurveyGood rom length kinds sums seen s entry r seen'
 
 passes_need : (y : Tally) → passes_of y ≡ true → y.need ≤ body_most
 unfolding passes_of
@@ -353,22 +366,19 @@ module _ (rom : List ℕ) (length : ℕ) (seen kinds sums : List ℕ) (s : Stand
     unfolding colon_of begun_at walked
     colon_is = refl
 
-    colon_unmarked : (good : Bool) (end : ℕ) (seen₁ : List ℕ)
-        → marked good end seen₁ ≡ starts_of rom length s.wide kinds rom_most entry seen
-        → good ≡ false → (colon_of rom length b s n entry).good ≡ false
+    colon_unmarked : (starts_of rom length s.wide kinds rom_most entry seen).good ≡ false
+        → (colon_of rom length b s n entry).good ≡ false
     unfolding begun_at
-    colon_unmarked good end seen₁ h g =
-        let h' = rw g at h in
-        ap (λ (y : RoundEnd). y.good) (colon_is ∙ ap (λ (m : Marked). begun_at m) (sym h'))
+    colon_unmarked g =
+        ap (λ (y : RoundEnd). y.good) (colon_is ∙ when_false _ _ (starts_of rom length s.wide kinds rom_most entry seen).good g)
 
-    module _ (good : Bool) (end : ℕ) (seen₁ : List ℕ) (h : marked good end seen₁ ≡ starts_of rom length s.wide kinds rom_most entry seen)
-        (g : good ≡ true) where
+    module _ (end : ℕ) (seen₁ : List ℕ) (h : marked true end seen₁ ≡ starts_of rom length s.wide kinds rom_most entry seen) where
       abbrev way : Path
       way = walk_all rom (body_text length s.wide entry) kinds sums seen₁ entry entry_cell
 
       colon_walked : colon_of rom length b s n entry ≡ walked end way
       unfolding begun_at body_walked
-      colon_walked = let h' = rw g at h in colon_is ∙ ap (λ (m : Marked). begun_at m) (sym h')
+      colon_walked = colon_is ∙ ap (λ (m : Marked). begun_at m) (sym h)
 
       colon_lost : way.walk.good ≡ false → (colon_of rom length b s n entry).good ≡ false
       unfolding walked
@@ -390,41 +400,28 @@ module _ (rom : List ℕ) (length : ℕ) (seen kinds sums : List ℕ) (s : Stand
         unfolding body_shifted
         colon_passes y f seen₂ d p = colon_tallied ∙ rw (← f, ← d, p) refl
 
-  module _ (seen' : List ℕ) (r : Survey) where
-    survey_fails : r.good ≡ false → ((st : Stand) (n : ℕ) → (colon_of rom length (board seen kinds sums st) s n entry).good ≡ false)
-        → SurveyIs rom length kinds sums seen s entry r seen'
-    survey_fails e f =
-        record {
-          refuses = λ g. f;
-          accepts = λ g. off_on (sym e ∙ g);
-          inside = λ g. off_on (sym e ∙ g);
-          low = λ g. off_on (sym e ∙ g);
-          fits = λ g. off_on (sym e ∙ g);
-          bounded = λ g. off_on (sym e ∙ g);
-        }
+  module _ (seen' : List ℕ) where
+    pub survey_unmarked : (starts_of rom length s.wide kinds rom_most entry seen).good ≡ false
+        → SurveyIs rom length kinds sums seen s entry None seen'
+    survey_unmarked g = λ st n. colon_unmarked st n g
 
-    module _ (good : Bool) (end : ℕ) (seen₁ : List ℕ)
-        (h : marked good end seen₁ ≡ starts_of rom length s.wide kinds rom_most entry seen) where
-      pub survey_unmarked : good ≡ false → r.good ≡ false → SurveyIs rom length kinds sums seen s entry r seen'
-      survey_unmarked g e = survey_fails e (λ st n. colon_unmarked st n good end seen₁ h g)
+    module _ (end : ℕ) (seen₁ : List ℕ) (h : marked true end seen₁ ≡ starts_of rom length s.wide kinds rom_most entry seen) where
+      pub survey_lost : (walk_all rom (body_text length s.wide entry) kinds sums seen₁ entry entry_cell).walk.good ≡ false
+          → SurveyIs rom length kinds sums seen s entry None seen'
+      survey_lost l = λ st n. colon_lost st n end seen₁ h l
 
-      module _ (g : good ≡ true) (w : Walked)
-          (k : WalkIs rom (body_text length s.wide entry) kinds sums seen₁ entry entry_cell w seen') where
-        pub survey_lost : w.good ≡ false → r.good ≡ false → SurveyIs rom length kinds sums seen s entry r seen'
-        survey_lost l f = survey_fails f (λ st n. colon_lost st n good end seen₁ h g (sym k.good ∙ l))
+      module _ (w : Walked) (k : EndsWell (walk_all rom (body_text length s.wide entry) kinds sums seen₁ entry entry_cell) w seen') where
+        pub survey_unfit : passes_of (tally_in w.tally) ≡ false → SurveyIs rom length kinds sums seen s entry None seen'
+        survey_unfit p = λ st n. colon_unfit st n end seen₁ h k.good (rw (← k.tally) p)
 
-        pub survey_judged : w.good ≡ true → Low (tally_in w.tally) → end < length
-            → ((b : ℕ) → 65536 ≤ b → Bounded b seen → Bounded b seen')
-            → r.good ≡ passes_of (tally_in w.tally) → r.end ≡ end → r.tally ≡ w.tally
-            → SurveyIs rom length kinds sums seen s entry r seen'
-        survey_judged l low inside bounded p d f =
-            let y = sym k.good ∙ l in
-            let t = k.tally l in
+        pub survey_judged : Low (tally_in w.tally) → end < length → ((b : ℕ) → 65536 ≤ b → Bounded b seen → Bounded b seen')
+            → passes_of (tally_in w.tally) ≡ true
+            → SurveyGood rom length kinds sums seen s entry (record { end = end; tally = w.tally }) seen'
+        survey_judged low inside bounded p =
             record {
-              refuses = λ q st n. colon_unfit st n good end seen₁ h g y (rw (← t) (sym p ∙ q));
-              accepts = λ q st n. rw (f, d) (colon_passes st n good end seen₁ h g y (tally_in w.tally) t seen' (k.seen l) (sym p ∙ q));
-              inside = λ q. rw d inside;
-              low = λ q. rw f low;
-              fits = λ q. rw f (passes_need (tally_in w.tally) (sym p ∙ q));
-              bounded = λ q. bounded;
+              accepts = λ st n. colon_passes st n end seen₁ h k.good (tally_in w.tally) k.tally seen' k.seen p;
+              inside = inside;
+              low = low;
+              fits = passes_need (tally_in w.tally) p;
+              bounded = bounded;
             }

@@ -18,7 +18,7 @@ use Rattle.screen.specs.Effect.{astray, effect_of}
 use Rattle.screen.specs.Laws.Code.Codes.{fitting, effect_small}
 use Rattle.screen.specs.Laws.Code.Body.{Bounded, Low, low_none, low_tallied}
 use Rattle.screen.specs.Laws.Code.Visit.{tally_in}
-use Rattle.screen.specs.Laws.Code.Walk.{WalkIs}
+use Rattle.screen.specs.Laws.Code.Walk.{EndsWell}
 use Rattle.screen.specs.Laws.Found.Model.{sum_at, blank_of, fits_of, sound_of, Visit, bad_visit, token_visit, read_visit, visit_of}
 use Rattle.screen.specs.Laws.Found.Model.{heights_after}
 use Rattle.screen.specs.Laws.Found.Model.{Path, path, failed, put_visit, puts_of, topped, waiting, visited_on, walk_step, walking}
@@ -201,16 +201,16 @@ module _ (b : ℕ) (h : 65536 ≤ b) (rom : List ℕ) (kinds : List ℕ) where
 
   pub walked_kept : (x : Scope) (sums seen : List ℕ) (start cell : ℕ) (w : Walked) (seen₁ : List ℕ) → x.length ≤ rom_most → start ≤ rom_most
       → cell ≤ b
-      → WalkIs rom x kinds sums seen start cell w seen₁ → w.good ≡ true → Bounded b seen → WalkKept b w seen₁
-  walked_kept x sums seen start cell w seen₁ s t l k g e =
+      → EndsWell (walk_all rom x kinds sums seen start cell) w seen₁ → Bounded b seen → WalkKept b w seen₁
+  walked_kept x sums seen start cell w seen₁ s t l k e =
       let d = kept_from b x s rom kinds sums (omega arith) seen start cell t l e in
-      record { far = rw (k.far g) d.far; seen = rw (k.seen g) d.seen; tally = rw (k.tally g) d.tally }
+      record { far = rw k.far d.far; seen = rw k.seen d.seen; tally = rw k.tally d.tally }
 
 -- the tally is low whatever the cells were
 pub walked_low : (rom kinds : List ℕ) (x : Scope) (sums seen : List ℕ) (start cell : ℕ) (w : Walked) (seen₁ : List ℕ) → x.length ≤ rom_most
     → start ≤ rom_most → cell ≤ 65536
-    → WalkIs rom x kinds sums seen start cell w seen₁ → w.good ≡ true → Low (tally_in w.tally)
-walked_low rom kinds x sums seen start cell w seen₁ s t l k g =
+    → EndsWell (walk_all rom x kinds sums seen start cell) w seen₁ → Low (tally_in w.tally)
+walked_low rom kinds x sums seen start cell w seen₁ s t l k =
     let m = some_bound seen in
     let d = kept_from m.0 x s rom kinds sums (omega arith) seen start cell t (omega arith) m.2 in
-    rw (k.tally g) d.tally
+    rw k.tally d.tally

@@ -1,6 +1,6 @@
 -- The rounds' definitions, by what the code has learnt where it returns. Assumes nothing.
 use Prim.Native.Nat.{ℕ, zero, suc, ◌+◌, ◌-◌, ◌*◌, ◌<◌, ◌≤◌}
-use Rattle.std.specs.Prelude.{◌≡◌, Bool, not, ◌&&◌, ◌||◌, List, ◌≢◌, get_or, set, T, ltb, leb, eqb}
+use Rattle.std.specs.Prelude.{◌≡◌, Bool, not, ◌&&◌, ◌||◌, List, ◌≢◌, get_or, set, T, ltb, leb, eqb, Option, Some, None}
 use Rattle.std.proofs.Math.Path.{refl, ap}
 use Rattle.std.proofs.Common.{sym, ◌∙◌, subst, add-one, leb→le, ltb→lt}
 use Rattle.std.proofs.Math.Bool.{true, false, or-true}
@@ -16,7 +16,7 @@ use Rattle.tokens.specs.Body.{kind_of}
 use Rattle.tokens.specs.Place.{misplaced_of, read_of}
 use Rattle.tokens.specs.Laws.Tokens.{none_starts, next_ahead}
 use Rattle.tokens.specs.Joints.Glance.{glance_of}
-use Rattle.tokens.specs.Laws.Glance.{glance_refused, glance_misplaced, glance_read, glance_ahead}
+use Rattle.tokens.specs.Laws.Glance.{glance_refused, glance_misplaced, glance_read}
 use Rattle.tokens.specs.Joints.Quick.{QuickRead}
 use Rattle.tokens.specs.Definition.{new_number, kind_in, takes_here}
 use Rattle.tokens.specs.declared.decoding.Operand.{Operand}
@@ -28,10 +28,10 @@ use Rattle.tokens.specs.declared.read.Read.{Read}
 use Rattle.tokens.specs.declared.read.Read.TheVariants.{Refused, Good}
 use Rattle.tokens.specs.Laws.Stands.{stands}
 use Rattle.screen.specs.Effect.{is_a, fixes, value_sum}
-use Rattle.screen.specs.Laws.Code.Body.{Bounded, SurveyIs, off_on}
+use Rattle.screen.specs.Laws.Code.Body.{Bounded, SurveyGood, off_on}
 use Rattle.screen.specs.Laws.Code.Keep.{bounded_more, bounded_shift, WalkKept, walked_kept}
 use Rattle.screen.specs.Laws.Code.Visit.{tally_in, fixes_by}
-use Rattle.screen.specs.Laws.Code.Walk.{WalkIs}
+use Rattle.screen.specs.Laws.Code.Walk.{EndsWell}
 use Rattle.screen.specs.Laws.Found.Model.{sum_told, shift_of, places}
 use Rattle.screen.specs.Laws.Found.Model.{slot, Path, walk_all, end_in, fixed_in, apart_of, Board, board}
 use Rattle.screen.specs.Laws.Found.Model.{RoundEnd, round_end}
@@ -45,8 +45,6 @@ use Rattle.screen.specs.declared.walking.Text.{Text as Scope}
 use Rattle.screen.specs.declared.walking.Walk.{Walk as Walked}
 use Rattle.screen.specs.declared.rounds.Stand.{Stand}
 use Rattle.screen.specs.declared.body.Survey.{Survey}
-use Rattle.screen.specs.declared.rounds.Round.{Round}
-use Rattle.screen.specs.declared.rounds.Turned.{Turned}
 use Rattle.screen.specs.declared.rounds.After.{After}
 use Rattle.screen.specs.declared.rounds.After.TheVariants.{Fails, Ends, Goes}
 use Rattle.screen.specs.Laws.Found.Cell.{cell_with, height_in, back_in, heights, lower_cell, cell_some, body_most}
@@ -57,48 +55,47 @@ use Rattle.screen.specs.Laws.Found.Sums.{packed_sum}
 abbrev pub highest_in : ℕ → ℕ → Read → Bool
 highest_in far p r = eqb p far || not (fixed_in r)
 
--- the place behind a token, or 0 where it may not stand
-pub record Ended (may : Bool) (end y : ℕ) : Type 0 where
-  pub barred : y ≡ 0 → may ≡ false
-  pub stands : (y ≡ 0 → ⊥) → (may ≡ true) × (end ≡ y)
+-- the place behind a token, where it may stand
+pub record Ended (may : Bool) (end : ℕ) (y : Option ℕ) : Type 0 where
+  pub barred : y ≡ None → may ≡ false
+  pub stands : (q : ℕ) → y ≡ Some q → (may ≡ true) × (end ≡ q)
 
-ended_at : {may : Bool} {end y : ℕ} → may ≡ true → end ≡ y → y ≢ 0 → Ended may end y
-ended_at m e n = record { barred = λ z. absurd (n z); stands = λ z. (m, e) }
+ended_at : {may : Bool} {end y : ℕ} → may ≡ true → end ≡ y → Ended may end (Some y)
+ended_at m e = record { barred = λ z. cc; stands = λ q z. (m, cc) }
 
-ended_not : {may : Bool} (end : ℕ) → may ≡ false → Ended may end 0
-ended_not end m = record { barred = λ z. m; stands = λ z. absurd (z refl) }
+ended_not : {may : Bool} (end : ℕ) → may ≡ false → Ended may end None
+ended_not end m = record { barred = λ z. m; stands = λ q z. cc }
 
 -- by a glance at the token, wherever that was taken
-abbrev pub EndBy : ℕ → ℕ → Glance → ℕ → Type 0
+abbrev pub EndBy : ℕ → ℕ → Glance → Option ℕ → Type 0
 EndBy far p g y =
     (rom : List ℕ) (length : ℕ) (wide : Bool) → glance_of rom length wide p ≡ g
     → Ended (highest_in far p (read_of rom length wide false p)) (end_in p (read_of rom length wide false p)) y
 
 module _ (far p : ℕ) where
   -- what is refused there
-  end_refused : (r : Read) (why : ℕ) → r ≡ Refused why → Ended (highest_in far p r) (end_in p r) (p + 1)
-  end_refused r why e = ended_at (rw e (or-true (eqb p far))) (rw (e, add-one) refl) (λ z. omega arith)
+  end_refused : (r : Read) (why : ℕ) → r ≡ Refused why → Ended (highest_in far p r) (end_in p r) (Some (p + 1))
+  end_refused r why e = ended_at (rw e (or-true (eqb p far))) (rw (e, add-one) refl)
 
   module _ (g : Glance) where
-    pub end_none : g.code ≡ 0 → EndBy far p g (p + 1)
+    pub end_none : g.code ≡ 0 → EndBy far p g (Some (p + 1))
     end_none z rom length wide e =
         let r = glance_refused rom length wide false p g e z in
         end_refused (read_of rom length wide false p) r.0 r.1
 
-    pub end_misplaced : misplaced_of g.code false ≡ true → EndBy far p g (p + 1)
+    pub end_misplaced : misplaced_of g.code false ≡ true → EndBy far p g (Some (p + 1))
     end_misplaced m rom length wide e = end_refused (read_of rom length wide false p) 18 (glance_misplaced rom length wide false p g e m)
 
     module _ (z : g.code ≡ 0 → ⊥) (m : misplaced_of g.code false ≡ false) where
       -- the highest, or one that does not end a round
       end_whole : (rom : List ℕ) (length : ℕ) (wide : Bool) → glance_of rom length wide p ≡ g
           → highest_in far p (read_of rom length wide false p) ≡ true
-          → Ended (highest_in far p (read_of rom length wide false p)) (end_in p (read_of rom length wide false p)) g.next
+          → Ended (highest_in far p (read_of rom length wide false p)) (end_in p (read_of rom length wide false p)) (Some g.next)
       end_whole rom length wide e h =
           let s = glance_read rom length wide false p g e z m in
-          let a = (glance_ahead rom length wide false p g e z).0 in
-          ended_at h (rw s.1 (ap (λ (y : Glance). y.next) s.2)) (λ n. omega arith)
+          ended_at h (rw s.1 (ap (λ (y : Glance). y.next) s.2))
 
-      pub end_far : p ≡ far → EndBy far p g g.next
+      pub end_far : p ≡ far → EndBy far p g (Some g.next)
       end_far f rom length wide e = end_whole rom length wide e (rw (eq-eqb _ _ f) refl)
 
       module _ (f : p ≡ far → ⊥) (b : Bool) (h : b ≡ fixes_by g.code) where
@@ -109,10 +106,10 @@ module _ (far p : ℕ) where
             let c : s.0.code ≡ g.code = ap (λ (y : Glance). y.code) s.2 in
             rw (ne_eqb _ _ f, s.1, c, h) refl
 
-        pub end_fixed : b ≡ true → EndBy far p g 0
+        pub end_fixed : b ≡ true → EndBy far p g None
         end_fixed t rom length wide e = ended_not _ (fixed_so rom length wide e ∙ rw t refl)
 
-        pub end_other : b ≡ false → EndBy far p g g.next
+        pub end_other : b ≡ false → EndBy far p g (Some g.next)
         end_other t rom length wide e = end_whole rom length wide e (fixed_so rom length wide e ∙ rw t refl)
 
 -- a place of a round: whether what stands there may
@@ -124,16 +121,16 @@ may_of rom x far cell p free =
 unfoldable pub free_of : List ℕ → Scope → ℕ → ℕ → ℕ → ℕ
 free_of rom x cell p free = elim (eqb cell 0) [ true ↦ free | false ↦ end_in p (read_of rom x.length x.wide false p) ]
 
-abbrev pub PassIs : List ℕ → Scope → ℕ → ℕ → ℕ → ℕ → ℕ → Type 0
+abbrev pub PassIs : List ℕ → Scope → ℕ → ℕ → ℕ → ℕ → Option ℕ → Type 0
 PassIs rom x far cell p free y = Ended (may_of rom x far cell p free) (free_of rom x cell p free) y
 
 module _ (rom : List ℕ) (x : Scope) (far cell p free : ℕ) where
   abbrev read : Read
   read = read_of rom x.length x.wide false p
 
-  pub pass_none : free ≢ 0 → cell ≡ 0 → PassIs rom x far cell p free free
+  pub pass_none : cell ≡ 0 → PassIs rom x far cell p free (Some free)
   unfolding may_of free_of
-  pass_none n z = ended_at (when_true _ _ (eqb cell 0) (eq-eqb _ _ z)) (when_true _ _ (eqb cell 0) (eq-eqb _ _ z)) n
+  pass_none z = ended_at (when_true _ _ (eqb cell 0) (eq-eqb _ _ z)) (when_true _ _ (eqb cell 0) (eq-eqb _ _ z))
 
   module _ (z : cell ≡ 0 → ⊥) where
     may_is : may_of rom x far cell p free ≡ (leb free p && highest_in far p read)
@@ -144,25 +141,25 @@ module _ (rom : List ℕ) (x : Scope) (far cell p free : ℕ) where
     unfolding free_of
     free_is = when_false _ _ (eqb cell 0) (ne_eqb _ _ z)
 
-    pub pass_early : p < free → PassIs rom x far cell p free 0
+    pub pass_early : p < free → PassIs rom x far cell p free None
     pass_early l = ended_not _ (rw (may_is, lt-leb _ _ l) refl)
 
     module _ (l : free ≤ p) where
-      pass_met : (y : ℕ) → Ended (highest_in far p read) (end_in p read) y → PassIs rom x far cell p free y
+      pass_met : (y : Option ℕ) → Ended (highest_in far p read) (end_in p read) y → PassIs rom x far cell p free y
       pass_met y k =
           let m : may_of rom x far cell p free ≡ highest_in far p read = rw (may_is, le-leb _ _ l) refl in
-          record { barred = λ n. m ∙ k.barred n; stands = λ n. let s = k.stands n in (m ∙ s.0, free_is ∙ s.1) }
+          record { barred = λ n. m ∙ k.barred n; stands = λ q n. let s = k.stands q n in (m ∙ s.0, free_is ∙ s.1) }
 
-      pub pass_past : x.length ≤ p → PassIs rom x far cell p free (p + 1)
-      pass_past n = pass_met (p + 1) (end_refused far p read 10 (none_starts rom x.length x.wide false p n))
+      pub pass_past : x.length ≤ p → PassIs rom x far cell p free (Some (p + 1))
+      pass_past n = pass_met (Some (p + 1)) (end_refused far p read 10 (none_starts rom x.length x.wide false p n))
 
-      pub pass_quick : (q : Quick) → (q.next ≡ 0 → ⊥) → QuickRead rom x.length p q → PassIs rom x far cell p free q.next
-      pass_quick q n k =
+      pub pass_quick : (q : Quick) → QuickRead rom x.length p q → PassIs rom x far cell p free (Some q.next)
+      pass_quick q k =
           let r = k.read x.wide false in
           let f : family_in r.0.code ≡ plain = rw r.2 k.plainly in
-          pass_met q.next (ended_at (rw (r.1, f) (or-true (eqb p far))) (rw r.1 r.3) n)
+          pass_met (Some q.next) (ended_at (rw (r.1, f) (or-true (eqb p far))) (rw r.1 r.3))
 
-      pub pass_glance : (g : Glance) → g ≡ glance_of rom x.length x.wide p → (y : ℕ) → EndBy far p g y
+      pub pass_glance : (g : Glance) → g ≡ glance_of rom x.length x.wide p → (y : Option ℕ) → EndBy far p g y
           → PassIs rom x far cell p free y
       pass_glance g e y k = pass_met y (k rom x.length x.wide (sym e))
 
@@ -206,23 +203,31 @@ module _ (rom : List ℕ) (x : Scope) (seen : List ℕ) (far : ℕ) where
   apart_spent zero p free e = refl
   apart_spent (suc k) p free e = absurd (omega arith)
 
-  pub apart_fails : (k p free cell y : ℕ) → 0 < k → cell ≡ get_or seen p 0 → PassIs rom x far cell p free y → y ≡ 0
+  pub apart_fails : (k p free cell : ℕ) (y : Option ℕ) → 0 < k → cell ≡ get_or seen p 0 → PassIs rom x far cell p free y → y ≡ None
       → apart_of rom x seen far k p free ≡ false
   apart_fails zero p free cell y h d i g = absurd (omega arith)
   apart_fails (suc k) p free cell y h d i g =
       let j = rw d at i in
       apart_is k p free ∙ when_false _ _ (may_of rom x far (get_or seen p 0) p free) (j.barred g)
 
-  pub apart_turn : (k p free cell y : ℕ) → 0 < k → cell ≡ get_or seen p 0 → PassIs rom x far cell p free y → (y ≡ 0 → ⊥)
-      → apart_of rom x seen far (k - 1) (p + 1) y ≡ apart_of rom x seen far k p free
-  apart_turn zero p free cell y h d i g = absurd (omega arith)
-  apart_turn (suc k) p free cell y h d i g =
+  apart_turn : (k p free cell : ℕ) (y : Option ℕ) (q : ℕ) → 0 < k → cell ≡ get_or seen p 0 → PassIs rom x far cell p free y → y ≡ Some q
+      → apart_of rom x seen far (k - 1) (p + 1) q ≡ apart_of rom x seen far k p free
+  apart_turn zero p free cell y q h d i g = absurd (omega arith)
+  apart_turn (suc k) p free cell y q h d i g =
       let z : suc k - 1 ≡ k = omega arith in
       let j = rw d at i in
-      let s = j.stands g in
+      let s = j.stands q g in
       rw (z, add-one)
       (sym (apart_is k p free ∙ when_true _ _ (may_of rom x far (get_or seen p 0) p free) s.0
       ∙ ap (λ (f : ℕ). apart_of rom x seen far k (suc p) f) s.1))
+
+  -- the places from one to the last, and those behind it
+  pub apart_on : (end p free cell : ℕ) (y : Option ℕ) (q : ℕ) → p < end → cell ≡ get_or seen p 0 → PassIs rom x far cell p free y
+      → y ≡ Some q
+      → apart_of rom x seen far (end - (p + 1)) (p + 1) q ≡ apart_of rom x seen far (end - p) p free
+  apart_on end p free cell y q h d i g =
+      let z : end - (p + 1) ≡ end - p - 1 = omega arith in
+      rw z (apart_turn (end - p) p free cell y q (omega arith) d i g)
 
 -- ---- where a round starts
 pub record StandFits (s : Stand) : Type 0 where
@@ -265,37 +270,38 @@ defining rom length wide within p t e =
 
 -- ---- a token that ended a round
 -- it stands or not, and what it leaves: the same as the definition where it stands
-pub record NodeIs (m : Board → RoundEnd) (s : Stand) (r : Turned) : Type 0 where
-  pub same : (b : Board) → (m b).good ≡ r.good
-  pub whole : r.good ≡ true → (b : Board) → (m b).board ≡ on_stand b r.stand
-  pub standing : r.good ≡ true → StandFits r.stand
-  pub cell : r.good ≡ true → r.stand.cell ≡ s.cell
+pub record NodeStands (m : Board → RoundEnd) (s next : Stand) : Type 0 where
+  pub same : (b : Board) → (m b).good ≡ true
+  pub whole : (b : Board) → (m b).board ≡ on_stand b next
+  pub standing : StandFits next
+  pub cell : next.cell ≡ s.cell
 
-pub record TurnIs (m : RoundEnd) (seen : List ℕ) (most : ℕ) (r : Turned) (seen' kinds' sums' : List ℕ) : Type 0 where
-  pub same : m.good ≡ r.good
-  pub whole : r.good ≡ true → m.board ≡ board seen' kinds' sums' r.stand
-  pub keeps : r.good ≡ true → (b : ℕ) → 65536 ≤ b → Bounded b seen → Bounded (b + data_most) seen'
-  pub standing : r.good ≡ true → StandFits r.stand
-  pub cell : r.good ≡ true → r.stand.cell ≤ most
+abbrev pub NodeIs : (Board → RoundEnd) → Stand → Option Stand → Type 0
+NodeIs m s None = (b : Board) → (m b).good ≡ false
+NodeIs m s (Some next) = NodeStands m s next
 
-pub turn_fails : (m : RoundEnd) (seen : List ℕ) (most : ℕ) (r : Turned) (seen' kinds' sums' : List ℕ) → m.good ≡ false → r.good ≡ false
-    → TurnIs m seen most r seen' kinds' sums'
-turn_fails m seen most r seen' kinds' sums' f e =
-    record {
-      same = f ∙ sym e;
-      whole = λ g. off_on (sym e ∙ g);
-      keeps = λ g. off_on (sym e ∙ g);
-      standing = λ g. off_on (sym e ∙ g);
-      cell = λ g. off_on (sym e ∙ g);
-    }
+pub record TurnStands (m : RoundEnd) (seen : List ℕ) (most : ℕ) (next : Stand) (seen' kinds' sums' : List ℕ) : Type 0 where
+  pub same : m.good ≡ true
+  pub whole : m.board ≡ board seen' kinds' sums' next
+  pub keeps : (b : ℕ) → 65536 ≤ b → Bounded b seen → Bounded (b + data_most) seen'
+  pub standing : StandFits next
+  pub cell : next.cell ≤ most
+
+abbrev pub TurnIs : RoundEnd → List ℕ → ℕ → Option Stand → List ℕ → List ℕ → List ℕ → Type 0
+TurnIs m seen most None seen' kinds' sums' = m.good ≡ false
+TurnIs m seen most (Some next) seen' kinds' sums' = TurnStands m seen most next seen' kinds' sums'
 
 -- ---- rounds
 -- the cells of a round matter only where it is good
-pub record RoundIs (rom : List ℕ) (length : ℕ) (b : Board) (r : Round) (seen' : List ℕ) : Type 0 where
-  pub good : r.good ≡ round_good rom length b (round_of rom length b)
-  pub seen : r.good ≡ true → seen' ≡ (round_of rom length b).seen
-  pub far : r.good ≡ true → r.far ≡ (round_of rom length b).walk.far
-  pub keeps : r.good ≡ true → (m : ℕ) → 65536 ≤ m → b.stand.cell ≤ m → Bounded m b.seen → Bounded m seen'
+pub record RoundGood (rom : List ℕ) (length : ℕ) (b : Board) (far : ℕ) (seen' : List ℕ) : Type 0 where
+  pub good : round_good rom length b (round_of rom length b) ≡ true
+  pub seen : seen' ≡ (round_of rom length b).seen
+  pub reached : far ≡ (round_of rom length b).walk.far
+  pub keeps : (m : ℕ) → 65536 ≤ m → b.stand.cell ≤ m → Bounded m b.seen → Bounded m seen'
+
+abbrev pub RoundIs : List ℕ → ℕ → Board → Option ℕ → List ℕ → Type 0
+RoundIs rom length b None seen' = round_good rom length b (round_of rom length b) ≡ false
+RoundIs rom length b (Some far) seen' = RoundGood rom length b far seen'
 
 -- what comes behind a round whose highest place is known
 abbrev pub behind : List ℕ → ℕ → Board → ℕ → (Board → RoundEnd) → RoundEnd
@@ -324,60 +330,49 @@ pub record PassedIs (m : RoundEnd) (good : Bool) (seen' : List ℕ) : Type 0 whe
   pub whole : good ≡ true → m.board.seen ≡ seen'
 
 -- ---- nodes
-pub node_fails : (m : Board → RoundEnd) (s : Stand) (r : Turned) → ((b : Board) → (m b).good ≡ false) → r.good ≡ false → NodeIs m s r
-node_fails m s r f e =
-    record {
-      same = λ b. f b ∙ sym e;
-      whole = λ g. off_on (sym e ∙ g);
-      standing = λ g. off_on (sym e ∙ g);
-      cell = λ g. off_on (sym e ∙ g);
-    }
-
-abbrev pub stood : Stand → Turned
-stood s = record { good = true; stand = s }
-
 pub node_new : (s : Stand) → s.nodes < nodes_most → StandFits s
-    → NodeIs (λ b. new_node b s) s (stood (with_nodes s (s.children + 1) (s.nodes + 1)))
+    → NodeStands (λ b. new_node b s) s (with_nodes s (s.children + 1) (s.nodes + 1))
 node_new s h k =
     record {
       same = λ b. lt-ltb _ _ h;
-      whole = λ g b. simp add-one;
-      standing = λ g. record {
+      whole = λ b. simp add-one;
+      standing = record {
         start = k.start;
         some = k.some;
         real = k.real;
         children = let c = k.children in omega arith;
         nodes = omega arith;
       };
-      cell = λ g. refl;
+      cell = refl;
     }
 
 pub node_closed : (s : Stand) → (s.children ≡ 0 → ⊥) → StandFits s
-    → NodeIs (λ b. closed_node b s) s (stood (with_nodes s (s.children - 1) s.nodes))
+    → NodeStands (λ b. closed_node b s) s (with_nodes s (s.children - 1) s.nodes)
 node_closed s h k =
     record {
       same = λ b. rw (ne_eqb _ _ h) refl;
-      whole = λ g b. refl;
-      standing = λ g. record {
+      whole = λ b. refl;
+      standing = record {
         start = k.start;
         some = k.some;
         real = k.real;
         children = let c = k.children in omega arith;
         nodes = k.nodes;
       };
-      cell = λ g. refl;
+      cell = refl;
     }
 
-node_turn : (m : Board → RoundEnd) (s : Stand) (r : Turned) (most : ℕ) (seen kinds sums : List ℕ) (st : Stand) → s.cell ≤ most
+node_turn : (m : Board → RoundEnd) (s : Stand) (r : Option Stand) (most : ℕ) (seen kinds sums : List ℕ) (st : Stand) → s.cell ≤ most
     → NodeIs m s r
     → TurnIs (m (board seen kinds sums st)) seen most r seen kinds sums
-node_turn m s r most seen kinds sums st l k =
+node_turn m s None most seen kinds sums st l k = k (board seen kinds sums st)
+node_turn m s (Some next) most seen kinds sums st l k =
     record {
       same = k.same (board seen kinds sums st);
-      whole = λ g. k.whole g (board seen kinds sums st);
-      keeps = λ g b h d. bounded_more b (b + data_most) seen (omega arith) d;
+      whole = k.whole (board seen kinds sums st);
+      keeps = λ b h d. bounded_more b (b + data_most) seen (omega arith) d;
       standing = k.standing;
-      cell = λ g. rw (k.cell g) l;
+      cell = rw k.cell l;
     }
 
 -- ---- behind the token that ended a round
@@ -404,22 +399,22 @@ moved_standing s t cell length d l k =
 -- ---- b(:)
 module _ (rom : List ℕ) (length : ℕ) (seen kinds sums : List ℕ) (s : Stand) (n entry : ℕ) where
   pub turn_colon : (r : Survey) (seen₁ : List ℕ) (seen₂ kinds₂ sums₂ : List ℕ) (sum : Sum) (next : Stand) (st : Stand)
-      → SurveyIs rom length kinds sums seen s entry r seen₁ → r.good ≡ true
+      → SurveyGood rom length kinds sums seen s entry r seen₁
       → seen₂ ≡ shift_of r.tally.need (places entry r.end) entry seen₁ → kinds₂ ≡ set kinds (slot n) 0xB7
       → sums₂ ≡ set sums (slot n) (packed_sum sum)
       → sum ≡ sum_told (tally_in r.tally) → next ≡ with_count s (r.end + 1) (suc s.count) → StandFits s → length ≤ rom_most
-      → TurnIs (colon_of rom length (board seen kinds sums st) s n entry) seen s.cell (stood next) seen₂ kinds₂ sums₂
-  turn_colon r seen₁ seen₂ kinds₂ sums₂ sum next st k g e₁ e₂ e₃ e₄ e₅ d l =
-      let a = k.accepts g st n in
-      let i = k.inside g in
+      → TurnStands (colon_of rom length (board seen kinds sums st) s n entry) seen s.cell next seen₂ kinds₂ sums₂
+  turn_colon r seen₁ seen₂ kinds₂ sums₂ sum next st k e₁ e₂ e₃ e₄ e₅ d l =
+      let a = k.accepts st n in
+      let i = k.inside in
       record {
         same = ap (λ (m : RoundEnd). m.good) a;
-        whole = λ q. ap (λ (m : RoundEnd). m.board) a ∙ rw (e₁, e₂, e₃, e₄, e₅, add-one) refl;
-        keeps = λ q b h y. rw e₁ (bounded_shift r.tally.need b (places entry r.end) entry seen₁ (k.fits g) (k.bounded g b h y));
+        whole = ap (λ (m : RoundEnd). m.board) a ∙ rw (e₁, e₂, e₃, e₄, e₅, add-one) refl;
+        keeps = λ b h y. rw e₁ (bounded_shift r.tally.need b (places entry r.end) entry seen₁ k.fits (k.bounded b h y));
         standing =
-            λ q. rw e₅
+            rw e₅
             (record { start = omega arith; some = λ z. omega arith; real = d.real; children = d.children; nodes = d.nodes });
-        cell = λ q. rw e₅ (omega arith);
+        cell = rw e₅ (omega arith);
       }
 
 -- ---- a defining token
@@ -464,16 +459,16 @@ pub turn_value : (rom : List ℕ) (length : ℕ) (seen kinds sums : List ℕ) (s
     → kinds₂ ≡ set kinds (slot n) k → sums₂ ≡ set sums (slot n) (packed_sum value_sum) → next ≡ with_count s t.next (suc s.count)
     → StandFits s
     → DefinesWithin length t → length ≤ rom_most
-    → TurnIs (define_of rom length (board seen kinds sums st) s t) seen s.cell (stood next) seen kinds₂ sums₂
+    → TurnStands (define_of rom length (board seen kinds sums st) s t) seen s.cell next seen kinds₂ sums₂
 turn_value rom length seen kinds sums st s t n k kinds₂ sums₂ next e f h q e₂ e₃ e₅ d i j =
     let a = define_value rom length (board seen kinds sums st) s t n k e f h q in
     let l = i.next in
     record {
       same = ap (λ (m : RoundEnd). m.good) a;
-      whole = λ g. ap (λ (m : RoundEnd). m.board) a ∙ rw (e₂, e₃, e₅) refl;
-      keeps = λ g b h d. bounded_more b (b + data_most) seen (omega arith) d;
-      standing = λ g. rw e₅ (record { start = omega arith; some = i.ahead; real = d.real; children = d.children; nodes = d.nodes });
-      cell = λ g. rw e₅ (omega arith);
+      whole = ap (λ (m : RoundEnd). m.board) a ∙ rw (e₂, e₃, e₅) refl;
+      keeps = λ b h d. bounded_more b (b + data_most) seen (omega arith) d;
+      standing = rw e₅ (record { start = omega arith; some = i.ahead; real = d.real; children = d.children; nodes = d.nodes });
+      cell = rw e₅ (omega arith);
     }
 
 -- ---- the token is carried out
@@ -485,18 +480,19 @@ module _ (rom : List ℕ) (length : ℕ) (seen kinds sums : List ℕ) (stand : S
   cell_so : s.cell ≤ cell + 1
   cell_so = rw e (stood_cell stand t cell)
 
-  more : (m : RoundEnd) (r : Turned) (seen' kinds' sums' : List ℕ) → TurnIs m seen s.cell r seen' kinds' sums'
+  more : (m : RoundEnd) (r : Option Stand) (seen' kinds' sums' : List ℕ) → TurnIs m seen s.cell r seen' kinds' sums'
       → TurnIs m seen (cell + 1) r seen' kinds' sums'
-  more m r seen' kinds' sums' k =
+  more m None seen' kinds' sums' k = k
+  more m (Some next) seen' kinds' sums' k =
       record {
         same = k.same;
         whole = k.whole;
         keeps = k.keeps;
         standing = k.standing;
-        cell = λ g. let c = k.cell g in let d = cell_so in omega arith;
+        cell = let c = k.cell in let d = cell_so in omega arith;
       }
 
-  pub advance_define : (r : Turned) (seen' kinds' sums' : List ℕ) → is_a define t ≡ true
+  pub advance_define : (r : Option Stand) (seen' kinds' sums' : List ℕ) → is_a define t ≡ true
       → TurnIs (define_of rom length b s t) seen s.cell r seen' kinds' sums'
       → TurnIs (advance_of rom length b cell t) seen (cell + 1) r seen' kinds' sums'
   unfolding advance_of
@@ -504,7 +500,7 @@ module _ (rom : List ℕ) (length : ℕ) (seen kinds sums : List ℕ) (stand : S
       rw (when_true (define_of rom length b (stood_on stand t cell) t) _ (is_a define t) d)
       (subst (λ (z : Stand). TurnIs (define_of rom length b z t) seen (cell + 1) r seen' kinds' sums') e (more _ r seen' kinds' sums' k))
 
-  pub advance_new : (r : Turned) → is_a define t ≡ false → is_a new_device t ≡ true → NodeIs (λ y. new_node y s) s r
+  pub advance_new : (r : Option Stand) → is_a define t ≡ false → is_a new_device t ≡ true → NodeIs (λ y. new_node y s) s r
       → TurnIs (advance_of rom length b cell t) seen (cell + 1) r seen kinds sums
   unfolding advance_of
   advance_new r d n k =
@@ -515,9 +511,9 @@ module _ (rom : List ℕ) (length : ℕ) (seen kinds sums : List ℕ) (stand : S
       (subst (λ (z : Stand). TurnIs (new_node b z) seen (cell + 1) r seen kinds sums) e
       (node_turn (λ y. new_node y s) s r (cell + 1) seen kinds sums stand cell_so k))
 
-  wide_is : NodeIs (λ y. round_end true (on_stand y s)) s (stood s) → is_a define t ≡ false → is_a new_device t ≡ false
+  wide_is : NodeStands (λ y. round_end true (on_stand y s)) s s → is_a define t ≡ false → is_a new_device t ≡ false
       → is_a widen t ≡ true
-      → TurnIs (advance_of rom length b cell t) seen (cell + 1) (stood s) seen kinds sums
+      → TurnStands (advance_of rom length b cell t) seen (cell + 1) s seen kinds sums
   unfolding advance_of
   wide_is k d n w =
       rw (
@@ -525,14 +521,14 @@ module _ (rom : List ℕ) (length : ℕ) (seen kinds sums : List ℕ) (stand : S
         when_false (new_node b (stood_on stand t cell)) _ (is_a new_device t) n,
         when_true (round_end true (on_stand b (stood_on stand t cell))) _ (is_a widen t) w,
       )
-      (subst (λ (z : Stand). TurnIs (round_end true (on_stand b z)) seen (cell + 1) (stood s) seen kinds sums) e
-      (node_turn (λ y. round_end true (on_stand y s)) s (stood s) (cell + 1) seen kinds sums stand cell_so k))
+      (subst (λ (z : Stand). TurnStands (round_end true (on_stand b z)) seen (cell + 1) s seen kinds sums) e
+      (node_turn (λ y. round_end true (on_stand y s)) s (Some s) (cell + 1) seen kinds sums stand cell_so k))
 
   pub advance_wide : StandFits s → is_a define t ≡ false → is_a new_device t ≡ false → is_a widen t ≡ true
-      → TurnIs (advance_of rom length b cell t) seen (cell + 1) (stood s) seen kinds sums
-  advance_wide k d n w = wide_is (record { same = λ y. refl; whole = λ g y. refl; standing = λ g. k; cell = λ g. refl }) d n w
+      → TurnStands (advance_of rom length b cell t) seen (cell + 1) s seen kinds sums
+  advance_wide k d n w = wide_is (record { same = λ y. refl; whole = λ y. refl; standing = k; cell = refl }) d n w
 
-  pub advance_close : (r : Turned) → is_a define t ≡ false → is_a new_device t ≡ false → is_a widen t ≡ false
+  pub advance_close : (r : Option Stand) → is_a define t ≡ false → is_a new_device t ≡ false → is_a widen t ≡ false
       → NodeIs (λ y. closed_node y s) s r
       → TurnIs (advance_of rom length b cell t) seen (cell + 1) r seen kinds sums
   unfolding advance_of
@@ -564,28 +560,26 @@ module _ (rom : List ℕ) (length : ℕ) (seen kinds sums : List ℕ) (s : Stand
   acted t cell e f d go = rw (e, d) (when_true _ (round_end true here) (fixes t) f)
 
   module _ (t : Token) (cell : ℕ) (e : read_of rom length s.wide false far ≡ Good t) (f : fixes t ≡ true) (d : cell ≡ get_or seen far 0)
-      (r : Turned) (seen' kinds' sums' : List ℕ)
-      (k : TurnIs (advance_of rom length (board seen kinds sums s) cell t) seen (cell + 1) r seen' kinds' sums') where
-    pub behind_fails : r.good ≡ false → (go : Board → RoundEnd) → (behind rom length (board seen kinds sums s) far go).good ≡ false
-    behind_fails g go =
-        let q = k.same ∙ g in
-        ap (λ (m : RoundEnd). m.good) (acted t cell e f d go ∙ when_false _ _ (advance_of rom length here cell t).good q) ∙ q
+    where
+      pub behind_fails : (advance_of rom length (board seen kinds sums s) cell t).good ≡ false → (go : Board → RoundEnd)
+          → (behind rom length (board seen kinds sums s) far go).good ≡ false
+      behind_fails q go =
+          ap (λ (m : RoundEnd). m.good) (acted t cell e f d go ∙ when_false _ _ (advance_of rom length here cell t).good q) ∙ q
 
-    pub behind_goes : r.good ≡ true → GoesIs rom length seen kinds sums s far seen' kinds' sums' r.stand
-    behind_goes g =
-        let q = k.same ∙ g in
-        record {
-          goes = λ go.
-              acted t cell e f d go ∙ when_true _ _ (advance_of rom length here cell t).good q ∙ ap (λ (y : Board). go y) (k.whole g);
-          keeps = k.keeps g;
-          standing = k.standing g;
-          cell = rw (← d) (k.cell g);
-        }
+      pub behind_goes : (next : Stand) (seen' kinds' sums' : List ℕ)
+          → TurnStands (advance_of rom length (board seen kinds sums s) cell t) seen (cell + 1) next seen' kinds' sums'
+          → GoesIs rom length seen kinds sums s far seen' kinds' sums' next
+      behind_goes next seen' kinds' sums' k =
+          record {
+            goes = λ go.
+                acted t cell e f d go ∙ when_true _ _ (advance_of rom length here cell t).good k.same ∙ ap (λ (y : Board). go y) k.whole;
+            keeps = k.keeps;
+            standing = k.standing;
+            cell = rw (← d) k.cell;
+          }
 
 -- ---- a round
-module _ (rom : List ℕ) (length : ℕ) (seen kinds sums : List ℕ) (s : Stand) (x : Scope) (f : x ≡ outside_text length s) (w : Walked)
-    (seen' : List ℕ)
-    (k : WalkIs rom x kinds sums seen s.start s.cell w seen') where
+module _ (rom : List ℕ) (length : ℕ) (seen kinds sums : List ℕ) (s : Stand) (x : Scope) (f : x ≡ outside_text length s) where
   abbrev on : Board
   on = board seen kinds sums s
 
@@ -593,37 +587,42 @@ module _ (rom : List ℕ) (length : ℕ) (seen kinds sums : List ℕ) (s : Stand
   unfolding round_of
   round_so = ap (λ (y : Scope). walk_all rom y kinds sums seen s.start s.cell) f
 
-  pub round_lost : w.good ≡ false → RoundIs rom length (board seen kinds sums s) (record { good = false; far = w.far }) seen'
+  pub round_lost : (walk_all rom x kinds sums seen s.start s.cell).walk.good ≡ false
+      → round_good rom length (board seen kinds sums s) (round_of rom length (board seen kinds sums s)) ≡ false
   round_lost l =
-      let d : (round_of rom length on).walk.good ≡ false = ap (λ (a : Path). a.walk.good) (sym round_so) ∙ sym k.good ∙ l in
-      record {
-        good = rw d refl;
-        seen = λ g. off_on g;
-        far = λ g. off_on g;
-        keeps = λ g. off_on g;
-      }
+      let d : (round_of rom length on).walk.good ≡ false = ap (λ (a : Path). a.walk.good) (sym round_so) ∙ l in
+      rw d refl
 
-  module _ (l : w.good ≡ true) (short : length ≤ rom_most) (start : s.start ≤ rom_most) where
+  module _ (w : Walked) (seen' : List ℕ) (k : EndsWell (walk_all rom x kinds sums seen s.start s.cell) w seen') (short : length ≤ rom_most)
+      (start : s.start ≤ rom_most) where
     kept_so : (m : ℕ) → 65536 ≤ m → s.cell ≤ m → Bounded m seen → WalkKept m w seen'
-    kept_so m h c e = walked_kept m h rom kinds x sums seen s.start s.cell w seen' (rw f short) start c k l e
+    kept_so m h c e = walked_kept m h rom kinds x sums seen s.start s.cell w seen' (rw f short) start c k e
 
     -- the highest place is no farther than the longest ROM
     pub round_far : (m : ℕ) → 65536 ≤ m → s.cell ≤ m → Bounded m seen → w.far ≤ rom_most
     round_far m h c e = (kept_so m h c e).far
 
-    pub round_walked : (count : ℕ) (good : Bool) → count ≡ w.far + 1 - s.start → good ≡ apart_of rom x seen' w.far count s.start 0
-        → RoundIs rom length (board seen kinds sums s) (record { good = good; far = w.far }) seen'
-    round_walked count good c g =
-        let z : count ≡ suc w.far - s.start = omega arith in
-        let d : (round_of rom length on).walk.good ≡ true = ap (λ (a : Path). a.walk.good) (sym round_so) ∙ sym k.good ∙ l in
-        let e : seen' ≡ (round_of rom length on).seen = k.seen l ∙ ap (λ (a : Path). a.seen) round_so in
-        let h : w.far ≡ (round_of rom length on).walk.far = k.far l ∙ ap (λ (a : Path). a.walk.far) round_so in
-        record {
-          good = g ∙ rw (f, z, e, h, d) refl;
-          seen = λ q. e;
-          far = λ q. h;
-          keeps = λ q m a b y. (kept_so m a b y).seen;
-        }
+    walked_seen : seen' ≡ (round_of rom length on).seen
+    walked_seen = k.seen ∙ ap (λ (a : Path). a.seen) round_so
+
+    walked_far : w.far ≡ (round_of rom length on).walk.far
+    walked_far = k.far ∙ ap (λ (a : Path). a.walk.far) round_so
+
+    module _ (good : Bool) (g : good ≡ apart_of rom x seen' w.far (w.far + 1 - s.start) s.start 0) where
+      good_so : good ≡ round_good rom length on (round_of rom length on)
+      good_so =
+          let z : w.far + 1 - s.start ≡ suc w.far - s.start = omega arith in
+          let d : (round_of rom length on).walk.good ≡ true = ap (λ (a : Path). a.walk.good) (sym round_so) ∙ k.good in
+          g ∙ rw (f, z, walked_seen, walked_far, d) refl
+
+      -- two tokens overlap, or not
+      pub round_overlaps : good ≡ false
+          → round_good rom length (board seen kinds sums s) (round_of rom length (board seen kinds sums s)) ≡ false
+      round_overlaps e = sym good_so ∙ e
+
+      pub round_walked : good ≡ true → RoundGood rom length (board seen kinds sums s) w.far seen'
+      round_walked e =
+          record { good = sym good_so ∙ e; seen = walked_seen; reached = walked_far; keeps = λ m a b y. (kept_so m a b y).seen }
 
 -- ---- all rounds
 module _ (rom : List ℕ) (length : ℕ) where
@@ -647,42 +646,42 @@ module _ (rom : List ℕ) (length : ℕ) where
   rounds_spent zero b e = refl
   rounds_spent (suc k) b e = absurd (omega arith)
 
-  module _ (k : ℕ) (seen kinds sums : List ℕ) (s : Stand) (r : Round) (seen' : List ℕ) (h : 0 < k)
-      (i : RoundIs rom length (board seen kinds sums s) r seen') where
+  module _ (k : ℕ) (seen kinds sums : List ℕ) (s : Stand) (h : 0 < k) where
     abbrev was : Board
     was = board seen kinds sums s
 
-    pub rounds_lost : r.good ≡ false → (rounds_of rom length k (board seen kinds sums s)).good ≡ false
+    pub rounds_lost : round_good rom length (board seen kinds sums s) (round_of rom length (board seen kinds sums s)) ≡ false
+        → (rounds_of rom length k (board seen kinds sums s)).good ≡ false
     rounds_lost g =
-        ap (λ (m : RoundEnd). m.good) (rounds_are k was h ∙ when_false _ _ (round_good rom length was (round_of rom length was))
-        (sym i.good ∙ g))
+        ap (λ (m : RoundEnd). m.good)
+        (rounds_are k was h ∙ when_false _ _ (round_good rom length was (round_of rom length was)) g)
 
-    rounds_on : r.good ≡ true → rounds_of rom length k (board seen kinds sums s)
-        ≡ behind rom length (board seen' kinds sums s) r.far (λ y. rounds_of rom length (k - 1) y)
-    rounds_on g =
-        rounds_are k was h
-        ∙ when_true _ _ (round_good rom length was (round_of rom length was)) (sym i.good ∙ g)
-        ∙ rw (i.seen g, i.far g) refl
+    module _ (far : ℕ) (seen' : List ℕ) (i : RoundGood rom length (board seen kinds sums s) far seen') (seen₂ kinds₂ sums₂ : List ℕ)
+        (a : After) (y : AfterIs rom length seen' kinds sums s far seen₂ kinds₂ sums₂ a) where
+      rounds_on : rounds_of rom length k (board seen kinds sums s)
+          ≡ behind rom length (board seen' kinds sums s) far (λ y. rounds_of rom length (k - 1) y)
+      rounds_on =
+          rounds_are k was h
+          ∙ when_true _ _ (round_good rom length was (round_of rom length was)) i.good
+          ∙ rw (i.seen, i.reached) refl
 
-    module _ (g : r.good ≡ true) (seen₂ kinds₂ sums₂ : List ℕ) (a : After)
-        (y : AfterIs rom length seen' kinds sums s r.far seen₂ kinds₂ sums₂ a) where
       pub rounds_fails : a ≡ Fails → (rounds_of rom length k (board seen kinds sums s)).good ≡ false
       rounds_fails e =
-          let z = subst (AfterIs rom length seen' kinds sums s r.far seen₂ kinds₂ sums₂) e y in
-          ap (λ (m : RoundEnd). m.good) (rounds_on g) ∙ z (λ t. rounds_of rom length (k - 1) t)
+          let z = subst (AfterIs rom length seen' kinds sums s far seen₂ kinds₂ sums₂) e y in
+          ap (λ (m : RoundEnd). m.good) rounds_on ∙ z (λ t. rounds_of rom length (k - 1) t)
 
       pub rounds_end : a ≡ Ends → PassedIs (rounds_of rom length k (board seen kinds sums s)) true seen₂
       rounds_end e =
-          let z = subst (AfterIs rom length seen' kinds sums s r.far seen₂ kinds₂ sums₂) e y in
-          let q = rounds_on g ∙ z.0 (λ t. rounds_of rom length (k - 1) t) in
+          let z = subst (AfterIs rom length seen' kinds sums s far seen₂ kinds₂ sums₂) e y in
+          let q = rounds_on ∙ z.0 (λ t. rounds_of rom length (k - 1) t) in
           record { same = ap (λ (m : RoundEnd). m.good) q; whole = λ v. ap (λ (m : RoundEnd). m.board.seen) q ∙ sym z.1 }
 
-      pub rounds_goes : (next : Stand) → a ≡ Goes next → GoesIs rom length seen' kinds sums s r.far seen₂ kinds₂ sums₂ next
-      rounds_goes next e = subst (AfterIs rom length seen' kinds sums s r.far seen₂ kinds₂ sums₂) e y
+      pub rounds_goes : (next : Stand) → a ≡ Goes next → GoesIs rom length seen' kinds sums s far seen₂ kinds₂ sums₂ next
+      rounds_goes next e = subst (AfterIs rom length seen' kinds sums s far seen₂ kinds₂ sums₂) e y
 
       pub rounds_turn : (next : Stand) → a ≡ Goes next
           → rounds_of rom length (k - 1) (board seen₂ kinds₂ sums₂ next) ≡ rounds_of rom length k (board seen kinds sums s)
-      rounds_turn next e = sym (rounds_on g ∙ (rounds_goes next e).goes (λ t. rounds_of rom length (k - 1) t))
+      rounds_turn next e = sym (rounds_on ∙ (rounds_goes next e).goes (λ t. rounds_of rom length (k - 1) t))
 
 pub passed_so : (m n : RoundEnd) (good : Bool) (seen' : List ℕ) → m ≡ n → PassedIs m good seen' → PassedIs n good seen'
 passed_so m n good seen' e k = rw (← e) k
@@ -706,20 +705,20 @@ going_cell left seen s g = let c = g.cell in omega arith
 pub going_seen : (left : ℕ) (seen : List ℕ) (s : Stand) → Going left seen s → Bounded 0x1000_0000 seen
 going_seen left seen s g = bounded_more (highest left) 0x1000_0000 seen (omega arith) g.low
 
-module _ (rom : List ℕ) (length left : ℕ) (seen kinds sums : List ℕ) (s : Stand) (r : Round) (seen₁ : List ℕ) (g : Going left seen s)
-    (i : RoundIs rom length (board seen kinds sums s) r seen₁) (y : r.good ≡ true) where
+module _ (rom : List ℕ) (length left : ℕ) (seen kinds sums : List ℕ) (s : Stand) (far : ℕ) (seen₁ : List ℕ) (g : Going left seen s)
+    (i : RoundGood rom length (board seen kinds sums s) far seen₁) where
   round_seen : Bounded (highest left) seen₁
-  round_seen = i.keeps y (highest left) (omega arith) g.cell g.low
+  round_seen = i.keeps (highest left) (omega arith) g.cell g.low
 
   pub round_bounded : Bounded 0x1000_0000 seen₁
   round_bounded = bounded_more (highest left) 0x1000_0000 seen₁ (omega arith) round_seen
 
   pub going_turn : (next : Stand) (seen₂ kinds₂ sums₂ : List ℕ) → 0 < left
-      → GoesIs rom length seen₁ kinds sums s r.far seen₂ kinds₂ sums₂ next → Going (left - 1) seen₂ next
+      → GoesIs rom length seen₁ kinds sums s far seen₂ kinds₂ sums₂ next → Going (left - 1) seen₂ next
   going_turn next seen₂ kinds₂ sums₂ h k =
       let f = g.few in
       let c = k.cell in
-      let d = round_seen.each r.far in
+      let d = round_seen.each far in
       record {
         standing = k.standing;
         few = omega arith;

@@ -1,6 +1,6 @@
 -- Where the code's walk is, and which path of the model that stands for. Assumes nothing.
 use Prim.Native.Nat.{ℕ, zero, suc, ◌+◌, ◌-◌, ◌≤◌, ◌<◌, max}
-use Rattle.std.specs.Prelude.{◌≡◌, Bool, ◌||◌, List, [], ◌∷◌, ◌≢◌, eqb, ltb, length, get_or, set}
+use Rattle.std.specs.Prelude.{◌≡◌, Bool, ◌||◌, List, [], ◌∷◌, ◌≢◌, eqb, ltb, length, get_or, set, Option, Some, None}
 use Rattle.std.proofs.Math.Path.{refl, sym, ap}
 use Rattle.std.proofs.Common.{◌∙◌, subst, get_or-set_same, get_or-set_other}
 use Rattle.std.proofs.Math.Bool.{true, false, not, or-true}
@@ -99,13 +99,17 @@ pub record SetOut (x : Scope) (seen work : List ℕ) (start cell : ℕ) : Type 0
   pub unlike : cell ≢ blank_of x.within
 
 -- how a walk ended: good where the model's is, and then with its cells, its highest place and its tally
-pub record EndsWith (a : Path) (r : Walked) (seen' : List ℕ) : Type 0 where
-  pub good : r.good ≡ a.walk.good
-  pub seen : r.good ≡ true → seen' ≡ a.seen
-  pub far : r.good ≡ true → r.far ≡ a.walk.far
-  pub tally : r.good ≡ true → tally_in r.tally ≡ a.walk.tally
+pub record EndsWell (a : Path) (w : Walked) (seen' : List ℕ) : Type 0 where
+  pub good : a.walk.good ≡ true
+  pub seen : seen' ≡ a.seen
+  pub far : w.far ≡ a.walk.far
+  pub tally : tally_in w.tally ≡ a.walk.tally
 
-abbrev pub WalkIs : List ℕ → Scope → List ℕ → List ℕ → List ℕ → ℕ → ℕ → Walked → List ℕ → Type 0
+abbrev pub EndsWith : Path → Option Walked → List ℕ → Type 0
+EndsWith a None seen' = a.walk.good ≡ false
+EndsWith a (Some w) seen' = EndsWell a w seen'
+
+abbrev pub WalkIs : List ℕ → Scope → List ℕ → List ℕ → List ℕ → ℕ → ℕ → Option Walked → List ℕ → Type 0
 WalkIs rom x kinds sums seen start cell r seen' = EndsWith (walk_all rom x kinds sums seen start cell) r seen'
 
 -- ---- the table of what waits
@@ -366,8 +370,8 @@ out_fit {x} {seen} o =
       held = λ z. absurd (z refl);
     }
 
-pub end_so : {a b : Path} {r : Walked} {seen : List ℕ} → a ≡ b → EndsWith a r seen → EndsWith b r seen
-end_so {a} {b} {r} {seen} e k = subst (λ (m : Path). EndsWith m r seen) e k
+pub end_so : {a b : Path} (r : Option Walked) (seen : List ℕ) → a ≡ b → EndsWith a r seen → EndsWith b r seen
+end_so {a} {b} r seen e k = subst (λ (m : Path). EndsWith m r seen) e k
 
 -- ---- the turns of a walk
 module _ (rom : List ℕ) (x : Scope) (kinds sums : List ℕ) where
@@ -418,18 +422,9 @@ module _ (rom : List ℕ) (x : Scope) (kinds sums : List ℕ) where
 
   module _ {last : Path} {left : ℕ} {seen work : List ℕ} {w : Way} {y : Tally} (k : Walks last left seen work w y) where
     -- ---- the ends of a walk
-    lost_is : (r : Walked) (seen' : List ℕ) → r.good ≡ false → last.walk.good ≡ false → EndsWith last r seen'
-    lost_is r seen' e f =
-        record {
-          good = e ∙ sym f;
-          seen = λ g. absurd (subst T (sym g ∙ e) tt);
-          far = λ g. absurd (subst T (sym g ∙ e) tt);
-          tally = λ g. absurd (subst T (sym g ∙ e) tt);
-        }
-
     -- it is spoilt
-    pub walks_lost : (r : Walked) (seen' : List ℕ) → r.good ≡ false → w.fine ≡ 0 → EndsWith last r seen'
-    walks_lost r seen' e z = lost_is r seen' e (k.lost z)
+    pub walks_lost : w.fine ≡ 0 → last.walk.good ≡ false
+    walks_lost z = k.lost z
 
     module _ (n : w.fine ≢ 0) where
       -- nothing waits
@@ -437,14 +432,14 @@ module _ (rom : List ℕ) (x : Scope) (kinds sums : List ℕ) where
       unfolding stack_of
       ended_so z = sym (walk_still left (path_of seen work w y) (rw (z, k.none n z, ne_eqb w.fine 0 n) refl)) ∙ k.going n
 
-      pub walks_ended : (r : Walked) → r.good ≡ true → r.far ≡ w.far → tally_in r.tally ≡ y → w.place ≡ 0 → EndsWith last r seen
-      walks_ended r g f t z =
+      pub walks_ended : (r : Walked) → r.far ≡ w.far → tally_in r.tally ≡ y → w.place ≡ 0 → EndsWell last r seen
+      walks_ended r f t z =
           let e = ended_so z in
           record {
-            good = g ∙ sym (ap (λ (m : Path). m.walk.good) (sym e) ∙ rw (ne_eqb w.fine 0 n) refl);
-            seen = λ h. ap (λ (m : Path). m.seen) e;
-            far = λ h. f ∙ ap (λ (m : Path). m.walk.far) e;
-            tally = λ h. t ∙ ap (λ (m : Path). m.walk.tally) e;
+            good = ap (λ (m : Path). m.walk.good) (sym e) ∙ rw (ne_eqb w.fine 0 n) refl;
+            seen = ap (λ (m : Path). m.seen) e;
+            far = f ∙ ap (λ (m : Path). m.walk.far) e;
+            tally = t ∙ ap (λ (m : Path). m.walk.tally) e;
           }
 
       module _ (p : w.place ≢ 0) where
@@ -452,10 +447,8 @@ module _ (rom : List ℕ) (x : Scope) (kinds sums : List ℕ) where
         on_way = rw (ne_eqb w.fine 0 n, ne_eqb w.place 0 p) refl
 
         -- there are no turns left
-        pub walks_spent : (r : Walked) (seen' : List ℕ) → r.good ≡ false → left ≡ 0 → EndsWith last r seen'
-        walks_spent r seen' e z =
-            lost_is r seen' e
-            (ap (λ (m : Path). m.walk.good) (sym (k.going n)) ∙ walk_spent left (path_of seen work w y) z on_way)
+        pub walks_spent : left ≡ 0 → last.walk.good ≡ false
+        walks_spent z = ap (λ (m : Path). m.walk.good) (sym (k.going n)) ∙ walk_spent left (path_of seen work w y) z on_way
 
         -- ---- a turn
         module _ (v : Told) (y' : Tally) (s : SeenBy rom x kinds sums w.place w.cell y (visit_in v) y') where

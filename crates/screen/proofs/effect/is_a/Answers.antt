@@ -1,4 +1,0 @@
-use Rattle.screen.proofs.effect.is_a.Goals as goal
-
-pub returns : goal.returns
-returns c = rw (← c.family_of.ensures)

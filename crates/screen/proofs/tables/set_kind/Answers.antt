@@ -1,4 +1,0 @@
-use Rattle.screen.proofs.tables.set_kind.Goals as goal
-
-pub returns : goal.returns
-returns c = rw (← c.slot-k.ensures)
