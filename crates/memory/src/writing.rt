@@ -12,11 +12,16 @@ pub fn put(memory: &mut [u8], at: usize, byte: u8)
     }
 }
 
-// A cell's four bytes, big-endian.
+// A cell's four bytes, big-endian. Byte by byte: a copy_in of them cost the calls' dumps 4 in 100 instructions more.
 pub fn write_cell(memory: &mut [u8], at: u32, cell: u32)
     ensures { memory.new ≡ written_of memory.old at (bytes_of cell) }
 {
-    copy_in(memory, at, &cell.to_be_bytes());
+    let k = at as usize;
+    let [a, b, c, d] = cell.to_be_bytes();
+    put(memory, k, a);
+    put(memory, k + 1, b);
+    put(memory, k + 2, c);
+    put(memory, k + 3, d);
 }
 
 // Another memory's bytes.

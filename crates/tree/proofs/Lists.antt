@@ -14,6 +14,8 @@ use Rattle.cells.specs.Choice.{pick}
 use Rattle.tree.specs.Rows.{count_from}
 use Rattle.tree.specs.Whole.{every_below, name_most}
 use Rattle.tree.specs.Property.{name_byte, all_name_bytes, bad_name}
+use Rattle.tree.specs.Held.{same_bytes}
+use lib.Pointwise.{pointwise}
 use Rattle.tree.specs.Path.{slash, longer, split_of, is_empty, any_empty}
 use Rattle.std.proofs.Math.Bool.{or-true}
 use Rattle.tree.specs.Joints.Steps.{zeroed_of}
@@ -145,3 +147,11 @@ pub empty_told : (parts : List (List ℕ)) (r : Bool)
     → r ≡ any_empty parts
 empty_told parts true h = sym (any_at parts h.0 h.1 (h.2 []))
 empty_told parts false h = sym (none_at parts (λ k l. h k [] (omega arith) l))
+
+-- two names that are the same
+pub same_listed : (a b : List ℕ) → same_bytes a b ≡ pointwise eqb a b
+unfolding same_bytes
+same_listed [] [] = refl
+same_listed [] (y ∷ ys) = refl
+same_listed (x ∷ xs) [] = refl
+same_listed (x ∷ xs) (y ∷ ys) = ap (λ (r : Bool). eqb x y && r) (same_listed xs ys)
