@@ -2,7 +2,11 @@
 // A ROM is a word of bytes in hex, each of them alone or with how often it stands between two stars behind it: 'FD08007B*3*00'.
 #![tactic(auto)]
 
+mod each;
+
 ghost use Rattle.std.specs.Prelude.{◌≡◌, ◌<◌, ◌≤◌, IfOk, IfSome, length, take};
+
+pub use each::each_line;
 
 use std::io;
 use std::io::Read;

@@ -12,12 +12,12 @@ pub struct Ended {
     pub state: State,
 }
 
-// 0 where the ROM passes, else why not.
-pub fn screened(rom: &[u8]) -> u32 {
+// Why a ROM does not pass; none where it passes.
+pub fn refusal_of(rom: &[u8]) -> Option<u32> {
     let mut marks = [0u8; MARKS_SIZE];
     match screen(rom, &mut marks) {
-        Verdict::Passes => 0,
-        Verdict::Refused(why) => why,
+        Verdict::Passes => None,
+        Verdict::Refused(why) => Some(why),
     }
 }
 
@@ -25,13 +25,10 @@ pub fn screened(rom: &[u8]) -> u32 {
 pub fn ended_run(rom: &[u8], store: &mut [u8], budget: u32) -> Ended {
     let mut work = [0u8; WORK_SIZE];
     let opened = open(rom, &mut work, &mut *store);
-    let start = opened.state;
-    let ran = run(rom, &mut work, &mut *store, start, budget);
-    let state = ran.state;
-    let answer = ran.answer;
+    let ran = run(rom, &mut work, &mut *store, opened.state, budget);
     Ended {
-        number: number_of(answer),
+        number: number_of(ran.answer),
         steps: ran.count,
-        state,
+        state: ran.state,
     }
 }

@@ -10,139 +10,101 @@ mod print;
 mod scan;
 mod show;
 
-ghost use Rattle.std.specs.Prelude.{◌≡◌, ◌≤◌, length, take};
-
-use budget::{Budget, budget_of};
+use budget::budget_of;
 use lines::number_line;
-use print::{LOST, WELL, before, complain, print, unprinted};
-use scan::scan;
+use print::{Status, complain, print, unprinted};
+use scan::{Form, scan};
 use show::{explain_file, list_file, tokens_file};
 use std::env::Env;
 use std::io;
 use std::process::ExitCode;
-use tree::same_bytes;
 
 // No path that can be opened is longer.
 const WORD_MOST: usize = 4096;
 
-// What is wanted of a file, or of many.
-#[derive(Clone, Copy)]
-enum Wish {
-    List,
-    Explain,
-    ScanText,
-    ScanCsv,
-}
-
-// Puts a word of the command line at the start of a room, and tells its length: none where there is no such word, or no room for it.
-fn word_of(rt: &HostRuntime, number: usize, room: &mut [u8]) -> usize
-    ensures in_bounds { result ≤ length room.new }
-    ensures prefix { result ≡ length (take result room.new) }
-{
+// A word of the command line, put at the start of a room: no bytes where there is no such word, or no room for it.
+fn word_of<'a>(rt: &HostRuntime, number: usize, room: &'a mut [u8]) -> &'a [u8] {
     match rt.arg(number, &mut *room) {
-        Ok(n) => before(&*room, n),
-        Err(_) => 0,
+        Ok(n) => &room[..n],
+        Err(_) => b"",
     }
 }
 
 // The numbers with their words, a line for each that has some.
-fn numbers(rt: &HostRuntime) -> io::Result<u8> {
+fn numbers(rt: &HostRuntime) -> io::Result<Status> {
     let mut text = [0u8; 4096];
     let mut at = 0;
     for k in 0..32 {
         at = number_line(&mut text, at, k);
     }
     print(rt, &text, at)?;
-    Ok(WELL)
+    Ok(Status::Well)
 }
 
-fn unknown(rt: &HostRuntime, word: &[u8]) -> u8 {
+fn unknown(rt: &HostRuntime, word: &[u8]) -> Status {
     complain(rt, word, b": no such word\n");
-    LOST
+    Status::Lost
 }
 
-// By what is wanted, with the word behind the budget at hand.
-fn done_within(
+// Does what is wanted with the third word, which is the budget, and the word behind it.
+fn within_budget<F: FnOnce(u32, &[u8]) -> io::Result<Status> + Drop>(
     rt: &HostRuntime,
-    wish: Wish,
-    name: &[u8],
-    budget: u32,
-    behind: &[u8],
-) -> io::Result<u8> {
-    match wish {
-        Wish::List => list_file(rt, name, behind, budget),
-        Wish::Explain => explain_file(rt, name, behind, budget),
-        Wish::ScanText => scan(rt, false, budget, behind),
-        Wish::ScanCsv => scan(rt, true, budget, behind),
-    }
-}
-
-// The third word is the budget.
-fn within_budget(rt: &HostRuntime, wish: Wish, name: &[u8]) -> io::Result<u8> {
-    let mut word = [0u8; WORD_MOST];
-    let n = word_of(rt, 3, &mut word);
+    wanted: F,
+) -> io::Result<Status>
+    requires { F.IsAlwaysCallable wanted }
+{
+    let mut room = [0u8; WORD_MOST];
+    let word = word_of(rt, 3, &mut room);
     let mut behind = [0u8; WORD_MOST];
-    let m = word_of(rt, 4, &mut behind);
-    match budget_of(&word[..n]) {
-        Budget::Steps(steps) => done_within(rt, wish, name, steps, &behind[..m]),
-        Budget::Unclear => {
+    match budget_of(word) {
+        Some(steps) => wanted(steps, word_of(rt, 4, &mut behind)),
+        None => {
             complain(
                 rt,
-                &word[..n],
+                word,
                 b": no budget, which is a number from 0 to 4,294,967,295\n",
             );
-            Ok(LOST)
+            Ok(Status::Lost)
         }
     }
 }
 
-fn tokens(rt: &HostRuntime, name: &[u8]) -> io::Result<u8> {
+fn tokens(rt: &HostRuntime, name: &[u8]) -> io::Result<Status> {
     let mut link = [0u8; WORD_MOST];
-    let n = word_of(rt, 3, &mut link);
-    tokens_file(rt, name, &link[..n])
+    tokens_file(rt, name, word_of(rt, 3, &mut link))
 }
 
-fn scan_words(rt: &HostRuntime, form: &[u8]) -> io::Result<u8> {
-    if same_bytes(form, b"csv") {
-        return within_budget(rt, Wish::ScanCsv, form);
-    }
-    if same_bytes(form, b"text") {
-        return within_budget(rt, Wish::ScanText, form);
-    }
-    Ok(unknown(rt, form))
+fn scan_words(rt: &HostRuntime, word: &[u8]) -> io::Result<Status> {
+    let form = match word {
+        b"csv" => Form::Csv,
+        b"text" => Form::Text,
+        _ => return Ok(unknown(rt, word)),
+    };
+    within_budget(rt, |steps, names| scan(rt, form, steps, names))
 }
 
 // By the first word, with the second at hand.
-fn commanded(rt: &HostRuntime, word: &[u8], second: &[u8]) -> io::Result<u8> {
-    if same_bytes(word, b"list") {
-        return within_budget(rt, Wish::List, second);
+fn commanded(rt: &HostRuntime, word: &[u8], second: &[u8]) -> io::Result<Status> {
+    match word {
+        b"list" => within_budget(rt, |steps, link| list_file(rt, second, link, steps)),
+        b"tokens" => tokens(rt, second),
+        b"explain" => within_budget(rt, |steps, link| explain_file(rt, second, link, steps)),
+        b"scan" => scan_words(rt, second),
+        b"numbers" => numbers(rt),
+        _ => Ok(unknown(rt, word)),
     }
-    if same_bytes(word, b"tokens") {
-        return tokens(rt, second);
-    }
-    if same_bytes(word, b"explain") {
-        return within_budget(rt, Wish::Explain, second);
-    }
-    if same_bytes(word, b"scan") {
-        return scan_words(rt, second);
-    }
-    if same_bytes(word, b"numbers") {
-        return numbers(rt);
-    }
-    Ok(unknown(rt, word))
 }
 
-fn asked(rt: &HostRuntime) -> io::Result<u8> {
+fn asked(rt: &HostRuntime) -> io::Result<Status> {
     let mut word = [0u8; WORD_MOST];
-    let n = word_of(rt, 1, &mut word);
     let mut second = [0u8; WORD_MOST];
-    let m = word_of(rt, 2, &mut second);
-    commanded(rt, &word[..n], &second[..m])
+    commanded(rt, word_of(rt, 1, &mut word), word_of(rt, 2, &mut second))
 }
 
 fn main(rt: HostRuntime) -> ExitCode {
-    match asked(&rt) {
-        Ok(status) => ExitCode::from(status),
-        Err(why) => ExitCode::from(unprinted(&rt, why)),
-    }
+    let status = match asked(&rt) {
+        Ok(status) => status,
+        Err(why) => unprinted(&rt, why),
+    };
+    ExitCode::from(status as u8)
 }

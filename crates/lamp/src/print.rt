@@ -1,32 +1,25 @@
 // What the program prints: lines that were written into a text, and sentences on standard error.
-ghost use Rattle.std.specs.Prelude.{◌≡◌, ◌≤◌, length, take};
-
 use std::io;
 
-// The exit statuses: all is well; a ROM was refused; something could not be read, or was asked wrongly; the worst is a spent budget.
-pub const WELL: u8 = 0;
+// The exit statuses: all is well; a ROM was refused; something could not be read, or was asked wrongly; the worst is a spent budget; and
+// nobody reads what is printed any more, which is no news: a shell's number for a program that a closed pipe ended.
+#[derive(Clone, Copy)]
+pub enum Status {
+    Well = 0,
+    Refused = 1,
+    Lost = 2,
+    Spent = 3,
+    Unread = 141,
+}
 
-pub const REFUSED: u8 = 1;
-
-pub const LOST: u8 = 2;
-
-pub const SPENT: u8 = 3;
-
-// And where nobody reads what is printed any more, which is no news: a shell's number for a program that a closed pipe ended.
-const UNREAD: u8 = 141;
-
-// How much of a text lies before a place.
-pub fn before(text: &[u8], end: usize) -> usize
-    ensures in_bounds { result ≤ length text.now }
-    ensures prefix { result ≡ length (take result text.now) }
-{
-    if end < text.len() { end } else { text.len() }
+// What of a text lies before a place.
+pub fn up_to(text: &[u8], end: usize) -> &[u8] {
+    text.get(..end).unwrap_or(text)
 }
 
 // Prints a text up to a place.
 pub fn print(rt: &HostRuntime, text: &[u8], end: usize) -> io::Result<()> {
-    let n = before(text, end);
-    rt.write_all(&text[..n])
+    rt.write_all(up_to(text, end))
 }
 
 // Bytes on standard error. Where that cannot be written to, nobody can be told.
@@ -41,10 +34,9 @@ pub fn complain(rt: &HostRuntime, name: &[u8], why: &[u8]) {
 
 // An error's words without the number that stands behind them.
 fn words_of(error: &str) -> &str {
-    match error.split_once(" (os error ") {
-        Some((words, _)) => words,
-        None => error,
-    }
+    error
+        .split_once(" (os error ")
+        .map_or(error, |(words, _)| words)
 }
 
 // A line of what failed and why.
@@ -61,10 +53,10 @@ pub fn fail(rt: &HostRuntime, what: &[u8], why: io::Error) {
 }
 
 // The status where standard output cannot be written to.
-pub fn unprinted(rt: &HostRuntime, why: io::Error) -> u8 {
+pub fn unprinted(rt: &HostRuntime, why: io::Error) -> Status {
     if why.kind() == io::ErrorKind::BrokenPipe {
-        return UNREAD;
+        return Status::Unread;
     }
     fail(rt, b"standard output", why);
-    LOST
+    Status::Lost
 }

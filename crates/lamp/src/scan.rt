@@ -1,16 +1,14 @@
 // Many dumps, a line for each, and how many of each kind there were. They come in a file of their own, so that any number of them goes: of
 // each dump its name, and the path of a link to it where the name is no text, both with a null behind them.
-ghost use Rattle.std.specs.Prelude.{◌≡◌, ◌≤◌, length, take};
-
-use crate::dump::{SPACE, read_dump};
-use crate::judge::{Ended, ended_run, screened};
-use crate::print::{LOST, REFUSED, SPENT, WELL, before, fail, print, say_aside};
+use crate::dump::{SPACE, path_of, read_dump};
+use crate::judge::{Ended, ended_run, refusal_of};
+use crate::print::{Status, fail, print, say_aside, up_to};
 use crate::show::status_of;
 use lines::{Counts, Dump, count_line, csv_head, lost_csv, lost_line, scan_csv, scan_line};
 use rom::sizes::{STORE_SIZE, TEXT_SIZE};
 use std::fs::File;
+use std::io;
 use std::io::{IsTerminal, Read};
-use std::{io, str};
 use tree::own_value;
 
 // No path that can be opened is longer.
@@ -22,85 +20,60 @@ const BOTH_MOST: usize = 8192;
 // The node that a board's program starts at.
 const BOARD: u32 = 1;
 
+// A line for a person, or for another program.
+#[derive(Clone, Copy, PartialEq)]
+pub enum Form {
+    Text,
+    Csv,
+}
+
 // How the lines are asked for.
 #[derive(Clone, Copy)]
-pub struct Wish {
-    pub csv: bool,
-    pub budget: u32,
-    pub counting: bool,
+struct Wish {
+    form: Form,
+    budget: u32,
+    counting: bool,
 }
 
-// What has been done: the dumps by kind, how many bytes there are of a dump that is not whole yet, and of those how many are its name's,
-// once that is whole.
-#[derive(Clone, Copy)]
-struct Progress {
-    counts: Counts,
-    have: usize,
-    named: Option<usize>,
-}
-
-fn none() -> Counts {
-    Counts {
-        all: 0,
-        passed: 0,
-        refused: 0,
-        spent: 0,
-        lost: 0,
-    }
-}
-
-// One more, which no count of dumps reaches the end of.
-fn more(n: u32) -> u32 {
-    if n < 0xFFFF_FFFF { n + 1 } else { n }
-}
-
-// A dump more, by its status.
-fn counted(counts: Counts, status: u8) -> Counts {
+// A dump more, by its status. No count of dumps reaches the end of the numbers.
+fn counted(counts: Counts, status: Status) -> Counts {
     let mut now = counts;
-    now.all = more(counts.all);
-    if status == WELL {
-        now.passed = more(counts.passed);
-        return now;
+    now.all = counts.all.saturating_add(1);
+    match status {
+        Status::Well => now.passed = counts.passed.saturating_add(1),
+        Status::Refused => now.refused = counts.refused.saturating_add(1),
+        Status::Spent => now.spent = counts.spent.saturating_add(1),
+        Status::Lost | Status::Unread => now.lost = counts.lost.saturating_add(1),
     }
-    if status == REFUSED {
-        now.refused = more(counts.refused);
-        return now;
-    }
-    if status == SPENT {
-        now.spent = more(counts.spent);
-        return now;
-    }
-    now.lost = more(counts.lost);
     now
 }
 
 fn dump_line(
     text: &mut [u8],
-    csv: bool,
+    form: Form,
     file: &[u8],
     dump: Dump,
     name: &[u8],
     model: &[u8],
 ) -> usize {
-    if csv {
-        scan_csv(&mut *text, 0, file, dump, name, model)
-    } else {
-        scan_line(&mut *text, 0, file, dump, name, model)
+    match form {
+        Form::Csv => scan_csv(text, 0, file, dump, name, model),
+        Form::Text => scan_line(text, 0, file, dump, name, model),
     }
 }
 
 // A ROM that was not run has no tree, and so no name and no model.
-fn refused_line(text: &mut [u8], csv: bool, file: &[u8], number: u32) -> usize {
+fn refused_line(text: &mut [u8], form: Form, file: &[u8], number: u32) -> usize {
     let dump = Dump {
         number,
         ran: false,
         steps: 0,
     };
-    dump_line(&mut *text, csv, file, dump, b"", b"")
+    dump_line(text, form, file, dump, b"", b"")
 }
 
 // A ROM that passed, run.
-fn passed_line(text: &mut [u8], store: &[u8], csv: bool, file: &[u8], ended: Ended) -> usize {
+fn passed_line(text: &mut [u8], store: &[u8], form: Form, file: &[u8], ended: Ended) -> usize {
     let state = ended.state;
     let tree = state.tree;
     let dump = Dump {
@@ -110,50 +83,46 @@ fn passed_line(text: &mut [u8], store: &[u8], csv: bool, file: &[u8], ended: End
     };
     let name = own_value(store, tree, BOARD, b"name");
     let model = own_value(store, tree, BOARD, b"model");
-    dump_line(&mut *text, csv, file, dump, name, model)
+    dump_line(text, form, file, dump, name, model)
 }
 
-fn lost_dump(text: &mut [u8], csv: bool, file: &[u8]) -> usize {
-    if csv {
-        lost_csv(&mut *text, 0, file)
-    } else {
-        lost_line(&mut *text, 0, file)
+fn lost_dump(text: &mut [u8], form: Form, file: &[u8]) -> usize {
+    match form {
+        Form::Csv => lost_csv(text, 0, file),
+        Form::Text => lost_line(text, 0, file),
     }
 }
 
 // A dump that was judged: its status, with its line printed.
-fn judged(rt: &HostRuntime, rom: &[u8], file: &[u8], wish: Wish) -> io::Result<u8> {
+fn judged(rt: &HostRuntime, rom: &[u8], file: &[u8], wish: Wish) -> io::Result<Status> {
     let mut text = [0u8; TEXT_SIZE];
-    let why = screened(rom);
-    if why != 0 {
-        let end = refused_line(&mut text, wish.csv, file, why);
+    if let Some(why) = refusal_of(rom) {
+        let end = refused_line(&mut text, wish.form, file, why);
         print(rt, &text, end)?;
-        return Ok(REFUSED);
+        return Ok(Status::Refused);
     }
     let mut store = [0u8; STORE_SIZE];
     let ended = ended_run(rom, &mut store, wish.budget);
     let status = status_of(ended.number);
-    let end = passed_line(&mut text, &store, wish.csv, file, ended);
+    let end = passed_line(&mut text, &store, wish.form, file, ended);
     print(rt, &text, end)?;
     Ok(status)
 }
 
 // One that could not be read.
-fn unread(rt: &HostRuntime, file: &[u8], wish: Wish) -> io::Result<u8> {
+fn unread(rt: &HostRuntime, file: &[u8], wish: Wish) -> io::Result<Status> {
     let mut text = [0u8; TEXT_SIZE];
-    let end = lost_dump(&mut text, wish.csv, file);
+    let end = lost_dump(&mut text, wish.form, file);
     print(rt, &text, end)?;
-    Ok(LOST)
+    Ok(Status::Lost)
 }
 
-fn scan_one(rt: &HostRuntime, file: &[u8], link: &[u8], wish: Wish) -> io::Result<u8> {
+fn scan_one(rt: &HostRuntime, file: &[u8], link: &[u8], wish: Wish) -> io::Result<Status> {
     let mut space = [0u8; SPACE];
-    let dumped = read_dump(rt, file, link, &mut space);
-    if dumped.lost {
-        return unread(rt, file, wish);
+    match read_dump(rt, file, link, &mut space) {
+        Some(rom) => judged(rt, rom, file, wish),
+        None => unread(rt, file, wish),
     }
-    let n = dumped.size;
-    judged(rt, &space[..n], file, wish)
 }
 
 // How far it has come, for whoever waits at a terminal and does not see the lines themselves.
@@ -161,153 +130,133 @@ fn tell_count(rt: &HostRuntime, n: u32) {
     let _ = eprint!(rt; "\r{n} dumps");
 }
 
-// A dump whose name and link are whole.
-fn whole_dump(
-    rt: &HostRuntime,
-    file: &[u8],
-    link: &[u8],
-    so: Progress,
+// A scan under way: the dumps by kind, how many bytes there are of a dump that is not whole yet, and of those how many are its name's,
+// once that is whole.
+#[derive(Drop)]
+struct Progress<'a> {
+    rt: &'a HostRuntime,
     wish: Wish,
-) -> io::Result<Progress> {
-    let status = scan_one(rt, file, link, wish)?;
-    let counts = counted(so.counts, status);
-    if wish.counting {
-        tell_count(rt, counts.all);
-    }
-    Ok(Progress {
-        counts,
-        have: 0,
-        named: None,
-    })
+    counts: Counts,
+    both: [u8; BOTH_MOST],
+    have: usize,
+    named: Option<usize>,
 }
 
-// A null ends a name, or the path of a link.
-fn word_ended(rt: &HostRuntime, both: &[u8], so: Progress, wish: Wish) -> io::Result<Progress> {
-    let n = before(both, so.have);
-    match so.named {
-        None => Ok(Progress {
-            counts: so.counts,
-            have: n,
-            named: Some(n),
-        }),
-        Some(named) => {
-            let m = before(&both[..n], named);
-            whole_dump(rt, &both[..m], &both[m..n], so, wish)
+impl Progress<'_> {
+    // A null ends a name, or the path of a link, and with that the dump is whole.
+    fn word_ended(&mut self) -> io::Result<()> {
+        let both = up_to(&self.both, self.have);
+        match self.named {
+            None => self.named = Some(both.len()),
+            Some(named) => {
+                let (file, link) = both.split_at(named.min(both.len()));
+                let status = scan_one(self.rt, file, link, self.wish)?;
+                self.counts = counted(self.counts, status);
+                if self.wish.counting {
+                    tell_count(self.rt, self.counts.all);
+                }
+                self.have = 0;
+                self.named = None;
+            }
         }
+        Ok(())
     }
-}
 
-// How many bytes are kept. Of a name that is too long for any file the start is kept, which is too long as well.
-fn kept(named: Option<usize>) -> usize {
-    match named {
-        None => PATH_MOST,
-        Some(_) => BOTH_MOST,
-    }
-}
-
-// A byte of the names and links.
-fn feed(
-    rt: &HostRuntime,
-    both: &mut [u8],
-    byte: u8,
-    so: Progress,
-    wish: Wish,
-) -> io::Result<Progress> {
-    if byte == 0 {
-        return word_ended(rt, &*both, so, wish);
-    }
-    let at = so.have;
-    let mut now = so;
-    if at < both.len() {
-        if at < kept(so.named) {
-            both[at] = byte;
-            now.have = at + 1;
+    // A byte of the names and links. Of a name that is too long for any file the start is kept, which is too long as well.
+    fn feed(&mut self, byte: u8) -> io::Result<()> {
+        if byte == 0 {
+            return self.word_ended();
         }
+        let most = if self.named.is_some() {
+            BOTH_MOST
+        } else {
+            PATH_MOST
+        };
+        if self.have < most {
+            self.both[self.have] = byte;
+            self.have += 1;
+        }
+        Ok(())
     }
-    Ok(now)
-}
 
-fn feed_all(
-    rt: &HostRuntime,
-    both: &mut [u8],
-    bytes: &[u8],
-    start: Progress,
-    wish: Wish,
-) -> io::Result<Progress> {
-    let mut so = start;
-    for byte in bytes {
-        so = feed(rt, &mut *both, *byte, so, wish)?;
+    fn feed_all(&mut self, bytes: &[u8]) -> io::Result<()> {
+        for byte in bytes {
+            self.feed(*byte)?;
+        }
+        Ok(())
     }
-    Ok(so)
 }
 
 // More reads than any list of names takes.
 const READS: u64 = 0xFFFF_FFFF_FFFF;
 
 // The bytes that come next; none where there are no more, or where they cannot be read.
-fn next_bytes(names: &mut File, bytes: &mut [u8]) -> usize
-    ensures in_bounds { result ≤ length bytes.new }
-    ensures prefix { result ≡ length (take result bytes.new) }
-{
+fn next_bytes<'a>(names: &mut File, bytes: &'a mut [u8]) -> &'a [u8] {
     match names.read(&mut *bytes) {
-        Ok(n) => n,
-        Err(_) => 0,
+        Ok(n) => &bytes[..n],
+        Err(_) => b"",
     }
 }
 
 fn all_names(rt: &HostRuntime, names: &mut File, wish: Wish) -> io::Result<Counts> {
     let mut so = Progress {
-        counts: none(),
+        rt,
+        wish,
+        counts: Counts {
+            all: 0,
+            passed: 0,
+            refused: 0,
+            spent: 0,
+            lost: 0,
+        },
+        both: [0u8; BOTH_MOST],
         have: 0,
         named: None,
     };
-    let mut both = [0u8; BOTH_MOST];
-    let mut bytes = [0u8; 4096];
+    let mut room = [0u8; 4096];
     for _ in 0..READS {
-        let n = next_bytes(names, &mut bytes);
-        if n == 0 {
+        let bytes = next_bytes(names, &mut room);
+        if bytes.is_empty() {
             break;
         }
-        so = feed_all(rt, &mut both, &bytes[..n], so, wish)?;
+        so.feed_all(bytes)?;
     }
     Ok(so.counts)
 }
 
 // The worst that was met.
-fn worst(counts: Counts) -> u8 {
+fn worst(counts: Counts) -> Status {
     if counts.lost != 0 {
-        return LOST;
+        return Status::Lost;
     }
     if counts.refused != 0 {
-        return REFUSED;
+        return Status::Refused;
     }
     if counts.spent != 0 {
-        return SPENT;
+        return Status::Spent;
     }
     if counts.all == 0 {
-        return LOST;
+        return Status::Lost;
     }
-    WELL
+    Status::Well
 }
 
 // The closing line: behind the lines of the dumps, or beside them where they are for another program.
-fn close(rt: &HostRuntime, counts: Counts, wish: Wish) -> io::Result<u8> {
+fn close(rt: &HostRuntime, counts: Counts, wish: Wish) -> io::Result<Status> {
     let mut text = [0u8; 256];
     let end = count_line(&mut text, 0, counts);
     if wish.counting {
         say_aside(rt, b"\r");
     }
-    if wish.csv {
-        let n = before(&text, end);
-        say_aside(rt, &text[..n]);
-    } else {
-        print(rt, &text, end)?;
+    match wish.form {
+        Form::Csv => say_aside(rt, up_to(&text, end)),
+        Form::Text => print(rt, &text, end)?,
     }
     Ok(worst(counts))
 }
 
-fn head(rt: &HostRuntime, csv: bool) -> io::Result<()> {
-    if !csv {
+fn head(rt: &HostRuntime, form: Form) -> io::Result<()> {
+    if form == Form::Text {
         return Ok(());
     }
     let mut text = [0u8; 256];
@@ -317,20 +266,17 @@ fn head(rt: &HostRuntime, csv: bool) -> io::Result<()> {
 
 // The file of the names, by its own name.
 fn open_names(rt: &HostRuntime, names: &[u8]) -> io::Result<File> {
-    match str::from_utf8(names) {
-        Ok(path) => File::open(rt, path),
-        Err(_) => Err(io::Error::from(io::ErrorKind::InvalidFilename)),
-    }
+    File::open(rt, path_of(names)?)
 }
 
 // The dumps whose names stand in a file.
-pub fn scan(rt: &HostRuntime, csv: bool, budget: u32, names: &[u8]) -> io::Result<u8> {
+pub fn scan(rt: &HostRuntime, form: Form, budget: u32, names: &[u8]) -> io::Result<Status> {
     let wish = Wish {
-        csv,
+        form,
         budget,
         counting: !rt.stdout().is_terminal() && rt.stderr().is_terminal(),
     };
-    head(rt, csv)?;
+    head(rt, form)?;
     match open_names(rt, names) {
         Ok(mut names) => {
             let counts = all_names(rt, &mut names, wish)?;
@@ -338,7 +284,7 @@ pub fn scan(rt: &HostRuntime, csv: bool, budget: u32, names: &[u8]) -> io::Resul
         }
         Err(why) => {
             fail(rt, b"the names of the dumps", why);
-            Ok(LOST)
+            Ok(Status::Lost)
         }
     }
 }

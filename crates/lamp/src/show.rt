@@ -1,9 +1,9 @@
 // One ROM, shown: its listing, its tokens, or all that a person may want to know of it. Each gives the exit status. Lines go into a text
 // that is printed whenever the next line may have no room behind them. A ROM is tested, screened and run as it was read; what is shown of
 // its bytes is shown of its FCode bytes, so that a spread is dealt with once, here.
-use crate::dump::{FCODE_SPACE, SPACE, fcode_of, lay_spread, read_dump};
-use crate::judge::{Ended, ended_run, screened};
-use crate::print::{LOST, REFUSED, SPENT, WELL, print};
+use crate::dump::{FCODE_SPACE, SPACE, fcode_of, read_dump};
+use crate::judge::{Ended, ended_run, refusal_of};
+use crate::print::{Status, print, up_to};
 use lines::{
     anyway_line, at_line, header_lines, path_line, piece_line, program_lines, read_lines,
     refused_text, run_line, tree_line, verdict_line,
@@ -12,7 +12,7 @@ use listing::list;
 use rom::sizes::{FIRST_PLACE, MARKS_SIZE, STORE_SIZE, TEXT_SIZE, WORK_SIZE};
 use rom::{check_header, wide_start};
 use std::io;
-use tree::{Tree, same_bytes};
+use tree::Tree;
 
 // No line of the token list is longer (`line_short`, lines/specs/Laws/Tokens.antt).
 const LINE_MOST: usize = 1024;
@@ -21,47 +21,34 @@ const LINE_MOST: usize = 1024;
 const FULL: usize = TEXT_SIZE - LINE_MOST;
 
 // The status of a number: a spent budget is no fault of the ROM.
-pub fn status_of(number: u32) -> u8 {
+pub fn status_of(number: u32) -> Status {
     match number {
-        0 => WELL,
-        28 => SPENT,
-        _ => REFUSED,
+        0 => Status::Well,
+        28 => Status::Spent,
+        _ => Status::Refused,
     }
 }
 
 // The status that a listing says, by its last line.
-fn listing_status(text: &[u8], end: usize) -> u8 {
-    if ends_so(text, end, b"done\n") {
-        return WELL;
+fn listing_status(text: &[u8]) -> Status {
+    if text.ends_with(b"done\n") {
+        return Status::Well;
     }
-    if ends_so(text, end, b"refused 28\n") {
-        return SPENT;
+    if text.ends_with(b"refused 28\n") {
+        return Status::Spent;
     }
-    REFUSED
-}
-
-// Whether a text up to a place ends with these words.
-fn ends_so(text: &[u8], end: usize, words: &[u8]) -> bool {
-    let size = words.len();
-    if end < size {
-        return false;
-    }
-    if text.len() < end {
-        return false;
-    }
-    let start = end - size;
-    same_bytes(&text[start..end], words)
+    Status::Refused
 }
 
 // The listing of document 01.
-fn show_listing(rt: &HostRuntime, rom: &[u8], budget: u32) -> io::Result<u8> {
+fn show_listing(rt: &HostRuntime, rom: &[u8], budget: u32) -> io::Result<Status> {
     let mut marks = [0u8; MARKS_SIZE];
     let mut work = [0u8; WORK_SIZE];
     let mut store = [0u8; STORE_SIZE];
     let mut text = [0u8; TEXT_SIZE];
     let end = list(rom, &mut marks, &mut work, &mut store, budget, &mut text);
     print(rt, &text, end)?;
-    Ok(listing_status(&text, end))
+    Ok(listing_status(up_to(&text, end)))
 }
 
 // The lines of a program's tokens, as many at most as there are bytes.
@@ -85,22 +72,21 @@ fn print_pieces(rt: &HostRuntime, fcode: &[u8], text: &mut [u8]) -> io::Result<(
     print(rt, &*text, at)
 }
 
-fn print_tokens(rt: &HostRuntime, rom: &[u8], fcode: &[u8]) -> io::Result<u8> {
+fn print_tokens(rt: &HostRuntime, rom: &[u8], fcode: &[u8]) -> io::Result<Status> {
     let mut text = [0u8; TEXT_SIZE];
     let why = check_header(rom);
     if why != 0 {
         let end = refused_text(&mut text, why);
         print(rt, &text, end)?;
-        return Ok(REFUSED);
+        return Ok(Status::Refused);
     }
     print_pieces(rt, fcode, &mut text)?;
-    Ok(WELL)
+    Ok(Status::Well)
 }
 
-fn show_tokens(rt: &HostRuntime, rom: &[u8]) -> io::Result<u8> {
+fn show_tokens(rt: &HostRuntime, rom: &[u8]) -> io::Result<Status> {
     let mut room = [0u8; FCODE_SPACE];
-    let n = lay_spread(rom, &mut room);
-    print_tokens(rt, rom, fcode_of(rom, &room[..n]))
+    print_tokens(rt, rom, fcode_of(rom, &mut room))
 }
 
 // A node with its properties, each printed by itself: together they might have no room.
@@ -120,10 +106,7 @@ fn print_node(
 fn print_tree(rt: &HostRuntime, text: &mut [u8], store: &[u8], tree: Tree) -> io::Result<()> {
     let end = tree_line(&mut *text, 0);
     print(rt, &*text, end)?;
-    for k in 0..32u32 {
-        if tree.nodes <= (k as usize) {
-            break;
-        }
+    for k in (0..32u32).take(tree.nodes) {
         print_node(rt, &mut *text, store, tree, k)?;
     }
     Ok(())
@@ -171,66 +154,62 @@ fn print_run(
     print_end(rt, &mut *text, fcode, ended)
 }
 
-fn show_run(rt: &HostRuntime, rom: &[u8], fcode: &[u8], budget: u32) -> io::Result<u8> {
+fn show_run(rt: &HostRuntime, rom: &[u8], fcode: &[u8], budget: u32) -> io::Result<Status> {
     let mut text = [0u8; TEXT_SIZE];
     let mut store = [0u8; STORE_SIZE];
-    let why = screened(rom);
+    let refusal = refusal_of(rom);
     let ended = ended_run(rom, &mut store, budget);
-    if why == 0 {
-        let number = ended.number;
-        print_head(rt, &mut text, rom, fcode, number)?;
-        print_run(rt, &mut text, fcode, &mut store, ended)?;
-        return Ok(status_of(number));
+    print_head(rt, &mut text, rom, fcode, refusal.unwrap_or(ended.number))?;
+    if refusal.is_some() {
+        let end = anyway_line(&mut text, 0);
+        print(rt, &text, end)?;
     }
-    print_head(rt, &mut text, rom, fcode, why)?;
-    let end = anyway_line(&mut text, 0);
-    print(rt, &text, end)?;
     print_run(rt, &mut text, fcode, &mut store, ended)?;
-    Ok(REFUSED)
+    match refusal {
+        Some(_) => Ok(Status::Refused),
+        None => Ok(status_of(ended.number)),
+    }
 }
 
-fn explain(rt: &HostRuntime, rom: &[u8], fcode: &[u8], budget: u32) -> io::Result<u8> {
+fn explain(rt: &HostRuntime, rom: &[u8], fcode: &[u8], budget: u32) -> io::Result<Status> {
     let why = check_header(rom);
     if why == 0 {
         return show_run(rt, rom, fcode, budget);
     }
     let mut text = [0u8; TEXT_SIZE];
     print_head(rt, &mut text, rom, fcode, why)?;
-    Ok(REFUSED)
+    Ok(Status::Refused)
 }
 
-fn show_all(rt: &HostRuntime, rom: &[u8], budget: u32) -> io::Result<u8> {
+fn show_all(rt: &HostRuntime, rom: &[u8], budget: u32) -> io::Result<Status> {
     let mut room = [0u8; FCODE_SPACE];
-    let n = lay_spread(rom, &mut room);
-    explain(rt, rom, fcode_of(rom, &room[..n]), budget)
+    explain(rt, rom, fcode_of(rom, &mut room), budget)
 }
 
-pub fn list_file(rt: &HostRuntime, name: &[u8], link: &[u8], budget: u32) -> io::Result<u8> {
+// Does something with the bytes of a dump, if they can be read.
+fn with_dump<F: FnOnce(&[u8]) -> io::Result<Status> + Drop>(
+    rt: &HostRuntime,
+    name: &[u8],
+    link: &[u8],
+    show: F,
+) -> io::Result<Status>
+    requires { F.IsAlwaysCallable show }
+{
     let mut space = [0u8; SPACE];
-    let dumped = read_dump(rt, name, link, &mut space);
-    if dumped.lost {
-        return Ok(LOST);
+    match read_dump(rt, name, link, &mut space) {
+        Some(rom) => show(rom),
+        None => Ok(Status::Lost),
     }
-    let n = dumped.size;
-    show_listing(rt, &space[..n], budget)
 }
 
-pub fn tokens_file(rt: &HostRuntime, name: &[u8], link: &[u8]) -> io::Result<u8> {
-    let mut space = [0u8; SPACE];
-    let dumped = read_dump(rt, name, link, &mut space);
-    if dumped.lost {
-        return Ok(LOST);
-    }
-    let n = dumped.size;
-    show_tokens(rt, &space[..n])
+pub fn list_file(rt: &HostRuntime, name: &[u8], link: &[u8], budget: u32) -> io::Result<Status> {
+    with_dump(rt, name, link, |rom| show_listing(rt, rom, budget))
 }
 
-pub fn explain_file(rt: &HostRuntime, name: &[u8], link: &[u8], budget: u32) -> io::Result<u8> {
-    let mut space = [0u8; SPACE];
-    let dumped = read_dump(rt, name, link, &mut space);
-    if dumped.lost {
-        return Ok(LOST);
-    }
-    let n = dumped.size;
-    show_all(rt, &space[..n], budget)
+pub fn tokens_file(rt: &HostRuntime, name: &[u8], link: &[u8]) -> io::Result<Status> {
+    with_dump(rt, name, link, |rom| show_tokens(rt, rom))
+}
+
+pub fn explain_file(rt: &HostRuntime, name: &[u8], link: &[u8], budget: u32) -> io::Result<Status> {
+    with_dump(rt, name, link, |rom| show_all(rt, rom, budget))
 }

@@ -1,6 +1,6 @@
 -- Sums of bytes, from the last one down, some more at a time. Assumes nothing.
-use Rattle.std.proofs.Common.{◌≡◌, ℕ, zero, suc, ◌+◌, ◌-◌, ◌%◌, ◌^◌, ◌<◌, ◌≤◌, min, List, [], ◌∷◌, length, take, drop, refl, sym, ◌∙◌, arith}
-use Rattle.std.proofs.Common.{length-drop, take_all}
+use Rattle.std.proofs.Common.{◌≡◌, ℕ, zero, suc, ◌+◌, ◌-◌, ◌%◌, ◌^◌, ◌<◌, ◌≤◌, min, List, [], ◌∷◌, length, take, drop, refl, sym}
+use Rattle.std.proofs.Common.{◌∙◌, arith, length-drop, take_all}
 use native.Mathlib.Decide.{dec_le}
 use Rattle.std.specs.List.{fold}
 use Rattle.rom.specs.Joints.Sum.{sum_with}

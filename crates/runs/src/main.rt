@@ -11,16 +11,14 @@ mod finds;
 mod odd;
 mod orders;
 mod same;
-mod say;
 mod show;
 mod sum;
 mod trial;
 
 use crate::odd::show_odd;
 use crate::orders::show_orders;
-use crate::say::say;
 use crate::trial::{show_damaged, show_lent, show_run};
-use given::{SPACE, TEXT, bytes_from, digits_at, mark_from, read_text, word_end};
+use given::{SPACE, TEXT, bytes_from, digits_at, each_line, read_text, word_end};
 use std::io;
 
 // R: a ROM and a budget, and the lookups to make then.
@@ -42,12 +40,14 @@ fn words_from(line: &[u8], from: usize) -> &[u8] {
     &line[end..]
 }
 
-// D: a damaged state.
-fn one_damage(rt: &impl Print, line: &[u8]) -> io::Result<()> {
+// What stands behind D and W: a number of two digits, a ROM and a budget.
+fn numbered<F: FnOnce(u32, &[u8], u32) -> io::Result<()>>(line: &[u8], show: F) -> io::Result<()>
+    requires { F.IsAlwaysCallable show }
+{
     let mut space = [0u8; SPACE];
     let n = bytes_from(line, 5, &mut space);
     let budget = digits_at(line, word_end(line, 5) + 1);
-    show_damaged(rt, digits_at(line, 2), &space[..n], budget)
+    show(digits_at(line, 2), &space[..n], budget)
 }
 
 // L: a state that one ROM's run left, damaged or not, and another ROM. Both are short: of two large arrays the checker would hold more than
@@ -67,14 +67,6 @@ fn one_lent(rt: &impl Print, line: &[u8]) -> io::Result<()> {
     )
 }
 
-// W: a whole state that no run leaves.
-fn one_odd(rt: &impl Print, line: &[u8]) -> io::Result<()> {
-    let mut space = [0u8; SPACE];
-    let n = bytes_from(line, 5, &mut space);
-    let budget = digits_at(line, word_end(line, 5) + 1);
-    show_odd(rt, digits_at(line, 2), &space[..n], budget)
-}
-
 // O: orders.
 fn one_order(rt: &impl Print, line: &[u8]) -> io::Result<()> {
     let mut space = [0u8; SPACE];
@@ -83,28 +75,18 @@ fn one_order(rt: &impl Print, line: &[u8]) -> io::Result<()> {
 }
 
 fn one_line(rt: &impl Print, line: &[u8]) -> io::Result<()> {
-    match rom::byte(line, 0) {
-        b'R' => one_run(rt, line),
-        b'D' => one_damage(rt, line),
-        b'L' => one_lent(rt, line),
-        b'W' => one_odd(rt, line),
-        b'O' => one_order(rt, line),
-        _ => say(rt, b"no such line\n"),
+    match line {
+        [b'R', ..] => one_run(rt, line),
+        [b'D', ..] => numbered(line, |k, rom, budget| show_damaged(rt, k, rom, budget)),
+        [b'L', ..] => one_lent(rt, line),
+        [b'W', ..] => numbered(line, |k, rom, budget| show_odd(rt, k, rom, budget)),
+        [b'O', ..] => one_order(rt, line),
+        _ => println!(rt; "no such line"),
     }
-}
-
-fn all_lines(rt: &impl Print, text: &[u8]) -> io::Result<()> {
-    let mut at = 0;
-    while at < text.len() {
-        let end = mark_from(text, at, b'\n');
-        one_line(rt, &text[at..end])?;
-        at = end + 1;
-    }
-    Ok(())
 }
 
 fn main(rt: HostRuntime) -> io::Result<()> {
     let mut text = [0u8; TEXT];
     let n = read_text(&mut rt.stdin(), &mut text)?;
-    all_lines(&rt, &text[..n])
+    each_line(&text[..n], |line| one_line(&rt, line))
 }

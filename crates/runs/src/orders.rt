@@ -4,9 +4,8 @@ use crate::damage::damaged;
 use crate::evaluator::{open, run};
 use crate::finds::show_lookup_orders;
 use crate::same::same_states;
-use crate::say::{say, say_number};
 use crate::show::show_answer;
-use crate::trial::{both_sums, same_sums, show_kept, show_tried, state_after};
+use crate::trial::{both_sums, show_kept, show_tried, state_after};
 use state::{Back, Calls, Numbers, Stack, State};
 use std::io;
 
@@ -20,8 +19,7 @@ fn show_order(
     state: State,
     budget: u32,
 ) -> io::Result<()> {
-    say(rt, b"order")?;
-    say_number(rt, k as u64)?;
+    print!(rt; "order {k}")?;
     show_tried(rt, rom, work, store, state, budget)
 }
 
@@ -42,9 +40,7 @@ fn show_offered(rt: &impl Print, k: u32, rom: &[u8], state: State, budget: u32) 
 }
 
 fn with_length(state: State, length: u32) -> State {
-    let mut n = state;
-    n.length = length;
-    n
+    State { length, ..state }
 }
 
 fn show_roms(rt: &impl Print, rom: &[u8], state: State, bad: State) -> io::Result<()> {
@@ -91,10 +87,10 @@ fn zero_state() -> State {
         place: 0,
         wide: false,
         finished: false,
-        stack: stack,
-        back: back,
-        calls: calls,
-        numbers: numbers,
+        stack,
+        back,
+        calls,
+        numbers,
         work_place: 0,
         active: 0,
         first: 0,
@@ -108,12 +104,11 @@ fn show_opening(rt: &impl Print, rom: &[u8]) -> io::Result<()> {
     let mut store = [0x5Au8; 16384];
     let sums = both_sums(&work, &store);
     let opened = open(rom, &mut work, &mut store);
-    let answer = opened.answer;
-    say(rt, b"opening")?;
-    show_answer(rt, answer)?;
+    print!(rt; "opening")?;
+    show_answer(rt, opened.answer)?;
     show_kept(
         rt,
-        same_states(opened.state, zero_state()) & same_sums(sums, both_sums(&work, &store)),
+        same_states(opened.state, zero_state()) && sums == both_sums(&work, &store),
     )
 }
 

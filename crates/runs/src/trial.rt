@@ -3,40 +3,26 @@ use crate::damage::damaged;
 use crate::evaluator::{open, run, step};
 use crate::finds::{show_damaged_finds, show_finds, show_rows};
 use crate::same::same_states;
-use crate::say::{say, say_number, say_one};
 use crate::show::{show_answer, show_state};
 use crate::sum::crc;
 use state::{Answer, Ran, State};
 use std::io;
 
-// Whether a spent budget is told with the count of the run.
-fn told_right(answer: Answer, count: u32) -> bool {
-    match answer {
-        Answer::Spent(n) => n == count,
-        _ => true,
-    }
-}
-
+// An answer with the count of the run, which a spent budget is told with.
 fn show_ran(rt: &impl Print, answer: Answer, count: u32) -> io::Result<()> {
     show_answer(rt, answer)?;
-    if !told_right(answer, count) {
-        say(rt, b" with another count")?;
+    match answer {
+        Answer::Spent(n) if n != count => print!(rt; " with another count"),
+        _ => Ok(()),
     }
-    Ok(())
-}
-
-fn show_counted(rt: &impl Print, answer: Answer, count: u32) -> io::Result<()> {
-    say(rt, b"open 0\nrun")?;
-    show_ran(rt, answer, count)?;
-    say(rt, b"\nsteps")?;
-    say_number(rt, count as u64)?;
-    say_one(rt, b'\n')
 }
 
 // What a run leaves.
 pub fn show_left(rt: &impl Print, ran: Ran, work: &[u8], store: &[u8]) -> io::Result<()> {
-    let answer = ran.answer;
-    show_counted(rt, answer, ran.count)?;
+    let count = ran.count;
+    print!(rt; "open 0\nrun")?;
+    show_ran(rt, ran.answer, count)?;
+    println!(rt; "\nsteps {count}")?;
     show_state(rt, ran.state, work, store)
 }
 
@@ -56,17 +42,6 @@ fn show_opened(
     show_finds(rt, &*store, left, words)
 }
 
-fn show_unopened(rt: &impl Print, answer: Answer) -> io::Result<()> {
-    match answer {
-        Answer::Refused(why) => {
-            say(rt, b"open")?;
-            say_number(rt, why as u64)?;
-            say_one(rt, b'\n')
-        }
-        _ => say(rt, b"neither opened nor refused\n"),
-    }
-}
-
 // Opens and runs, and looks up what the words say. The buffers are not zero before: opening zeroes them.
 pub fn show_run(rt: &impl Print, rom: &[u8], budget: u32, words: &[u8]) -> io::Result<()> {
     let mut work = [0xA5u8; 16384];
@@ -76,7 +51,8 @@ pub fn show_run(rt: &impl Print, rom: &[u8], budget: u32, words: &[u8]) -> io::R
     let state = opened.state;
     match answer {
         Answer::Going => show_opened(rt, rom, &mut work, &mut store, state, budget, words),
-        _ => show_unopened(rt, answer),
+        Answer::Refused(why) => println!(rt; "open {why}"),
+        _ => println!(rt; "neither opened nor refused"),
     }
 }
 
@@ -92,42 +68,35 @@ pub fn show_tried(
     let sums = both_sums(&*work, &*store);
     let stepped = step(rom, &mut *work, &mut *store, state);
     let ran = run(rom, &mut *work, &mut *store, state, budget);
-    let first = stepped.answer;
-    let second = ran.answer;
-    show_answers(rt, first, second, ran.count)?;
+    show_answers(rt, stepped.answer, ran.answer, ran.count)?;
     show_kept(
         rt,
         same_states(state, stepped.state)
-            & same_states(state, ran.state)
-            & same_sums(sums, both_sums(&*work, &*store)),
+            && same_states(state, ran.state)
+            && sums == both_sums(&*work, &*store),
     )
 }
 
-#[derive(Clone, Copy)]
+#[derive(Clone, Copy, PartialEq)]
 pub struct Sums(u32, u32);
 
 pub fn both_sums(work: &[u8], store: &[u8]) -> Sums {
     Sums(crc(work), crc(store))
 }
 
-pub fn same_sums(a: Sums, b: Sums) -> bool {
-    (a.0 == b.0) & (a.1 == b.1)
-}
-
 fn show_answers(rt: &impl Print, step: Answer, run: Answer, count: u32) -> io::Result<()> {
-    say(rt, b" step")?;
+    print!(rt; " step")?;
     show_answer(rt, step)?;
-    say(rt, b" run")?;
+    print!(rt; " run")?;
     show_ran(rt, run, count)?;
-    say(rt, b" steps")?;
-    say_number(rt, count as u64)
+    print!(rt; " steps {count}")
 }
 
 pub fn show_kept(rt: &impl Print, kept: bool) -> io::Result<()> {
     if kept {
-        say(rt, b" unchanged\n")
+        println!(rt; " unchanged")
     } else {
-        say(rt, b" changed\n")
+        println!(rt; " changed")
     }
 }
 
@@ -144,8 +113,7 @@ pub fn show_damaged(rt: &impl Print, k: u32, rom: &[u8], budget: u32) -> io::Res
     let state = state_after(rom, &mut work, &mut store, budget);
     let bad = damaged(k, state);
     show_damaged_finds(rt, &store, bad)?;
-    say(rt, b"damaged")?;
-    say_number(rt, k as u64)?;
+    print!(rt; "damaged {k}")?;
     show_tried(rt, rom, &mut work, &mut store, bad, 1000)
 }
 
@@ -156,8 +124,7 @@ pub fn show_lent(rt: &impl Print, k: u32, rom: &[u8], budget: u32, other: &[u8])
     let mut store = [0u8; 16384];
     let state = state_after(rom, &mut work, &mut store, budget);
     let offered = damaged(k, state);
-    say(rt, b"lent")?;
-    say_number(rt, k as u64)?;
+    print!(rt; "lent {k}")?;
     show_tried(rt, other, &mut work, &mut store, offered, 1000)?;
     let ran = run(other, &mut work, &mut store, offered, 1000);
     show_left(rt, ran, &work, &store)

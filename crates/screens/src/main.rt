@@ -2,17 +2,15 @@
 // behind W the mark buffer's size and a ROM, behind M how often a ROM is screened, and the ROM.
 #![tactic(auto)]
 
-mod say;
 mod show;
 
-use crate::say::say;
 use crate::show::{show_last, show_screened};
-use given::{SPACE, TEXT, bytes_from, digits_at, mark_from, read_text, word_end};
+use given::{SPACE, TEXT, bytes_from, digits_at, each_line, read_text, word_end};
 use std::io;
 
 // Where a line's ROM starts: behind the letter and a space, or behind the number and a space.
 fn rom_start(line: &[u8]) -> usize {
-    if rom::byte(line, 0) == b'S' {
+    if line.starts_with(b"S") {
         return 2;
     }
     word_end(line, 2) + 1
@@ -21,27 +19,18 @@ fn rom_start(line: &[u8]) -> usize {
 fn one_line(rt: &impl Print, line: &[u8]) -> io::Result<()> {
     let mut space = [0u8; SPACE];
     let n = bytes_from(line, rom_start(line), &mut space);
+    let rom = &space[..n];
     let number = digits_at(line, 2);
-    match rom::byte(line, 0) {
-        b'S' => show_screened(rt, &space[..n], 65536),
-        b'W' => show_screened(rt, &space[..n], number),
-        b'M' => show_last(rt, &space[..n], number),
-        _ => say(rt, b"no such line\n"),
+    match line {
+        [b'S', ..] => show_screened(rt, rom, 65536),
+        [b'W', ..] => show_screened(rt, rom, number),
+        [b'M', ..] => show_last(rt, rom, number),
+        _ => println!(rt; "no such line"),
     }
-}
-
-fn all_lines(rt: &impl Print, text: &[u8]) -> io::Result<()> {
-    let mut at = 0;
-    while at < text.len() {
-        let end = mark_from(text, at, b'\n');
-        one_line(rt, &text[at..end])?;
-        at = end + 1;
-    }
-    Ok(())
 }
 
 fn main(rt: HostRuntime) -> io::Result<()> {
     let mut text = [0u8; TEXT];
     let n = read_text(&mut rt.stdin(), &mut text)?;
-    all_lines(&rt, &text[..n])
+    each_line(&text[..n], |line| one_line(&rt, line))
 }

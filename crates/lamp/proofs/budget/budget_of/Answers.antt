@@ -1,29 +1,44 @@
 -- Each digit is read as the definition reads it, and each word that is no budget is told by the byte that makes it one.
-use Rattle.std.proofs.Common.{arith, ◌∙◌}
+use Rattle.std.proofs.Common.{arith, ◌∙◌, ◌≡◌, ◌<◌, ◌+◌, ◌*◌, ◌-◌, None, get_or}
+use Rattle.std.proofs.lemmas.Grind.{common_steps}
+use Rattle.lamp.specs.Budget.{most}
 use Rattle.lamp.specs.Laws.Budget.{digit_low, digit_high, too_many, digit_more, digits_end}
 use Rattle.lamp.proofs.budget.budget_of.Goals as goal
+use Rattle.lamp.proofs.budget.budget_of.Goals.{then-b-lt48-via-then-b-lt48, then-b-lt48-via-else-b-lt48+then-b-gt57}
 
 pub returns-then-b-lt48 : goal.returns-then-b-lt48
 returns-then-b-lt48 c =
-    digit_low c.args.word.now c.loop-k.k c.loop-k.sum c.loop-k-test.true c.if-b-lt48.true ∙ c.loop-k.invariant.2
+    elim c.then-b-lt48.branch [
+      | then-b-lt48-via-then-b-lt48 w ↦
+          digit_low c.args.word.now c.loop-b.b-index c.loop-b.sum c.loop-b-test.true w.if-b-lt48.true ∙ c.loop-b.invariant
+      | then-b-lt48-via-else-b-lt48+then-b-gt57 w ↦
+          digit_high c.args.word.now c.loop-b.b-index c.loop-b.sum c.loop-b-test.true w.if-b-lt48.false w.if-b-gt57.true
+          ∙ c.loop-b.invariant
+    ]
 
-pub returns-then-b-gt57 : goal.returns-then-b-gt57
-returns-then-b-gt57 c =
-    digit_high c.args.word.now c.loop-k.k c.loop-k.sum c.loop-k-test.true c.if-b-lt48.false c.if-b-gt57.true ∙ c.loop-k.invariant.2
+pub returns-in_err-checked_mul : goal.returns-in_err-checked_mul
+returns-in_err-checked_mul c =
+    let big : most < c.loop-b.sum * 10 + (get_or c.args.word.now c.loop-b.b-index 0 - 0x30) = grind (arith, common_steps) in
+    let none : c.from_residual.result ≡ None = grind (arith, common_steps) in
+    none
+    ∙ too_many c.args.word.now c.loop-b.b-index c.loop-b.sum c.loop-b-test.true c.if-b-lt48.false c.if-b-gt57.false big
+    ∙ c.loop-b.invariant
 
-pub returns-then-sum-gt-MOST : goal.returns-then-sum-gt-MOST
-returns-then-sum-gt-MOST c =
-    too_many c.args.word.now c.loop-k.k c.loop-k.sum c.loop-k-test.true c.if-b-lt48.false c.if-b-gt57.false
-    (rw c.value.ensures.0 at c.if-sum-gt-MOST.true)
-    ∙ c.loop-k.invariant.2
+pub returns-in_err-sum : goal.returns-in_err-sum
+returns-in_err-sum c =
+    let big : most < c.loop-b.sum * 10 + (get_or c.args.word.now c.loop-b.b-index 0 - 0x30) = grind (arith, common_steps) in
+    let none : c.from_residual-in_err-sum.result ≡ None = grind (arith, common_steps) in
+    none
+    ∙ too_many c.args.word.now c.loop-b.b-index c.loop-b.sum c.loop-b-test.true c.if-b-lt48.false c.if-b-gt57.false big
+    ∙ c.loop-b.invariant
 
-pub loop-k-preserved : goal.loop-k-preserved
-loop-k-preserved c = (
-  omega (arith, c.loop-k-test.true),
-  c.if-sum-gt-MOST.false,
-  rw c.value.ensures.0 (digit_more c.args.word.now c.loop-k.k c.loop-k.sum c.loop-k-test.true c.if-b-lt48.false c.if-b-gt57.false
-      (rw c.value.ensures.0 at c.if-sum-gt-MOST.false) ∙ c.loop-k.invariant.2),
-)
+pub loop-b-preserved : goal.loop-b-preserved
+loop-b-preserved c =
+    let is : c.in_ok-sum.sum ≡ c.loop-b.sum * 10 + (get_or c.args.word.now c.loop-b.b-index 0 - 0x30) = grind (arith, common_steps) in
+    rw is (
+    digit_more c.args.word.now c.loop-b.b-index c.loop-b.sum c.loop-b-test.true c.if-b-lt48.false c.if-b-gt57.false (omega (arith, is))
+    ∙ c.loop-b.invariant
+    )
 
 pub returns : goal.returns
-returns c = digits_end c.args.word.now c.loop-k.k c.loop-k.sum c.loop-k-test.false ∙ c.loop-k.invariant.2
+returns c = digits_end c.args.word.now c.loop-b.b-index c.loop-b.sum c.loop-b-test.false ∙ c.loop-b.invariant

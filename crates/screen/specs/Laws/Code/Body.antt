@@ -246,13 +246,13 @@ module _ (rom : List ℕ) (length : ℕ) (wide : Bool) (kinds : List ℕ) where
               (goes t r.1 (subst (λ (y : Read). stands_in kinds y ≡ true) r.1 s) (λ q. n ((ends_first rom p b f).1 (sym h ∙ q))))
 
 -- how far they were marked: up to the C2, whose place that is, or not
-pub record Marks (length : ℕ) (m : Marked) (end : ℕ) (seen' : List ℕ) : Type 0 where
+pub record MarksGood (length : ℕ) (m : Marked) (end : ℕ) (seen' : List ℕ) : Type 0 where
   pub same : marked true end seen' ≡ m
   pub inside : end < length
 
 abbrev pub MarksIs : ℕ → Marked → Option ℕ → List ℕ → Type 0
 MarksIs length m None seen' = m.good ≡ false
-MarksIs length m (Some end) seen' = Marks length m end seen'
+MarksIs length m (Some end) seen' = MarksGood length m end seen'
 
 -- ---- the tally
 pub record Low (a : Tally) : Type 0 where
