@@ -2,12 +2,11 @@
 -- 29 >>a 2B u/mod (remainder under quotient) 2C negate 2D abs 2E min 2F max 57 2/ 58 u2/ 59 2*". In a token of two cells a is the lower
 -- one and b the upper; in a shift n is the count, the upper one. Assumes nothing.
 use Rattle.std.specs.Prelude.{ℕ, ◌+◌, ◌-◌, ◌*◌, ◌/◌, ◌%◌, ◌^◌, true, false, pos, neg_ℤ, ◌==◌, bit_and, bit_or, bit_xor, int_lt, nat_lt}
-use Rattle.std.specs.Prelude.{unsigned_abs}
+use Rattle.std.specs.Prelude.{unsigned_abs, Option, Some, None}
 use Rattle.std.specs.Int.Signed.{shr_z}
 use Rattle.cells.specs.Choice.{pick}
 use Rattle.cells.specs.Signed.{signed, cell, flag, negative}
-use Rattle.cells.specs.declared.Divided.{Divided}
-use Rattle.cells.specs.declared.Divided.TheVariants.{ByZero, Parts}
+use Rattle.cells.specs.declared.Divided.{Divided as DividedSaid}
 
 abbrev pub plus_of : ℕ → ℕ → ℕ
 plus_of a b = (a + b) % 2 ^ 32
@@ -48,6 +47,16 @@ remainder_of a b = a % b
 
 abbrev pub quotient_of : ℕ → ℕ → ℕ
 quotient_of a b = a / b
+
+-- what u/mod gives: nothing where the divisor is zero, else the remainder and the quotient
+pub data Divided : Type 0 where
+  ByZero : Divided
+  Parts : (remainder quotient : ℕ) → Divided
+
+-- and what the code hands back of it
+abbrev pub divided_in : Option DividedSaid → Divided
+divided_in None = ByZero
+divided_in (Some d) = Parts d.remainder d.quotient
 
 abbrev pub divided_of : ℕ → ℕ → Divided
 divided_of a b = pick (b == 0) ByZero (Parts (remainder_of a b) (quotient_of a b))

@@ -2,8 +2,8 @@
 -- cases. The promises use that definition." The number is the refusal's, or 0 where nothing is refused; the values are what the case holds
 -- besides. Each crate sets out its own enums in a module of this name; here that of u/mod. Assumes nothing.
 use Rattle.std.specs.Prelude.{ℕ, List, [], ◌∷◌}
-use Rattle.cells.specs.declared.Divided.{Divided}
-use Rattle.cells.specs.declared.Divided.TheVariants.{ByZero, Parts}
+use Rattle.cells.specs.Arithmetic.{Divided}
+use Rattle.cells.specs.Arithmetic.{ByZero, Parts}
 
 pub record Numbered : Type 0 where
   pub number : ℕ

@@ -5,7 +5,7 @@ mod order;
 
 ghost use Rattle.std.specs.Prelude.{◌≡◌};
 ghost use Rattle.cells.specs.Arithmetic.{plus_of, minus_of, times_of, and_of, or_of, xor_of, invert_of};
-ghost use Rattle.cells.specs.Arithmetic.{lshift_of, rshift_of, ashift_of, divided_of, negate_of, abs_of};
+ghost use Rattle.cells.specs.Arithmetic.{lshift_of, rshift_of, ashift_of, divided_of, divided_in, negate_of, abs_of};
 ghost use Rattle.cells.specs.Arithmetic.{min_of, max_of, half_of, u_half_of, double_of};
 
 pub use order::{
@@ -16,9 +16,9 @@ pub use order::{
 
 // What u/mod gives: the remainder stands under the quotient on the stack.
 #[derive(Clone, Copy)]
-pub enum Divided {
-    ByZero,
-    Parts { remainder: u32, quotient: u32 },
+pub struct Divided {
+    pub remainder: u32,
+    pub quotient: u32,
 }
 
 // 1E +
@@ -94,17 +94,17 @@ pub fn ashift(a: u32, n: u32) -> u32
     (a.cast_signed() >> n.min(31)).cast_unsigned()
 }
 
-// 2B u/mod
-pub fn u_mod(a: u32, b: u32) -> Divided
-    ensures { result ≡ divided_of a b }
+// 2B u/mod: none where the divisor is zero
+pub fn u_mod(a: u32, b: u32) -> Option<Divided>
+    ensures { divided_in result ≡ divided_of a b }
 {
     if b == 0 {
-        Divided::ByZero
+        None
     } else {
-        Divided::Parts {
+        Some(Divided {
             remainder: a % b,
             quotient: a / b,
-        }
+        })
     }
 }
 

@@ -96,13 +96,13 @@ fn print_cell(rt: &impl Print, a: u32) -> io::Result<()> {
     rt.write_all(&text)
 }
 
-fn print_divided(rt: &impl Print, d: Divided) -> io::Result<()> {
-    match d {
-        Divided::ByZero => rt.write_all(b" zero"),
-        Divided::Parts {
+fn print_divided(rt: &impl Print, divided: Option<Divided>) -> io::Result<()> {
+    match divided {
+        None => rt.write_all(b" zero"),
+        Some(Divided {
             remainder,
             quotient,
-        } => {
+        }) => {
             print_cell(rt, remainder)?;
             print_cell(rt, quotient)
         }

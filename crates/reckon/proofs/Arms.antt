@@ -13,7 +13,7 @@ use Rattle.state.specs.Stacks.{stacks, left_of, plain_of}
 use Rattle.tokens.specs.Laws.Rows.{results_fit}
 use Rattle.reckon.specs.Joints.Reckoned.{Like, OfNone, OfOne, OfTwo, OfThree}
 use Rattle.reckon.specs.Joints.Fast.{OnData, Reads, turned}
-use Rattle.reckon.specs.declared.turned.Fared.TheVariants.{On, Not}
+use Rattle.reckon.specs.Joints.Turned.{On, Not}
 use Rattle.reckon.proofs.Made.{literal_made}
 use Rattle.reckon.proofs.Paths.{high, fine, data_fine, none_given}
 use Rattle.reckon.proofs.Given.{none_code, one_code, two_code, three_code, nothing_code}

@@ -10,8 +10,8 @@ use lib.Seq.{get_or-set_other}
 use borrow.Author.Tests.{lt-ltb, le-ltb, ne_eqb}
 use Rattle.cells.specs.Choice.{pick}
 use Rattle.cells.specs.Arithmetic.{divided_of}
-use Rattle.cells.specs.declared.Divided.{Divided}
-use Rattle.cells.specs.declared.Divided.TheVariants.{ByZero, Parts}
+use Rattle.cells.specs.Arithmetic.{Divided}
+use Rattle.cells.specs.Arithmetic.{ByZero, Parts}
 use Rattle.tokens.specs.Table.{ends, lows, highs, doubles, table, row_of}
 use Rattle.tokens.specs.Code.{code_of}
 use Rattle.state.specs.Stacks.{stacks, left_of, cells_from, plain_of, turned_of}

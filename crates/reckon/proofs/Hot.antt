@@ -1,5 +1,6 @@
 -- A token that is done in place, as the step reads it: its number is one byte, it is never out of place, and its form is none, a literal or
 -- an offset. Assumes nothing.
+use Rattle.std.proofs.Common.{Err, Ok, Result}
 use Prim.Native.Nat.{ℕ, ◌+◌, ◌*◌, ◌<◌, ◌≤◌}
 use mathlib.Core.Path.{◌≡◌, refl, ◌∙◌, ap}
 use mathlib.Core.Bool.{Bool, true, false, not, ◌&&◌, ◌||◌}
@@ -20,13 +21,12 @@ use Rattle.tokens.specs.Decode.{token_of as token_made}
 use Rattle.tokens.specs.Place.{judged, misplaced_of, read_of}
 use Rattle.tokens.specs.declared.decoding.Operand.{Operand}
 use Rattle.tokens.specs.declared.decoding.Decoded.TheVariants.{Cut, Whole}
-use Rattle.tokens.specs.declared.read.Read.{Read}
-use Rattle.tokens.specs.declared.read.Read.TheVariants.{Refused as Unread, Good}
 use Rattle.tokens.specs.Laws.Rows.{rows_pass, Beside, none_left}
 use Rattle.state.specs.State.{is_open}
 use Rattle.state.specs.Scene.{Scene, refuse}
 use Rattle.state.specs.Step.{read_turn, done_of, token_turn}
 use Rattle.state.specs.Joints.Hot.{hot_family}
+use Rattle.tokens.specs.declared.decoding.Token.{Token}
 
 -- ---- what the list says of every hot number
 abbrev fits : ℕ → ℕ → Bool
@@ -91,14 +91,14 @@ module _ (rom : List ℕ) (size : ℕ) (wide within : Bool) (p : ℕ) (n : ℕ) 
         rw (s, ← e)
 
     judged_hot : (b : Bool) → judged within (pick b Cut (Whole (token_made n (code_of n) operand_here next_of)))
-        ≡ pick b (Unread 10) (Good (token_made n (code_of n) operand_here next_of))
+        ≡ pick b (Err 10) (Ok (token_made n (code_of n) operand_here next_of))
     unfolding misplaced_of
     judged_hot true = refl
     judged_hot false = rw (hot_token n hot).anywhere
 
     -- what is read there
-    pub hot_read : read_of rom size wide within p ≡ pick (ltb size next_of) (Unread 10)
-        (Good (token_made n (code_of n) operand_here next_of))
+    pub hot_read : read_of rom size wide within p ≡ pick (ltb size next_of) (Err 10)
+        (Ok (token_made n (code_of n) operand_here next_of))
     unfolding read_of token_if_whole
     hot_read =
         rw (hot_decoded, (hot_token n hot).named, form_formed rom size wide (p + 1) (form_in (code_of n)) (hot_token n hot).form)
@@ -112,14 +112,14 @@ pub hot_turn : (s : Scene) (n : ℕ) → n ≡ byte_of s.rom s.state.place → T
     (behind_of s.rom s.state.wide (s.state.place + 1) (form_in (code_of n)))))
 unfolding token_turn
 hot_turn s n e hot =
-    ap (λ (r : Read). read_turn s r) (hot_read s.rom s.state.length s.state.wide (is_open s.state.calls)
+    ap (λ (r : Result Token ℕ). read_turn s r) (hot_read s.rom s.state.length s.state.wide (is_open s.state.calls)
     s.state.place n e hot)
     ∙ by (ltb s.state.length (behind_of s.rom s.state.wide (s.state.place + 1) (form_in (code_of n))))
   where
     by : (b : Bool)
         → read_turn s
-        (pick b (Unread 10)
-        (Good (token_made n (code_of n) (operand_of s.rom s.state.length s.state.wide (s.state.place + 1) (form_in (code_of n)))
+        (pick b (Err 10)
+        (Ok (token_made n (code_of n) (operand_of s.rom s.state.length s.state.wide (s.state.place + 1) (form_in (code_of n)))
         (behind_of s.rom s.state.wide (s.state.place + 1) (form_in (code_of n))))))
         ≡ pick b (refuse 10 s)
         (done_of s

@@ -1,4 +1,5 @@
 -- A token done in place agrees with the token of every packed state. Assumes nothing.
+use Rattle.std.proofs.Common.{None, Option, Some}
 use Prim.Native.Nat.{ℕ, ◌+◌, ◌-◌, ◌<◌, ◌≤◌}
 use mathlib.Core.Path.{◌≡◌, refl, sym, ◌∙◌, ap}
 use mathlib.Core.Bool.{Bool, true, false}
@@ -9,8 +10,6 @@ use lib.Dec.{T, ltb, eqb}
 use Rattle.cells.specs.Choice.{pick}
 use Rattle.rom.specs.Bytes.{byte_of}
 use Rattle.rom.specs.Branch.{offset_of, aim_of}
-use Rattle.rom.specs.declared.branch.Aim.{Aim}
-use Rattle.rom.specs.declared.branch.Aim.TheVariants.{Inside, Outside}
 use Rattle.tokens.specs.Family.{plain}
 use Rattle.tokens.specs.Table.{ends, lows, highs, doubles, table, row_of}
 use Rattle.tokens.specs.Code.{code_of, family_in, form_in}
@@ -27,7 +26,7 @@ use Rattle.state.specs.Effects.{operand_in}
 use Rattle.state.specs.Step.{done_of, token_turn}
 use Rattle.reckon.specs.Joints.Fast.{packed_fast, behind_branch}
 use Rattle.state.specs.Joints.Hot.{hot_family}
-use Rattle.state.specs.declared.answer.Answer.TheVariants.{Going, Refused}
+use Rattle.state.specs.Answer.{Going, Refused}
 use Rattle.reckon.proofs.Hot.{hot_turn}
 use Rattle.reckon.proofs.HotDone.{outcome_turn, plain_done, behind_plain, operand_plain, behind_plain_lem, operand_plain_lem, always_inside}
 use Rattle.reckon.proofs.HotDone.{always_outside, choice_low, choice_inside, choice_outside, choice_past, divide_done, pick_done}
@@ -70,9 +69,9 @@ turn_of s why next g r d l =
     s.store
 
 -- a taken branch, to the height g
-abbrev taken_of : Scene → Aim → ℕ → Turn
-taken_of s (Inside to) g = goes s (packed_fast s.state s.state.stack.cells g s.state.back.cells s.state.back.height to)
-taken_of s Outside g = refuse 19 s
+abbrev taken_of : Scene → Option ℕ → ℕ → Turn
+taken_of s (Some to) g = goes s (packed_fast s.state s.state.stack.cells g s.state.back.cells s.state.back.height to)
+taken_of s None g = refuse 19 s
 
 -- what the work on the stacks left is the turn of its outcome
 outcome_turn_lem : (s : Scene) (next why g r : ℕ) (d l : List ℕ) (o : Reckoned) → reckoned_as why (stacks d g l r) ≡ o
@@ -173,7 +172,7 @@ module _ (s : Scene) (n : ℕ) (e : n ≡ byte_of s.rom s.state.place) where
       (maybe_unmoved (stacks_of s.state))
 
   -- ---- branches
-  abbrev aim_here : Aim
+  abbrev aim_here : Option ℕ
   aim_here = aim_of s.rom s.state.length s.state.wide (s.state.place + 1)
 
   offset_here : (k : ℕ) → code_of n ≡ k → form_in k ≡ 3
@@ -206,12 +205,12 @@ module _ (s : Scene) (n : ℕ) (e : n ≡ byte_of s.rom s.state.place) where
         → token_turn s ≡ taken_of s aim_here s.state.stack.height
     always_turn l = branch_done 0x0303_0000 c refl tt l ∙ by aim_here
       where
-        by : (a : Aim)
+        by : (a : Option ℕ)
             → done_of s (token_made n 0x0303_0000 (Branch (offset_of s.rom s.state.wide (s.state.place + 1)) a)
             (behind_branch s.state.wide s.state.place))
             ≡ taken_of s a s.state.stack.height
-        by (Inside to) = always_inside s n _ _ h to
-        by Outside = always_outside s n _ _ h
+        by (Some to) = always_inside s n _ _ h to
+        by None = always_outside s n _ _ h
 
   module _ (c : code_of n ≡ 0x0403_0010) (h : s.state.stack.height ≤ data_most) where
     pub choice_cut : s.state.length < behind_branch s.state.wide s.state.place → token_turn s ≡ refuse 10 s
@@ -226,13 +225,13 @@ module _ (s : Scene) (n : ℕ) (e : n ≡ byte_of s.rom s.state.place) where
       unfolding left_of
       choice_taken o z = branch_done 0x0403_0010 c refl tt l ∙ by aim_here
         where
-          by : (a : Aim)
+          by : (a : Option ℕ)
               → done_of s (token_made n 0x0403_0010 (Branch (offset_of s.rom s.state.wide (s.state.place + 1)) a)
               (behind_branch s.state.wide s.state.place))
               ≡ taken_of s a (s.state.stack.height - 1)
-          by (Inside to) = let y : s.state.stack.height - 1 + 0 ≡ s.state.stack.height - 1 = omega arith in
+          by (Some to) = let y : s.state.stack.height - 1 + 0 ≡ s.state.stack.height - 1 = omega arith in
               choice_inside s n _ _ h o to z ∙ rw y
-          by Outside = choice_outside s n _ _ h o z
+          by None = choice_outside s n _ _ h o z
 
       pub choice_fallen : 1 ≤ s.state.stack.height → (cell_of s 0 ≡ 0 → ⊥)
           → token_turn s ≡ goes s (packed_fast s.state s.state.stack.cells (s.state.stack.height - 1) s.state.back.cells

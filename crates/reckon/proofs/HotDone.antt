@@ -1,4 +1,5 @@
 -- What a token does that is done in place, once it is read: the step's definition is that of its work on the stacks. Assumes nothing.
+use Rattle.std.proofs.Common.{None, Option, Some}
 use Prim.Native.Nat.{ℕ, ◌+◌, ◌-◌, ◌<◌, ◌≤◌}
 use mathlib.Core.Path.{◌≡◌, refl, sym, ◌∙◌, subst}
 use mathlib.Core.Bool.{Bool, true, false, ◌||◌}
@@ -8,8 +9,6 @@ use borrow.Author.Tests.{lt-ltb, le-ltb, eq-eqb, ne_eqb, eqb-true, ltb-false}
 use lib.Dec.{T, ltb, eqb}
 use Rattle.cells.specs.Choice.{pick, among}
 use Rattle.rom.specs.Bytes.{word32_of}
-use Rattle.rom.specs.declared.branch.Aim.{Aim}
-use Rattle.rom.specs.declared.branch.Aim.TheVariants.{Inside, Outside}
 use Rattle.tokens.specs.Family.{plain}
 use Rattle.tokens.specs.Code.{code_of, family_in, form_in, takes_in, gives_in}
 use Rattle.tokens.specs.Decode.{behind_of, operand_of}
@@ -192,37 +191,37 @@ module _ (rom : List ℕ) (size : ℕ) (wide : Bool) (p n : ℕ) (f : family_in 
 
 -- ---- bbranch and b?branch
 module _ (s : Scene) (n bits next : ℕ) (high : s.state.stack.height ≤ data_most) where
-  pub always_inside : (to : ℕ) → done_of s (token_made n 0x0303_0000 (Branch bits (Inside to)) next) ≡ goes s (moved_to s.state to)
+  pub always_inside : (to : ℕ) → done_of s (token_made n 0x0303_0000 (Branch bits (Some to)) next) ≡ goes s (moved_to s.state to)
   unfolding refusal_of act_of effects
   always_inside to =
-      carried s (token_made n 0x0303_0000 (Branch bits (Inside to)) next)
+      carried s (token_made n 0x0303_0000 (Branch bits (Some to)) next)
       (simp (le-ltb s.state.stack.height 0 (omega arith), le-ltb data_most (s.state.stack.height - 0 + 0) (omega arith)))
 
-  pub always_outside : done_of s (token_made n 0x0303_0000 (Branch bits Outside) next) ≡ refuse 19 s
+  pub always_outside : done_of s (token_made n 0x0303_0000 (Branch bits None) next) ≡ refuse 19 s
   unfolding refusal_of
   always_outside =
-      stopped s (token_made n 0x0303_0000 (Branch bits Outside) next) 19 refl (simp (le-ltb s.state.stack.height 0 (omega arith)))
+      stopped s (token_made n 0x0303_0000 (Branch bits None) next) 19 refl (simp (le-ltb s.state.stack.height 0 (omega arith)))
 
-  pub choice_low : (aim : Aim) → s.state.stack.height < 1 → done_of s (token_made n 0x0403_0010 (Branch bits aim) next) ≡ refuse 14 s
+  pub choice_low : (aim : Option ℕ) → s.state.stack.height < 1 → done_of s (token_made n 0x0403_0010 (Branch bits aim) next) ≡ refuse 14 s
   unfolding refusal_of
   choice_low aim l = stopped s (token_made n 0x0403_0010 (Branch bits aim) next) 14 refl (simp (lt-ltb s.state.stack.height 1 l))
 
   module _ (low : 1 ≤ s.state.stack.height) where
     pub choice_inside : (to : ℕ) → cell_of s 0 ≡ 0
-        → done_of s (token_made n 0x0403_0010 (Branch bits (Inside to)) next) ≡ goes s (moved s.state (gave s.state 1 []) to)
+        → done_of s (token_made n 0x0403_0010 (Branch bits (Some to)) next) ≡ goes s (moved s.state (gave s.state 1 []) to)
     unfolding refusal_of act_of effects
     choice_inside to z =
-        carried s (token_made n 0x0403_0010 (Branch bits (Inside to)) next)
+        carried s (token_made n 0x0403_0010 (Branch bits (Some to)) next)
         (simp (le-ltb s.state.stack.height 1 low, eq-eqb _ _ z, le-ltb data_most (s.state.stack.height - 1 + 0) (omega arith)))
         ∙ rw (eq-eqb (cell_of s 0) 0 z)
 
-    pub choice_outside : cell_of s 0 ≡ 0 → done_of s (token_made n 0x0403_0010 (Branch bits Outside) next) ≡ refuse 19 s
+    pub choice_outside : cell_of s 0 ≡ 0 → done_of s (token_made n 0x0403_0010 (Branch bits None) next) ≡ refuse 19 s
     unfolding refusal_of
     choice_outside z =
-        stopped s (token_made n 0x0403_0010 (Branch bits Outside) next) 19 refl
+        stopped s (token_made n 0x0403_0010 (Branch bits None) next) 19 refl
         (simp (le-ltb s.state.stack.height 1 low, eq-eqb (cell_of s 0) 0 z))
 
-    pub choice_past : (aim : Aim) → (cell_of s 0 ≡ 0 → ⊥)
+    pub choice_past : (aim : Option ℕ) → (cell_of s 0 ≡ 0 → ⊥)
         → done_of s (token_made n 0x0403_0010 (Branch bits aim) next) ≡ goes s (moved s.state (gave s.state 1 []) next)
     unfolding refusal_of act_of effects
     choice_past aim z =

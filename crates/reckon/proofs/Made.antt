@@ -1,4 +1,5 @@
 -- What each way through a token in place promises. Assumes nothing.
+use Rattle.std.proofs.Common.{Some}
 use Prim.Native.Nat.{ℕ, ◌+◌, ◌-◌, ◌<◌, ◌≤◌}
 use mathlib.Core.Path.{◌≡◌, refl, sym, ◌∙◌, ap, subst}
 use mathlib.Core.Bool.{Bool, true, false}
@@ -11,7 +12,6 @@ use Rattle.cells.specs.Choice.{pick}
 use Rattle.rom.specs.Bytes.{byte_of, word32_of}
 use Rattle.rom.specs.Branch.{aim_of, place_in}
 use Rattle.rom.specs.Laws.Branch.{AimFits, aim_fits, aim_outside, aim_inside}
-use Rattle.rom.specs.declared.branch.Aim.TheVariants.{Inside}
 use Rattle.tokens.specs.Family.{plain}
 use Rattle.tokens.specs.Table.{ends, lows, highs, doubles, table, row_of}
 use Rattle.tokens.specs.Code.{code_of, family_in}
@@ -21,10 +21,10 @@ use Rattle.state.specs.Scene.{scene, turn}
 use Rattle.state.specs.Step.{token_turn}
 use Rattle.state.specs.Joints.Hot.{hot_family, Cold as IsCold}
 use Rattle.state.specs.declared.state.State.{State}
-use Rattle.state.specs.declared.answer.Answer.TheVariants.{Going, Refused}
+use Rattle.state.specs.Answer.{Going, Refused}
 use Rattle.reckon.specs.Joints.Fast.{packed_fast, Goes, FitsFast, Fast, Here, OnBoth, OnData, Reads, turned, behind_branch}
-use Rattle.reckon.specs.declared.turned.Fared.TheVariants.{On, Cold, Not}
-use Rattle.reckon.specs.declared.turned.Turned.{Turned}
+use Rattle.reckon.specs.Joints.Turned.{On, Cold, Not}
+use Rattle.reckon.specs.Joints.Turned.{Turned}
 use Rattle.reckon.proofs.Hot.{double_cold, cut_off}
 use Rattle.reckon.proofs.HotDone.{behind_plain, operand_plain}
 use Rattle.reckon.proofs.HotAgrees.{turn_of, plain_cut, plain_turn, divide_turn, pick_turn, roll_turn, maybe_turn, always_cut}
@@ -214,7 +214,7 @@ module _ (rom : List ℕ) (size : ℕ) (wide : Bool) (h b place : ℕ) (c : List
       module _ (to : ℕ) (a : to ≡ place_in (aim_of rom size wide (place + 1))) where
         lands : (to ≡ 0 → ⊥) → (8 ≤ to) × (to ≤ size)
         lands z =
-            let f : AimFits size (Inside to) = subst (AimFits size) (aim_inside rom size wide (place + 1) to a z)
+            let f : AimFits size (Some to) = subst (AimFits size) (aim_inside rom size wide (place + 1) to a z)
             (aim_fits rom size wide (place + 1)) in
             (f.0, omega (arith, f.1))
 

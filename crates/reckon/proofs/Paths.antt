@@ -14,7 +14,7 @@ use Rattle.tokens.specs.Code.{code_of, family_in, takes_in, gives_in, return_tak
 use Rattle.state.specs.Stacks.{Stacks, stacks, left_of, seen_of, reckoned_of, plain_of}
 use Rattle.tokens.specs.Laws.Rows.{return_results_fit}
 use Rattle.reckon.specs.Joints.Fast.{OnData, turned}
-use Rattle.reckon.specs.declared.turned.Fared.TheVariants.{On, Not}
+use Rattle.reckon.specs.Joints.Turned.{On, Not}
 use Rattle.reckon.proofs.Made.{data_made}
 use Rattle.state.specs.Joints.Reckoning.{reckoned_as, reckon_of}
 use Rattle.rom.specs.Sizes.{data_most, return_most}

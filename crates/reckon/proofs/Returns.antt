@@ -9,7 +9,7 @@ use Rattle.tokens.specs.Table.{ends, lows, highs, doubles, table, row_of}
 use Rattle.tokens.specs.Code.{code_of}
 use Rattle.state.specs.Stacks.{stacks, left_of, plain_of}
 use Rattle.reckon.specs.Joints.Fast.{OnBoth, turned}
-use Rattle.reckon.specs.declared.turned.Fared.TheVariants.{On, Not}
+use Rattle.reckon.specs.Joints.Turned.{On, Not}
 use Rattle.reckon.proofs.Made.{both_made}
 use Rattle.reckon.proofs.Paths.{low, back_low, back_high, high, fine}
 use Rattle.state.specs.Joints.Reckoning.{reckoned_as}

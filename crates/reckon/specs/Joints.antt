@@ -2,6 +2,8 @@
 
 -- The one cell that a token gives, by its number and what it sees.
 pub mod Reckoned
+-- How a token in place ended.
+pub mod Turned
 -- A token in place, on the cells, the heights and the place alone, and how it agrees with the step of the whole state, whatever the rest of
 -- it is.
 pub mod Fast

@@ -4,6 +4,7 @@ ghost use Rattle.std.specs.Prelude.{◌≡◌, Bool, List, ℕ, ◌≤◌, ◌<�
 ghost use Rattle.rom.specs.Bytes.{byte_of, word32_of};
 ghost use Rattle.rom.specs.Branch.{aim_of, place_in};
 ghost use Rattle.state.specs.Joints.Apart.{base_in};
+ghost use Rattle.reckon.specs.Joints.Turned.{turned_in};
 ghost use Rattle.reckon.specs.Joints.Fast.{behind_branch, HoldsFast, Reads, Fast};
 ghost use Rattle.rom.specs.Sizes.{data_most, return_most, rom_most};
 
@@ -13,7 +14,7 @@ use crate::reckon::{
     to_return, tuck,
 };
 use crate::turned::{Turned, cold, on, refuse};
-use rom::destination;
+use rom::{Refusal, destination};
 use rom::sizes::{DATA_MOST, FRAMES_MOST, RETURN_MOST};
 use state::base;
 
@@ -61,13 +62,13 @@ fn literal(
     place: u32,
 ) -> Turned
     requires { (h ≤ data_most) × (b ≤ return_most) × (place < length) × (length ≤ rom_most) × HoldsFast rom.now length }
-    ensures { (wide : Bool) → Reads 0x10 rom.now length wide stack.old h b place result stack.new }
+    ensures { (wide : Bool) → Reads 0x10 rom.now length wide stack.old h b place (turned_in result) stack.new }
 {
     if length < place + 5 {
-        return refuse(10, h, b, place);
+        return refuse(Refusal::CutOff, h, b, place);
     }
     if DATA_MOST <= h {
-        return refuse(15, h, b, place);
+        return refuse(Refusal::TooHigh, h, b, place);
     }
     let at = place as usize;
     stack[h] = word_at(rom, at + 1);
@@ -77,14 +78,14 @@ fn literal(
 // 13 bbranch
 fn always(rom: &[u8], length: u32, wide: bool, h: usize, b: usize, place: u32) -> Turned
     requires { (h ≤ data_most) × (b ≤ return_most) × (place < length) × (length ≤ rom_most) }
-    ensures { (c : List ℕ) → Reads 0x13 rom.now length wide c h b place result c }
+    ensures { (c : List ℕ) → Reads 0x13 rom.now length wide c h b place (turned_in result) c }
 {
     if length < behind_branch(wide, place) {
-        return refuse(10, h, b, place);
+        return refuse(Refusal::CutOff, h, b, place);
     }
     let to = branch_to(rom, length, wide, place);
     if to == 0 {
-        return refuse(19, h, b, place);
+        return refuse(Refusal::Astray, h, b, place);
     }
     on(h, b, to)
 }
@@ -100,21 +101,21 @@ fn choose(
     place: u32,
 ) -> Turned
     requires { (h ≤ data_most) × (b ≤ return_most) × (place < length) × (length ≤ rom_most) }
-    ensures { Reads 0x14 rom.now length wide stack.now h b place result stack.now }
+    ensures { Reads 0x14 rom.now length wide stack.now h b place (turned_in result) stack.now }
 {
     let next = behind_branch(wide, place);
     if length < next {
-        return refuse(10, h, b, place);
+        return refuse(Refusal::CutOff, h, b, place);
     }
     if h < 1 {
-        return refuse(14, h, b, place);
+        return refuse(Refusal::TooLow, h, b, place);
     }
     if stack[h - 1] != 0 {
         return on(h - 1, b, next);
     }
     let to = branch_to(rom, length, wide, place);
     if to == 0 {
-        return refuse(19, h, b, place);
+        return refuse(Refusal::Astray, h, b, place);
     }
     on(h - 1, b, to)
 }
@@ -137,10 +138,10 @@ pub fn fast(
     requires { (h ≤ data_most) × (base_in bases.now frames ≤ b) × (b ≤ return_most) × (8 ≤ place) × (place ≤ length) × (length ≤ rom_most)
         × HoldsFast rom.now length }
     ensures { Fast rom.now length wide (base_in bases.now frames) stack.old h
-        back.old b place result stack.new back.new }
+        back.old b place (turned_in result) stack.new back.new }
 {
     if length <= place {
-        return refuse(10, h, b, place);
+        return refuse(Refusal::CutOff, h, b, place);
     }
     match byte_at(rom, place as usize) {
         0x10 => literal(rom, length, stack, h, b, place),

@@ -4,16 +4,19 @@
 ghost use Rattle.std.specs.Prelude.{◌≡◌, List, ℕ, ◌+◌, ◌^◌, ◌≤◌, ◌<◌};
 ghost use Rattle.state.specs.Stacks.{turned_of};
 ghost use Rattle.reckon.specs.Joints.Reckoned.{Like, OfNone, OfOne, OfTwo, OfThree};
+ghost use Rattle.reckon.specs.Joints.Turned.{turned_in};
 ghost use Rattle.reckon.specs.Joints.Fast.{OnData, OnBoth};
 ghost use Rattle.rom.specs.Sizes.{data_most, return_most, rom_most};
 
 use crate::turned::{Turned, on, refuse};
+use cells::Divided;
+use rom::Refusal;
 use rom::sizes::{DATA_MOST, RETURN_MOST};
 
 // 7B noop, B1 b(<mark), B2 b(>resolve)
 pub fn nothing(number: u32, h: usize, b: usize, place: u32) -> Turned
     requires { Like number 0x7B × (h ≤ data_most) × (b ≤ return_most) × (place < rom_most) }
-    ensures { (c : List ℕ) → OnData number c h b place result c }
+    ensures { (c : List ℕ) → OnData number c h b place (turned_in result) c }
 {
     on(h, b, place + 1)
 }
@@ -21,10 +24,10 @@ pub fn nothing(number: u32, h: usize, b: usize, place: u32) -> Turned
 // A4 to A8, 51 depth
 pub fn push(number: u32, stack: &mut [u32; DATA_MOST], h: usize, b: usize, place: u32) -> Turned
     requires { Like number 0xA5 × (h ≤ data_most) × (b ≤ return_most) × (place < rom_most) }
-    ensures { OnData number stack.old h b place result stack.new }
+    ensures { OnData number stack.old h b place (turned_in result) stack.new }
 {
     if DATA_MOST <= h {
-        return refuse(15, h, b, place);
+        return refuse(Refusal::TooHigh, h, b, place);
     }
     stack[h] = said(number, h);
     on(h + 1, b, place + 1)
@@ -33,10 +36,10 @@ pub fn push(number: u32, stack: &mut [u32; DATA_MOST], h: usize, b: usize, place
 // A token of the top cell alone
 pub fn by_one(number: u32, stack: &mut [u32; DATA_MOST], h: usize, b: usize, place: u32) -> Turned
     requires { Like number 0x26 × (h ≤ data_most) × (b ≤ return_most) × (place < rom_most) }
-    ensures { OnData number stack.old h b place result stack.new }
+    ensures { OnData number stack.old h b place (turned_in result) stack.new }
 {
     if h < 1 {
-        return refuse(14, h, b, place);
+        return refuse(Refusal::TooLow, h, b, place);
     }
     stack[h - 1] = one(number, stack[h - 1]);
     on(h, b, place + 1)
@@ -45,10 +48,10 @@ pub fn by_one(number: u32, stack: &mut [u32; DATA_MOST], h: usize, b: usize, pla
 // A token of the two highest cells
 pub fn by_two(number: u32, stack: &mut [u32; DATA_MOST], h: usize, b: usize, place: u32) -> Turned
     requires { Like number 0x1E × (h ≤ data_most) × (b ≤ return_most) × (place < rom_most) }
-    ensures { OnData number stack.old h b place result stack.new }
+    ensures { OnData number stack.old h b place (turned_in result) stack.new }
 {
     if h < 2 {
-        return refuse(14, h, b, place);
+        return refuse(Refusal::TooLow, h, b, place);
     }
     stack[h - 2] = two(number, stack[h - 2], stack[h - 1]);
     on(h - 1, b, place + 1)
@@ -57,10 +60,10 @@ pub fn by_two(number: u32, stack: &mut [u32; DATA_MOST], h: usize, b: usize, pla
 // A token of the three highest cells
 pub fn by_three(number: u32, stack: &mut [u32; DATA_MOST], h: usize, b: usize, place: u32) -> Turned
     requires { Like number 0x44 × (h ≤ data_most) × (b ≤ return_most) × (place < rom_most) }
-    ensures { OnData number stack.old h b place result stack.new }
+    ensures { OnData number stack.old h b place (turned_in result) stack.new }
 {
     if h < 3 {
-        return refuse(14, h, b, place);
+        return refuse(Refusal::TooLow, h, b, place);
     }
     stack[h - 3] = three(number, stack[h - 3], stack[h - 2], stack[h - 1]);
     on(h - 2, b, place + 1)
@@ -69,10 +72,10 @@ pub fn by_three(number: u32, stack: &mut [u32; DATA_MOST], h: usize, b: usize, p
 // 46 drop
 pub fn drop_one(h: usize, b: usize, place: u32) -> Turned
     requires { (h ≤ data_most) × (b ≤ return_most) × (place < rom_most) }
-    ensures { (c : List ℕ) → OnData 0x46 c h b place result c }
+    ensures { (c : List ℕ) → OnData 0x46 c h b place (turned_in result) c }
 {
     if h < 1 {
-        return refuse(14, h, b, place);
+        return refuse(Refusal::TooLow, h, b, place);
     }
     on(h - 1, b, place + 1)
 }
@@ -80,10 +83,10 @@ pub fn drop_one(h: usize, b: usize, place: u32) -> Turned
 // 52 2drop
 pub fn drop_two(h: usize, b: usize, place: u32) -> Turned
     requires { (h ≤ data_most) × (b ≤ return_most) × (place < rom_most) }
-    ensures { (c : List ℕ) → OnData 0x52 c h b place result c }
+    ensures { (c : List ℕ) → OnData 0x52 c h b place (turned_in result) c }
 {
     if h < 2 {
-        return refuse(14, h, b, place);
+        return refuse(Refusal::TooLow, h, b, place);
     }
     on(h - 2, b, place + 1)
 }
@@ -91,13 +94,13 @@ pub fn drop_two(h: usize, b: usize, place: u32) -> Turned
 // 47 dup
 pub fn dup(stack: &mut [u32; DATA_MOST], h: usize, b: usize, place: u32) -> Turned
     requires { (h ≤ data_most) × (b ≤ return_most) × (place < rom_most) }
-    ensures { OnData 0x47 stack.old h b place result stack.new }
+    ensures { OnData 0x47 stack.old h b place (turned_in result) stack.new }
 {
     if h < 1 {
-        return refuse(14, h, b, place);
+        return refuse(Refusal::TooLow, h, b, place);
     }
     if DATA_MOST <= h {
-        return refuse(15, h, b, place);
+        return refuse(Refusal::TooHigh, h, b, place);
     }
     stack[h] = stack[h - 1];
     on(h + 1, b, place + 1)
@@ -106,13 +109,13 @@ pub fn dup(stack: &mut [u32; DATA_MOST], h: usize, b: usize, place: u32) -> Turn
 // 48 over
 pub fn over(stack: &mut [u32; DATA_MOST], h: usize, b: usize, place: u32) -> Turned
     requires { (h ≤ data_most) × (b ≤ return_most) × (place < rom_most) }
-    ensures { OnData 0x48 stack.old h b place result stack.new }
+    ensures { OnData 0x48 stack.old h b place (turned_in result) stack.new }
 {
     if h < 2 {
-        return refuse(14, h, b, place);
+        return refuse(Refusal::TooLow, h, b, place);
     }
     if DATA_MOST <= h {
-        return refuse(15, h, b, place);
+        return refuse(Refusal::TooHigh, h, b, place);
     }
     stack[h] = stack[h - 2];
     on(h + 1, b, place + 1)
@@ -121,13 +124,13 @@ pub fn over(stack: &mut [u32; DATA_MOST], h: usize, b: usize, place: u32) -> Tur
 // 4C tuck
 pub fn tuck(stack: &mut [u32; DATA_MOST], h: usize, b: usize, place: u32) -> Turned
     requires { (h ≤ data_most) × (b ≤ return_most) × (place < rom_most) }
-    ensures { OnData 0x4C stack.old h b place result stack.new }
+    ensures { OnData 0x4C stack.old h b place (turned_in result) stack.new }
 {
     if h < 2 {
-        return refuse(14, h, b, place);
+        return refuse(Refusal::TooLow, h, b, place);
     }
     if DATA_MOST <= h {
-        return refuse(15, h, b, place);
+        return refuse(Refusal::TooHigh, h, b, place);
     }
     let under = stack[h - 2];
     let top = stack[h - 1];
@@ -140,10 +143,10 @@ pub fn tuck(stack: &mut [u32; DATA_MOST], h: usize, b: usize, place: u32) -> Tur
 // 49 swap
 pub fn swap(stack: &mut [u32; DATA_MOST], h: usize, b: usize, place: u32) -> Turned
     requires { (h ≤ data_most) × (b ≤ return_most) × (place < rom_most) }
-    ensures { OnData 0x49 stack.old h b place result stack.new }
+    ensures { OnData 0x49 stack.old h b place (turned_in result) stack.new }
 {
     if h < 2 {
-        return refuse(14, h, b, place);
+        return refuse(Refusal::TooLow, h, b, place);
     }
     let under = stack[h - 2];
     stack[h - 2] = stack[h - 1];
@@ -154,10 +157,10 @@ pub fn swap(stack: &mut [u32; DATA_MOST], h: usize, b: usize, place: u32) -> Tur
 // 4A rot
 pub fn rot(stack: &mut [u32; DATA_MOST], h: usize, b: usize, place: u32) -> Turned
     requires { (h ≤ data_most) × (b ≤ return_most) × (place < rom_most) }
-    ensures { OnData 0x4A stack.old h b place result stack.new }
+    ensures { OnData 0x4A stack.old h b place (turned_in result) stack.new }
 {
     if h < 3 {
-        return refuse(14, h, b, place);
+        return refuse(Refusal::TooLow, h, b, place);
     }
     let third = stack[h - 3];
     let under = stack[h - 2];
@@ -171,10 +174,10 @@ pub fn rot(stack: &mut [u32; DATA_MOST], h: usize, b: usize, place: u32) -> Turn
 // 4B -rot
 pub fn rot_back(stack: &mut [u32; DATA_MOST], h: usize, b: usize, place: u32) -> Turned
     requires { (h ≤ data_most) × (b ≤ return_most) × (place < rom_most) }
-    ensures { OnData 0x4B stack.old h b place result stack.new }
+    ensures { OnData 0x4B stack.old h b place (turned_in result) stack.new }
 {
     if h < 3 {
-        return refuse(14, h, b, place);
+        return refuse(Refusal::TooLow, h, b, place);
     }
     let third = stack[h - 3];
     let under = stack[h - 2];
@@ -188,13 +191,13 @@ pub fn rot_back(stack: &mut [u32; DATA_MOST], h: usize, b: usize, place: u32) ->
 // 53 2dup
 pub fn dup_two(stack: &mut [u32; DATA_MOST], h: usize, b: usize, place: u32) -> Turned
     requires { (h ≤ data_most) × (b ≤ return_most) × (place < rom_most) }
-    ensures { OnData 0x53 stack.old h b place result stack.new }
+    ensures { OnData 0x53 stack.old h b place (turned_in result) stack.new }
 {
     if h < 2 {
-        return refuse(14, h, b, place);
+        return refuse(Refusal::TooLow, h, b, place);
     }
     if DATA_MOST < h + 2 {
-        return refuse(15, h, b, place);
+        return refuse(Refusal::TooHigh, h, b, place);
     }
     let under = stack[h - 2];
     let top = stack[h - 1];
@@ -206,13 +209,13 @@ pub fn dup_two(stack: &mut [u32; DATA_MOST], h: usize, b: usize, place: u32) -> 
 // 54 2over
 pub fn over_two(stack: &mut [u32; DATA_MOST], h: usize, b: usize, place: u32) -> Turned
     requires { (h ≤ data_most) × (b ≤ return_most) × (place < rom_most) }
-    ensures { OnData 0x54 stack.old h b place result stack.new }
+    ensures { OnData 0x54 stack.old h b place (turned_in result) stack.new }
 {
     if h < 4 {
-        return refuse(14, h, b, place);
+        return refuse(Refusal::TooLow, h, b, place);
     }
     if DATA_MOST < h + 2 {
-        return refuse(15, h, b, place);
+        return refuse(Refusal::TooHigh, h, b, place);
     }
     let under = stack[h - 4];
     let top = stack[h - 3];
@@ -224,10 +227,10 @@ pub fn over_two(stack: &mut [u32; DATA_MOST], h: usize, b: usize, place: u32) ->
 // 55 2swap
 pub fn swap_two(stack: &mut [u32; DATA_MOST], h: usize, b: usize, place: u32) -> Turned
     requires { (h ≤ data_most) × (b ≤ return_most) × (place < rom_most) }
-    ensures { OnData 0x55 stack.old h b place result stack.new }
+    ensures { OnData 0x55 stack.old h b place (turned_in result) stack.new }
 {
     if h < 4 {
-        return refuse(14, h, b, place);
+        return refuse(Refusal::TooLow, h, b, place);
     }
     let p = stack[h - 4];
     let q = stack[h - 3];
@@ -243,10 +246,10 @@ pub fn swap_two(stack: &mut [u32; DATA_MOST], h: usize, b: usize, place: u32) ->
 // 56 2rot
 pub fn rot_two(stack: &mut [u32; DATA_MOST], h: usize, b: usize, place: u32) -> Turned
     requires { (h ≤ data_most) × (b ≤ return_most) × (place < rom_most) }
-    ensures { OnData 0x56 stack.old h b place result stack.new }
+    ensures { OnData 0x56 stack.old h b place (turned_in result) stack.new }
 {
     if h < 6 {
-        return refuse(14, h, b, place);
+        return refuse(Refusal::TooLow, h, b, place);
     }
     let p = stack[h - 6];
     let q = stack[h - 5];
@@ -272,14 +275,14 @@ pub fn to_return(
     place: u32,
 ) -> Turned
     requires { (h ≤ data_most) × (b ≤ return_most) × (place < rom_most) }
-    ensures { (base : ℕ) → OnBoth 0x30 base stack.now h back.old b place result stack.now
+    ensures { (base : ℕ) → OnBoth 0x30 base stack.now h back.old b place (turned_in result) stack.now
         back.new }
 {
     if h < 1 {
-        return refuse(14, h, b, place);
+        return refuse(Refusal::TooLow, h, b, place);
     }
     if RETURN_MOST <= b {
-        return refuse(16, h, b, place);
+        return refuse(Refusal::WrongReturns, h, b, place);
     }
     back[b] = stack[h - 1];
     on(h - 1, b + 1, place + 1)
@@ -295,13 +298,13 @@ pub fn from_return(
     place: u32,
 ) -> Turned
     requires { (h ≤ data_most) × (b ≤ return_most) × (place < rom_most) }
-    ensures { OnBoth 0x31 base stack.old h back.now b place result stack.new back.now }
+    ensures { OnBoth 0x31 base stack.old h back.now b place (turned_in result) stack.new back.now }
 {
     if b <= base {
-        return refuse(16, h, b, place);
+        return refuse(Refusal::WrongReturns, h, b, place);
     }
     if DATA_MOST <= h {
-        return refuse(15, h, b, place);
+        return refuse(Refusal::TooHigh, h, b, place);
     }
     stack[h] = back[b - 1];
     on(h + 1, b - 1, place + 1)
@@ -317,13 +320,13 @@ pub fn copy_return(
     place: u32,
 ) -> Turned
     requires { (h ≤ data_most) × (b ≤ return_most) × (place < rom_most) }
-    ensures { OnBoth 0x32 base stack.old h back.now b place result stack.new back.now }
+    ensures { OnBoth 0x32 base stack.old h back.now b place (turned_in result) stack.new back.now }
 {
     if b <= base {
-        return refuse(16, h, b, place);
+        return refuse(Refusal::WrongReturns, h, b, place);
     }
     if DATA_MOST <= h {
-        return refuse(15, h, b, place);
+        return refuse(Refusal::TooHigh, h, b, place);
     }
     stack[h] = back[b - 1];
     on(h + 1, b, place + 1)
@@ -414,17 +417,17 @@ fn three(number: u32, c: u32, b: u32, a: u32) -> u32
 // 2B u/mod: the remainder stands under the quotient.
 pub fn divide(stack: &mut [u32; DATA_MOST], h: usize, b: usize, place: u32) -> Turned
     requires { (h ≤ data_most) × (b ≤ return_most) × (place < rom_most) }
-    ensures { OnData 0x2B stack.old h b place result stack.new }
+    ensures { OnData 0x2B stack.old h b place (turned_in result) stack.new }
 {
     if h < 2 {
-        return refuse(14, h, b, place);
+        return refuse(Refusal::TooLow, h, b, place);
     }
     match cells::u_mod(stack[h - 2], stack[h - 1]) {
-        cells::Divided::ByZero => refuse(21, h, b, place),
-        cells::Divided::Parts {
+        None => refuse(Refusal::ZeroDivisor, h, b, place),
+        Some(Divided {
             remainder,
             quotient,
-        } => {
+        }) => {
             stack[h - 2] = remainder;
             stack[h - 1] = quotient;
             on(h, b, place + 1)
@@ -442,14 +445,14 @@ fn count_of(a: u32) -> usize
 // 4E pick
 pub fn pick_up(stack: &mut [u32; DATA_MOST], h: usize, b: usize, place: u32) -> Turned
     requires { (h ≤ data_most) × (b ≤ return_most) × (place < rom_most) }
-    ensures { OnData 0x4E stack.old h b place result stack.new }
+    ensures { OnData 0x4E stack.old h b place (turned_in result) stack.new }
 {
     if h < 1 {
-        return refuse(14, h, b, place);
+        return refuse(Refusal::TooLow, h, b, place);
     }
     let count = count_of(stack[h - 1]);
     if h < count + 2 {
-        return refuse(14, h, b, place);
+        return refuse(Refusal::TooLow, h, b, place);
     }
     stack[h - 1] = stack[h - 2 - count];
     on(h, b, place + 1)
@@ -458,14 +461,14 @@ pub fn pick_up(stack: &mut [u32; DATA_MOST], h: usize, b: usize, place: u32) -> 
 // 4F roll
 pub fn roll_up(stack: &mut [u32; DATA_MOST], h: usize, b: usize, place: u32) -> Turned
     requires { (h ≤ data_most) × (b ≤ return_most) × (place < rom_most) }
-    ensures { OnData 0x4F stack.old h b place result stack.new }
+    ensures { OnData 0x4F stack.old h b place (turned_in result) stack.new }
 {
     if h < 1 {
-        return refuse(14, h, b, place);
+        return refuse(Refusal::TooLow, h, b, place);
     }
     let count = count_of(stack[h - 1]);
     if h < count + 2 {
-        return refuse(14, h, b, place);
+        return refuse(Refusal::TooLow, h, b, place);
     }
     turn(stack, h - 2 - count, count);
     on(h - 1, b, place + 1)
@@ -487,17 +490,17 @@ fn turn(stack: &mut [u32; DATA_MOST], start: usize, count: usize)
 // 50 ?dup
 pub fn maybe(stack: &mut [u32; DATA_MOST], h: usize, b: usize, place: u32) -> Turned
     requires { (h ≤ data_most) × (b ≤ return_most) × (place < rom_most) }
-    ensures { OnData 0x50 stack.old h b place result stack.new }
+    ensures { OnData 0x50 stack.old h b place (turned_in result) stack.new }
 {
     if h < 1 {
-        return refuse(14, h, b, place);
+        return refuse(Refusal::TooLow, h, b, place);
     }
     let top = stack[h - 1];
     if top == 0 {
         return on(h, b, place + 1);
     }
     if DATA_MOST <= h {
-        return refuse(15, h, b, place);
+        return refuse(Refusal::TooHigh, h, b, place);
     }
     stack[h] = top;
     on(h + 1, b, place + 1)

@@ -6,8 +6,8 @@ use Rattle.cells.specs.Arithmetic.{u_half_of}
 use Rattle.cells.specs.Arithmetic.{divided_of}
 use Rattle.cells.specs.Comparison.{less_of, u_less_of, zero_less_of, between_of, within_of}
 use Rattle.cells.specs.Signed.{signed_in, signed, cell}
-use Rattle.cells.specs.declared.Divided.{Divided}
-use Rattle.cells.specs.declared.Divided.TheVariants.{ByZero, Parts}
+use Rattle.cells.specs.Arithmetic.{Divided}
+use Rattle.cells.specs.Arithmetic.{ByZero, Parts}
 
 -- the ends of the range
 ends_of_32 : ◌≡◌ {A = ℤ × ℤ × ℤ × ℤ} (signed 0, signed 0x7FFF_FFFF, signed 0x8000_0000, signed 0xFFFF_FFFF)

@@ -2,7 +2,7 @@
 use Rattle.std.specs.Prelude.{◌≡◌, ℕ, Bool, true, false, [], ◌∷◌, ◌==◌, refl}
 use Rattle.cells.specs.Choice.{pick}
 use Rattle.cells.specs.Arithmetic.{remainder_of, quotient_of, divided_of}
-use Rattle.cells.specs.declared.Divided.TheVariants.{ByZero, Parts}
+use Rattle.cells.specs.Arithmetic.{ByZero, Parts}
 use Rattle.cells.specs.Numbered.{gives, refuses, divided_says}
 
 -- for laws: what is said of a choice by a test is the choice of what is said

@@ -1,4 +1,5 @@
-use Rattle.std.proofs.Common.{◌-◌, get_or, sym, ◌∙◌, rules}
+use Rattle.std.proofs.Common.{ap, ◌-◌, get_or, sym, ◌∙◌, rules}
+use Rattle.cells.specs.Arithmetic.{divided_in}
 use Rattle.reckon.proofs.Deep.{divide_low, divide_zero, divide_fine, by_zero, parted}
 use Rattle.reckon.proofs.Made.{divide_made}
 use Rattle.reckon.proofs.reckon.divide.Goals as goal
@@ -9,18 +10,18 @@ returns-then-h-lt2 c =
     rw c.refuse.ensures (divide_made a.h a.b a.place a.stack.now c.requires.0 c.requires.1 14 a.h _
     (divide_low a.h a.b a.stack.now c.requires.0 (search rules)))
 
-pub returns-in-ByZero : goal.returns-in-ByZero
-returns-in-ByZero c =
+pub returns-in-None : goal.returns-in-None
+returns-in-None c =
     let a = c.args in let x = get_or a.stack.now (a.h - 2) 0 in
     let y = get_or a.stack.now (a.h - 1) 0 in
-    rw c.refuse-in-ByZero.ensures (divide_made a.h a.b a.place a.stack.now c.requires.0 c.requires.1 21 a.h _
+    rw c.refuse-in-None.ensures (divide_made a.h a.b a.place a.stack.now c.requires.0 c.requires.1 21 a.h _
     (divide_zero a.h a.b a.stack.now c.requires.0 (search rules)
-    (by_zero x y (sym c.in-ByZero.is ∙ c.u_mod.ensures))))
+    (by_zero x y (sym (ap divided_in c.in-None.is) ∙ c.u_mod.ensures))))
 
-pub returns-in-Parts : goal.returns-in-Parts
-returns-in-Parts c =
+pub returns-in-Some : goal.returns-in-Some
+returns-in-Some c =
     let a = c.args in
     let x = get_or a.stack.now (a.h - 2) 0 in let y = get_or a.stack.now (a.h - 1) 0 in
-    let p = parted x y _ _ (sym c.in-Parts.is ∙ c.u_mod.ensures) in
+    let p = parted x y _ _ (sym (ap divided_in c.in-Some.is) ∙ c.u_mod.ensures) in
     rw c.on.ensures (divide_made a.h a.b a.place a.stack.now c.requires.0 c.requires.1 0 a.h _
     (divide_fine a.h a.b a.stack.now c.requires.0 (search rules) _ _ p.0 p.1 p.2))
