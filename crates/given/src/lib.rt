@@ -7,7 +7,6 @@ mod each;
 ghost use Rattle.std.specs.Prelude.{◌≡◌, ◌<◌, ◌≤◌, IfOk, IfSome, length, take};
 
 pub use each::each_line;
-
 use std::io;
 use std::io::Read;
 

@@ -2,6 +2,9 @@
 ghost use Rattle.std.specs.Prelude.{◌≡◌};
 ghost use Rattle.lamp.specs.Budget.{budget_of};
 
+// The last of the digits.
+const NINE: u8 = b'9';
+
 // So many steps; none where a word is no such number.
 pub fn budget_of(word: &[u8]) -> Option<u32>
     ensures { result ≡ budget_of word.now }
@@ -11,7 +14,7 @@ pub fn budget_of(word: &[u8]) -> Option<u32>
     }
     let mut sum: u32 = 0;
     for b in word {
-        if *b < b'0' || b'9' < *b {
+        if *b < b'0' || NINE < *b {
             return None;
         }
         sum = sum.checked_mul(10)?.checked_add(u32::from(*b - b'0'))?;

@@ -6,10 +6,9 @@ use native.Mathlib.Decide.{dec_le}
 use mathlib.Core.List.{List}
 use mathlib.Core.Path.{◌≡◌, refl, sym, ap, ◌∙◌}
 use lib.ListN.{length, take, drop, replicate, length-drop, length-replicate}
-use lib.Seq.{paste, take-take, take_all}
+use lib.Seq.{take-take, take_all}
 use borrow.Rule.Slice.PartMut.{put_mid}
-use Rattle.std.proofs.Common.{append_assoc, length-take-le}
-use Rattle.std.proofs.lemmas.Slice.{put_mid-paste}
+use Rattle.std.proofs.Common.{length-take-le}
 use Rattle.std.specs.List.{copy_within}
 use Rattle.memory.specs.Window.{part_of}
 use Rattle.memory.specs.Writing.{written_of, moved_of, cleared_of}

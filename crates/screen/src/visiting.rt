@@ -19,6 +19,7 @@ use tokens::{
 };
 
 // What a visit to a token tells: the cell behind it, 0 where its rules are not met, and its successors, 0 for none.
+// No Option of a visit: that costs 46 of 1,000 instructions of a screen.
 #[derive(Clone, Copy)]
 pub struct Visit {
     pub cell: u32,
