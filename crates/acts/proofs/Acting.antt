@@ -1,7 +1,7 @@
 -- A token that was seen at the place of a state and is not hot: what its family asks for, which token it is, and that there is no other
 -- family. Assumes nothing.
 use Rattle.std.proofs.Common.{◌≡◌, ℕ, ◌+◌, ◌-◌, ◌≤◌, Bool, true, false, not, ◌&&◌, ◌||◌, T, eqb, List, [], ◌∷◌, sym, refl, ap, ◌∙◌, subst}
-use Rattle.std.proofs.Common.{arith, eqb→eq, ltb-true}
+use Rattle.std.proofs.Common.{Result, Ok, Err, arith, eqb→eq, ltb-true}
 use Rattle.cells.specs.Laws.Tests.{find_none, Rest}
 use Rattle.cells.specs.Laws.Facts.{is_true, both_hold, follows}
 use Rattle.rom.specs.Bytes.{byte_of}
@@ -21,8 +21,6 @@ use Rattle.tokens.specs.declared.decoding.Operand.{Operand}
 use Rattle.tokens.specs.declared.decoding.Operand.TheVariants.{Nothing, Text, Number, Definition}
 use Rattle.tokens.specs.declared.decoding.Token.{Token}
 use Rattle.tokens.specs.declared.glance.Glance.{Glance}
-use Rattle.tokens.specs.declared.read.Read.{Read}
-use Rattle.tokens.specs.declared.read.Read.TheVariants.{Refused as Unread, Good}
 use Rattle.tokens.specs.Laws.Stands.{stands}
 use Rattle.state.specs.State.{is_open}
 use Rattle.state.specs.Scene.{Scene, Turn, scene, turn, refuse}
@@ -34,7 +32,7 @@ use Rattle.state.specs.Joints.Hot.{hot_family, Cold}
 use Rattle.state.specs.Laws.Keeps.Token.{leave_open}
 use Rattle.state.specs.Laws.Untouched.{count_kept, records_kept}
 use Rattle.state.specs.declared.state.State.{State}
-use Rattle.state.specs.declared.answer.Answer.TheVariants.{Refused}
+use Rattle.state.specs.Answer.{Refused}
 use Rattle.acts.specs.Joints.Acts.{cold_families, code_for, why_of}
 
 -- ---- named-token and external-token are new-token but for a name, which is passed over
@@ -94,9 +92,9 @@ nowhere c within h e = let g = eqb→eq (out_of_place_in c) everywhere e in let 
 
 -- ---- nothing that may stand there
 module _ (rom work store : List ℕ) (st : State) (g : Glance) (e : glance_of rom st.length st.wide st.place ≡ g) where
-  why_turn : (r : Read) (why : ℕ) → r ≡ Unread why → turn (Refused (why_of r)) st work store ≡ read_turn (scene rom work store st) r
-  why_turn (Unread why) k q = refl
-  why_turn (Good t) why q = absurd (let z : ◌≡◌ {A = ℕ} 0 1 = cc in omega arith)
+  why_turn : (r : Result Token ℕ) (why : ℕ) → r ≡ Err why → turn (Refused (why_of r)) st work store ≡ read_turn (scene rom work store st) r
+  why_turn (Err why) k q = refl
+  why_turn (Ok t) why q = absurd (let z : ◌≡◌ {A = ℕ} 0 1 = cc in omega arith)
 
   pub unread_turn : g.code ≡ 0
       → turn (Refused (why_of (read_of rom st.length st.wide (is_open st.calls) st.place))) st work store ≡ turn_of
@@ -110,7 +108,7 @@ module _ (rom work store : List ℕ) (st : State) (g : Glance) (e : glance_of ro
       → turn (Refused 18) st work store ≡ turn_of (scene rom work store st)
   unfolding turn_of
   misplaced_turn m =
-      sym (ap (λ (r : Read). read_turn (scene rom work store st) r)
+      sym (ap (λ (r : Result Token ℕ). read_turn (scene rom work store st) r)
       (glance_misplaced rom st.length st.wide (is_open st.calls) st.place g e m))
 
 -- ---- what was seen
@@ -120,15 +118,15 @@ module _ (rom work store : List ℕ) (st : State) (g : Glance) (e : glance_of ro
   abbrev s : Scene
   s = scene rom work store st
 
-  abbrev read : Read
+  abbrev read : Result Token ℕ
   read = read_of rom st.length st.wide (is_open st.calls) st.place
 
   coded : g.code ≡ code_of (number_of rom st.place)
   coded = glance_coded rom st.length st.wide (is_open st.calls) st.place g e z
 
-  by_read : (t : Token) (x : Turn) → read ≡ Good t → x ≡ done_of s t → x ≡ turn_of s
+  by_read : (t : Token) (x : Turn) → read ≡ Ok t → x ≡ done_of s t → x ≡ turn_of s
   unfolding turn_of
-  by_read t x f d = d ∙ ap (λ (r : Read). read_turn s r) (sym f)
+  by_read t x f d = d ∙ ap (λ (r : Result Token ℕ). read_turn s r) (sym f)
 
   -- the code of its family, and the turn of a token without operand
   code_is : (f : ℕ) → family_in g.code ≡ f → T (cold f) → T (not (eqb f define)) → g.code ≡ code_for f
@@ -174,14 +172,14 @@ module _ (rom work store : List ℕ) (st : State) (g : Glance) (e : glance_of ro
   definition k = token_of (byte_of rom st.place) k (Definition g.number g.kind) g.next
 
   define_is : family_in g.code ≡ define
-      → (read ≡ Good (definition g.code)) × T (is_program g.number && is_kind g.kind)
+      → (read ≡ Ok (definition g.code)) × T (is_program g.number && is_kind g.kind)
       × (done_of s (definition 0x0E15_0000) ≡ done_of s (definition g.code))
   define_is k =
       let h : T (two_codes g.code) = rw coded (two_codes_lem (number_of rom st.place)) in
       by (eqb g.code 0x0E15_0000) refl (rw k at h)
     where
       by : (b : Bool) → eqb g.code 0x0E15_0000 ≡ b → T (eqb g.code 0x0E15_0000 || eqb g.code 0x0E16_0000)
-          → (read ≡ Good (definition g.code)) × T (is_program g.number && is_kind g.kind)
+          → (read ≡ Ok (definition g.code)) × T (is_program g.number && is_kind g.kind)
           × (done_of s (definition 0x0E15_0000) ≡ done_of s (definition g.code))
       by true a h =
           let q : g.code ≡ 0x0E15_0000 = eqb→eq g.code 0x0E15_0000 (subst T (sym a) tt) in

@@ -13,8 +13,7 @@ use Rattle.state.specs.declared.apart.Core.{Core}
 use Rattle.state.specs.declared.apart.Told.{Told}
 use Rattle.state.specs.declared.apart.Handed.{Handed}
 use Rattle.state.specs.declared.apart.Taken.{Taken}
-use Rattle.state.specs.declared.answer.Stepped.{Stepped}
-use Rattle.state.specs.declared.answer.Answer.TheVariants.{Going}
+use Rattle.state.specs.Answer.{Stepped, Going}
 use Rattle.acts.specs.Joints.Acts.{Quiet}
 use Rattle.acts.proofs.Pops.{popped_by, popped_on, first_pop}
 use Rattle.acts.proofs.Cold.{leave_unequal, leave_good}

@@ -8,7 +8,7 @@ use Rattle.tokens.specs.Body.{unknown_of, body_of}
 use Rattle.tokens.specs.Decode.{token_of}
 use Rattle.tokens.specs.declared.decoding.Operand.{Operand}
 use Rattle.tokens.specs.declared.decoding.Operand.TheVariants.{Definition}
-use Rattle.tokens.specs.declared.body.Body.TheVariants.{Ends, Stops}
+use Rattle.tokens.specs.Body.{Ends, Stops}
 use Rattle.cells.specs.Choice.{pick}
 use Rattle.tree.specs.Property.{bad_name}
 use Rattle.tree.specs.Node.{no_room, outermost}

@@ -1,6 +1,7 @@
 -- Program numbers entered, given another value and defined: the state that the code leaves is the step's. Assumes nothing.
 use Rattle.std.proofs.Common.{◌≡◌, ℕ, zero, suc, ◌+◌, ◌-◌, ◌<◌, ◌≤◌, Bool, true, false, not, eqb, ltb, leb, List, [], ◌∷◌, get_or, sym}
 use Rattle.std.proofs.Common.{refl, ap, ◌∙◌, subst, arith, leb→le, ltb-false, ltb-true, le-ltb, lt-ltb, eq-eqb, ne_eqb, eqb-true}
+use Rattle.std.proofs.Common.{Result, Ok, Err}
 use borrow.Author.Tests.{eqb-false}
 use Rattle.cells.specs.Laws.Tests.{pick_is}
 use Rattle.cells.specs.Laws.Facts.{holds, both_hold}
@@ -8,16 +9,13 @@ use Rattle.tokens.specs.Family.{assign, call, define}
 use Rattle.tokens.specs.Table.{is_program}
 use Rattle.tokens.specs.Decode.{token_of, decode_of, is_kind}
 use Rattle.tokens.specs.Place.{judged, misplaced_of, read_of}
-use Rattle.tokens.specs.Body.{kind_of, number_in, unknown_of, body_onward, after_of, body_from, body_of}
+use Rattle.tokens.specs.Body.{Body, Ends, Stops, kind_of, number_in, unknown_of, body_onward, after_of, body_from, body_of}
 use Rattle.tokens.specs.Laws.Tokens.{find_is}
 use Rattle.tokens.specs.declared.decoding.Operand.{Operand}
 use Rattle.tokens.specs.declared.decoding.Operand.TheVariants.{Definition}
 use Rattle.tokens.specs.declared.decoding.Decoded.{Decoded}
 use Rattle.tokens.specs.declared.decoding.Decoded.TheVariants.{Cut, Unlisted, Whole}
-use Rattle.tokens.specs.declared.read.Read.{Read}
-use Rattle.tokens.specs.declared.read.Read.TheVariants.{Refused as Unread, Good}
-use Rattle.tokens.specs.declared.body.Body.{Body}
-use Rattle.tokens.specs.declared.body.Body.TheVariants.{Ends, Stops}
+use Rattle.tokens.specs.declared.decoding.Token.{Token}
 use Rattle.memory.specs.Writing.{written_of, bytes_of}
 use Rattle.tokens.specs.Definition.{colon, constant, kind_in, new_number, value, variable}
 use Rattle.state.specs.State.{moved, moved_to, with_numbers, with_work}
@@ -33,8 +31,7 @@ use Rattle.state.specs.Laws.Keeps.Tests.{find_at}
 use Rattle.state.specs.Laws.Keeps.Token.{behind_body_lem}
 use Rattle.state.specs.declared.state.State.{State}
 use Rattle.state.specs.declared.state.Numbers.{Numbers}
-use Rattle.state.specs.declared.answer.Answer.TheVariants.{Going, Refused}
-use Rattle.state.specs.declared.answer.Stepped.{Stepped}
+use Rattle.state.specs.Answer.{Stepped, Going, Refused}
 use Rattle.acts.proofs.Cold.{assign_unknown, assign_low, assign_good, call_unknown, call_high, call_value, call_deep, call_body}
 use Rattle.acts.proofs.Cold.{define_held, define_most, colon_stops, colon_good, variable_full, variable_good, value_low, value_good}
 use Rattle.acts.proofs.Cold.{constant_low, constant_good}
@@ -200,14 +197,14 @@ module _ (rom : List ℕ) (size : ℕ) (wide : Bool) (kinds : List ℕ) where
   Why (Ends at) = Unit {0}
   Why (Stops at why) = eqb why 0 ≡ false
 
-  abbrev WhyRead : Read → Type 0
-  WhyRead (Unread why) = eqb why 0 ≡ false
-  WhyRead (Good t) = Unit {0}
+  abbrev WhyRead : Result Token ℕ → Type 0
+  WhyRead (Err why) = eqb why 0 ≡ false
+  WhyRead (Ok t) = Unit {0}
 
   judged_why : (within : Bool) (d : Decoded) → WhyRead (judged within d)
   judged_why within Cut = refl
   judged_why within (Unlisted code) = pick_is (λ (x : ℕ). eqb x 0 ≡ false) (misplaced_of code within) 18 11 (λ t. refl) (λ t. refl)
-  judged_why within (Whole t) = pick_is WhyRead (misplaced_of t.code within) (Unread 18) (Good t) (λ m. refl) (λ m. tt)
+  judged_why within (Whole t) = pick_is WhyRead (misplaced_of t.code within) (Err 18) (Ok t) (λ m. refl) (λ m. tt)
 
   read_why : (within : Bool) (p : ℕ) → WhyRead (read_of rom size wide within p)
   unfolding read_of
@@ -218,9 +215,9 @@ module _ (rom : List ℕ) (size : ℕ) (wide : Bool) (kinds : List ℕ) where
   onward_why false true p q go h = refl
   onward_why false false p q go h = h
 
-  after_why : (p : ℕ) (r : Read) (go : ℕ → Body) → WhyRead r → ((q : ℕ) → Why (go q)) → Why (after_of kinds p r go)
-  after_why p (Unread why) go a h = a
-  after_why p (Good t) go a h = onward_why (eqb t.number 0xC2) (unknown_of kinds t) p t.next go (h t.next)
+  after_why : (p : ℕ) (r : Result Token ℕ) (go : ℕ → Body) → WhyRead r → ((q : ℕ) → Why (go q)) → Why (after_of kinds p r go)
+  after_why p (Err why) go a h = a
+  after_why p (Ok t) go a h = onward_why (eqb t.number 0xC2) (unknown_of kinds t) p t.next go (h t.next)
 
   from_why : (k p : ℕ) → Why (body_from rom size wide kinds k p)
   unfolding body_from
@@ -331,9 +328,6 @@ module _ (st : State) (m next at : ℕ) (h : st.stack.height ≤ data_most) (e :
       (variable_good (scene rom work store st) n (Definition m variable) next m e.0 e.1 h (subst (λ (x : ℕ). x + 4 ≤ work_size) i l)))
 
 -- ---- a definition, by its kind
-pub value_kinds : TakesValue value × TakesValue constant
-value_kinds = (λ n. refl, λ n. absurd (n refl))
-
 pub constant_left : (k : ℕ) → is_kind k ≡ true → ((Unit {0} × (k ≡ colon → ⊥)) × (k ≡ value → ⊥)) × (k ≡ variable → ⊥) → k ≡ constant
 constant_left k e n =
     by (eqb k constant) refl

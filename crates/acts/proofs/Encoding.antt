@@ -24,8 +24,7 @@ use Rattle.state.specs.Effects.{gave, effects, act_of}
 use Rattle.state.specs.Joints.Moves.{Popped, stepped, pop_of}
 use Rattle.acts.specs.Joints.Acts.{Quiet, Writes, WritesFrom, pair_on, encoded_on}
 use Rattle.state.specs.declared.state.State.{State}
-use Rattle.state.specs.declared.answer.Answer.TheVariants.{Going, Refused}
-use Rattle.state.specs.declared.answer.Stepped.{Stepped}
+use Rattle.state.specs.Answer.{Stepped, Going, Refused}
 use Rattle.acts.proofs.Cold.{join_apart, join_good, int_good, string_bad, string_full, string_good}
 use Rattle.state.specs.Laws.Done.{carried, stopped}
 use Rattle.acts.proofs.Pops.{popped_by, cell_at, first_pop, two_pops, four_pops, lowered, paired_on}

@@ -1,6 +1,6 @@
 -- Properties written, nodes opened and closed: what a call on the tree answers is what the step says. Assumes nothing.
 use Rattle.std.proofs.Common.{◌≡◌, ℕ, ◌-◌, ◌≤◌, Bool, true, false, eqb, List, [], ◌∷◌, length, sym, refl, ap, ◌∙◌, arith, eq-eqb, ne_eqb}
-use Rattle.std.proofs.Common.{eqb-true}
+use Rattle.std.proofs.Common.{eqb-true, Result, Ok, Err}
 use Rattle.cells.specs.Choice.{pick}
 use Rattle.tokens.specs.Family.{finish_device, new_device}
 use Rattle.tokens.specs.Decode.{token_of}
@@ -11,8 +11,6 @@ use Rattle.tree.specs.Property.{value_of, bad_name, overfull, would_hold, put_re
 use Rattle.tree.specs.Node.{Written, Activated, activated, no_room, outermost, child_of, new_device_of, finish_device_of, write_refused}
 use Rattle.tree.specs.Node.{write_done as tree_done}
 use Rattle.tree.specs.declared.tree.Tree.{Tree}
-use Rattle.tree.specs.declared.tree.Outcome.{Outcome}
-use Rattle.tree.specs.declared.tree.Outcome.TheVariants.{Done, Refused as NotDone}
 use Rattle.state.specs.State.{moved, moved_to, with_active, with_tree}
 use Rattle.state.specs.Scene.{Scene, scene, turn, handed_back}
 use Rattle.state.specs.Refusals.{refusal_of, title_of}
@@ -23,8 +21,7 @@ use Rattle.state.specs.Joints.Apart.{Arrays, joined, back_on, handed}
 use Rattle.state.specs.Step.{done_of}
 use Rattle.acts.specs.Joints.Acts.{Quiet, KeepsFrom, KeepsBy, outcome_on, kept_on, active_on, filed_core, filed_of}
 use Rattle.state.specs.declared.state.State.{State}
-use Rattle.state.specs.declared.answer.Answer.TheVariants.{Going, Refused}
-use Rattle.state.specs.declared.answer.Stepped.{Stepped}
+use Rattle.state.specs.Answer.{Stepped, Going, Refused}
 use Rattle.state.specs.declared.apart.Core.{Core}
 use Rattle.tree.specs.declared.in_place.Tail.{Tail}
 use Rattle.acts.specs.declared.acted.Acted.{Acted}
@@ -32,13 +29,15 @@ use Rattle.acts.proofs.Cold.{open_full, open_good, close_outermost, close_good, 
 use Rattle.acts.proofs.Cold.{title_bad, title_put}
 use Rattle.state.specs.Laws.Done.{carried, stopped}
 use Rattle.acts.proofs.Pops.{popped_by, cell_at, two_pops, four_pops, popped_on}
+use Rattle.rom.specs.Refusal.{numbered, refusal_number}
 use Rattle.rom.specs.Sizes.{data_most, store_size}
+use Rattle.rom.specs.declared.refusal.Refusal.{Refusal}
 
 -- ---- what a property's call in place leaves: refused, the tree as it was
-never_done : (why : ℕ) → Done ≡ NotDone why → ⊥
+never_done : (why : ℕ) → ◌≡◌ {A = Result (Unit {0}) ℕ} (Ok tt) (Err why) → ⊥
 never_done why e = let z : ◌≡◌ {A = ℕ} 0 1 = cc in omega arith
 
-module _ (w : Written) (why : ℕ) (f : w.outcome ≡ NotDone why) where
+module _ (w : Written) (why : ℕ) (f : w.outcome ≡ Err why) where
   pub put_same : (t : Tree) (store : List ℕ) (node : ℕ) (name value : List ℕ) → w ≡ put_of t store node name value → w.tree ≡ t
   unfolding put_of
   put_same t store node name value e =
@@ -47,47 +46,50 @@ module _ (w : Written) (why : ℕ) (f : w.outcome ≡ NotDone why) where
       given : Bool → Written
       given b = pick b (tree_done (tree_put t store node name value)) (write_refused (put_refusal t store node name value) t)
 
-      by : (b : Bool) → (given b).outcome ≡ NotDone why → w.tree ≡ (given b).tree → w.tree ≡ t
+      by : (b : Bool) → (given b).outcome ≡ Err why → w.tree ≡ (given b).tree → w.tree ≡ t
       by true a b = absurd (never_done why a)
       by false a b = b
 
 -- and it is what is kept of the whole state
 module _ (st taken : State) (next : ℕ) (w : Written) where
-  pub kept_done : (x : Stepped) → w.outcome ≡ Done → x ≡ stepped Going (with_tree (moved_to taken next) w.tree)
+  pub kept_done : (x : Stepped) → w.outcome ≡ (Ok tt) → x ≡ stepped Going (with_tree (moved_to taken next) w.tree)
       → x ≡ kept_on st taken next w
-  kept_done x e f = f ∙ ap (λ (o : Outcome). outcome_on st (with_tree (moved_to taken next) w.tree) o) (sym e)
+  kept_done x e f = f ∙ ap (λ (o : Result (Unit {0}) ℕ). outcome_on st (with_tree (moved_to taken next) w.tree) o) (sym e)
 
-  pub kept_refused : (x : Stepped) (why : ℕ) → w.outcome ≡ NotDone why → w.tree ≡ st.tree
+  pub kept_refused : (x : Stepped) (why : ℕ) → w.outcome ≡ Err why → w.tree ≡ st.tree
       → x ≡ stepped (Refused why) (with_tree st w.tree) → x ≡ kept_on st taken next w
   kept_refused x why e k f =
       f ∙ ap (λ (t : Tree). stepped (Refused why) (with_tree st t)) k
-      ∙ ap (λ (o : Outcome). outcome_on st (with_tree (moved_to taken next) w.tree) o) (sym e)
+      ∙ ap (λ (o : Result (Unit {0}) ℕ). outcome_on st (with_tree (moved_to taken next) w.tree) o) (sym e)
 
 -- the same by the numbers that are handed back
-pub filed_back : (a b : Arrays) (k : Core) (taken next records : ℕ) (tail : Tail) (w : Written) (o : Outcome) (r : Acted) → w.outcome ≡ o
+pub filed_back : (a b : Arrays) (k : Core) (taken next records : ℕ) (tail : Tail) (w : Written) (o : Result (Unit {0}) Refusal) (r : Acted)
+    → w.outcome ≡ numbered o
     → r ≡ filed_of k taken next o records tail
     → with_tree (joined a k) w.tree ≡ joined b (filed_core k k.place k.height records)
-    → ((why : ℕ) → w.outcome ≡ NotDone why → w.tree ≡ (joined a k).tree)
+    → ((why : ℕ) → w.outcome ≡ Err why → w.tree ≡ (joined a k).tree)
     → back_on b (handed r.told r.core) ≡ kept_on (joined a k) (popped_by (joined a k) taken) next w
-filed_back a b k taken next records tail w Done r e f h i =
+filed_back a b k taken next records tail w (Ok tt) r e f h i =
     kept_done (joined a k) (popped_by (joined a k) taken) next w (back_on b (handed r.told r.core)) e
     (ap (λ (x : Acted). back_on b (handed x.told x.core)) f
     ∙ ap (λ (x : State). stepped Going (moved_to (restacked x x.stack.cells (k.height - taken)) next)) (sym h))
-filed_back a b k taken next records tail w (NotDone why) r e f h i =
-    kept_refused (joined a k) (popped_by (joined a k) taken) next w (back_on b (handed r.told r.core)) why e (i why e)
-    (ap (λ (x : Acted). back_on b (handed x.told x.core)) f ∙ ap (λ (x : State). stepped (Refused why) x) (sym h))
+filed_back a b k taken next records tail w (Err why) r e f h i =
+    kept_refused (joined a k) (popped_by (joined a k) taken) next w (back_on b (handed r.told r.core)) (refusal_number why) e
+    (i (refusal_number why) e)
+    (ap (λ (x : Acted). back_on b (handed x.told x.core)) f ∙ ap (λ (x : State). stepped (Refused (refusal_number why)) x) (sym h))
 
-pub filed_numbers : (k : Core) (taken next records : ℕ) (tail : Tail) (o : Outcome) (r : Acted) → r ≡ filed_of k taken next o records tail
+pub filed_numbers : (k : Core) (taken next records : ℕ) (tail : Tail) (o : Result (Unit {0}) Refusal) (r : Acted)
+    → r ≡ filed_of k taken next o records tail
     → (r.core.records ≡ records) × (r.tail ≡ tail) × (r.core.held ≡ k.held)
-filed_numbers k taken next records tail Done r e =
+filed_numbers k taken next records tail (Ok tt) r e =
     (ap (λ (x : Acted). x.core.records) e, ap (λ (x : Acted). x.tail) e, ap (λ (x : Acted). x.core.held) e)
-filed_numbers k taken next records tail (NotDone why) r e =
+filed_numbers k taken next records tail (Err why) r e =
     (ap (λ (x : Acted). x.core.records) e, ap (λ (x : Acted). x.tail) e, ap (λ (x : Acted). x.core.held) e)
 
 -- ---- nodes
 -- refused, the tree and the active node as they were
-same_nodes : (b : Bool) (t u : Tree) (k m why : ℕ) (w : Activated) → w.outcome ≡ NotDone why
-    → w ≡ pick b (activated (NotDone 20) t k) (activated Done u m) → w ≡ activated w.outcome t k
+same_nodes : (b : Bool) (t u : Tree) (k m why : ℕ) (w : Activated) → w.outcome ≡ Err why
+    → w ≡ pick b (activated (Err 20) t k) (activated (Ok tt) u m) → w ≡ activated w.outcome t k
 same_nodes true t u k m why w f e = e ∙ ap (λ (x : Activated). activated x.outcome t k) (sym e)
 same_nodes false t u k m why w f e = absurd (never_done why (sym (ap (λ (x : Activated). x.outcome) e) ∙ f))
 
@@ -95,16 +97,16 @@ module _ (st : State) (next : ℕ) (w : Activated) where
   abbrev active_then : State
   active_then = with_tree (with_active (moved_to st next) w.active) w.tree
 
-  pub active_done : (x : Stepped) → w.outcome ≡ Done → x ≡ stepped Going active_then → x ≡ active_on st next w
-  active_done x e f = f ∙ ap (λ (o : Outcome). outcome_on st active_then o) (sym e)
+  pub active_done : (x : Stepped) → w.outcome ≡ (Ok tt) → x ≡ stepped Going active_then → x ≡ active_on st next w
+  active_done x e f = f ∙ ap (λ (o : Result (Unit {0}) ℕ). outcome_on st active_then o) (sym e)
 
-  pub active_refused : (x : Stepped) (why : ℕ) → w.outcome ≡ NotDone why → w ≡ activated w.outcome st.tree st.active
+  pub active_refused : (x : Stepped) (why : ℕ) → w.outcome ≡ Err why → w ≡ activated w.outcome st.tree st.active
       → x ≡ stepped (Refused why) (with_tree (with_active st w.active) w.tree) → x ≡ active_on st next w
   active_refused x why e k f =
       f ∙ ap (λ (v : Activated). stepped (Refused why) (with_tree (with_active st v.active) v.tree)) k
-      ∙ ap (λ (o : Outcome). outcome_on st active_then o) (sym e)
+      ∙ ap (λ (o : Result (Unit {0}) ℕ). outcome_on st active_then o) (sym e)
 
-  module _ (why : ℕ) (f : w.outcome ≡ NotDone why) where
+  module _ (why : ℕ) (f : w.outcome ≡ Err why) where
     pub open_same : w ≡ new_device_of st.tree st.active → w ≡ activated w.outcome st.tree st.active
     open_same e = same_nodes (no_room st.tree) st.tree (child_of st.tree st.active) st.active st.tree.nodes why w f e
 
@@ -118,7 +120,7 @@ module _ (st : State) (next : ℕ) (h : st.stack.height ≤ data_most) (w : Acti
       ∙ ap (λ (x : Activated). handed_back (active_on st next x) work store) e
 
   refused : Activated
-  refused = activated (NotDone 20) st.tree st.active
+  refused = activated (Err 20) st.tree st.active
 
   pub open_told : w ≡ new_device_of st.tree st.active → Quiet new_device st next r
   unfolding act_of effects refused
@@ -130,7 +132,7 @@ module _ (st : State) (next : ℕ) (h : st.stack.height ≤ data_most) (w : Acti
           ∙ sym (stopped (scene rom work store st) (token_of n 0x1710_0000 o next) 20 refl
           (open_full (scene rom work store st) n o next h f))
       by false f =
-          given (activated Done (child_of st.tree st.active) st.tree.nodes) work store (e ∙ rw f)
+          given (activated (Ok tt) (child_of st.tree st.active) st.tree.nodes) work store (e ∙ rw f)
           ∙ sym (carried (scene rom work store st) (token_of n 0x1710_0000 o next) (open_good (scene rom work store st) n o next h f))
 
   pub close_told : w ≡ finish_device_of st.tree st.first st.active → Quiet finish_device st next r
@@ -144,7 +146,7 @@ module _ (st : State) (next : ℕ) (h : st.stack.height ≤ data_most) (w : Acti
           ∙ sym (stopped (scene rom work store st) (token_of n 0x1810_0000 o next) 20 refl
           (close_outermost (scene rom work store st) n o next h f))
       by false f =
-          given (activated Done st.tree (parent_of st.tree st.active)) work store (e ∙ rw f)
+          given (activated (Ok tt) st.tree (parent_of st.tree st.active)) work store (e ∙ rw f)
           ∙ sym (carried (scene rom work store st) (token_of n 0x1810_0000 o next) (close_good (scene rom work store st) n o next h f))
 
 -- ---- a property put: the step's turn, where the token is refused as the call is and carried out as it is

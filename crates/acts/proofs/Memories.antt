@@ -1,5 +1,6 @@
 -- @ and !, c@ and c!: what memory answers is what the step says. Assumes nothing.
 use Rattle.std.proofs.Common.{◌≡◌, ℕ, ◌-◌, ◌%◌, ◌≤◌, Bool, true, false, eqb, List, [], ◌∷◌, sym, refl, ◌∙◌, subst, eq-eqb, ne_eqb}
+use Rattle.std.proofs.Common.{Result, Ok, Err}
 use Rattle.cells.specs.Choice.{pick}
 use Rattle.rom.specs.Bytes.{byte_of, word32_of}
 use Rattle.tokens.specs.Decode.{token_of}
@@ -8,15 +9,13 @@ use Rattle.tokens.specs.declared.decoding.Token.{Token}
 use Rattle.memory.specs.Window.{work_base, bad_range, resolve_of}
 use Rattle.memory.specs.Writing.{written_of, bytes_of}
 use Rattle.memory.specs.Cells.{uneven, outside_work, fetch_cell_of, fetch_byte_of, cell_refusal, byte_refusal}
-use Rattle.memory.specs.declared.window.Fetched.{Fetched}
-use Rattle.memory.specs.declared.window.Fetched.TheVariants.{Value, Refused as NotFetched}
 use Rattle.state.specs.State.{moved}
 use Rattle.state.specs.Scene.{Scene, scene, turn, refuse, goes, cell_of}
 use Rattle.state.specs.Effects.{gave, effects, act_of}
 use Rattle.state.specs.Step.{done_of}
 use Rattle.acts.specs.Joints.Acts.{of_cell, look_of, store_why, store_then}
 use Rattle.state.specs.declared.state.State.{State}
-use Rattle.state.specs.declared.answer.Answer.TheVariants.{Going, Refused}
+use Rattle.state.specs.Answer.{Going, Refused}
 use Rattle.acts.proofs.Cold.{fetch_cell, fetch_byte, store_cell, store_byte}
 use Rattle.state.specs.Laws.Done.{carried, stopped}
 use Rattle.rom.specs.Sizes.{data_most}
@@ -30,19 +29,19 @@ module _ (rom work store : List ℕ) (st : State) (n : ℕ) (o : Operand) (next 
     abbrev look : Token
     look = token_of n 0x0C00_0011 o next
 
-    abbrev FetchIs : Fetched → Type 0
-    FetchIs (NotFetched why) = done_of s look ≡ refuse why s
-    FetchIs (Value v) = done_of s look ≡ goes s (moved st (gave st 1 (v ∷ [])) next)
+    abbrev FetchIs : Result ℕ ℕ → Type 0
+    FetchIs (Err why) = done_of s look ≡ refuse why s
+    FetchIs (Ok v) = done_of s look ≡ goes s (moved st (gave st 1 (v ∷ [])) next)
 
     cell_fetched : (b u : Bool) → of_cell n ≡ true → bad_range rom work st.length (cell_of s 0) 4 ≡ b → uneven (cell_of s 0) ≡ u
-        → FetchIs (pick b (NotFetched 22) (pick u (NotFetched 23) (Value (word32_of (resolve_of rom work st.length (cell_of s 0) 4) 0))))
+        → FetchIs (pick b (Err 22) (pick u (Err 23) (Ok (word32_of (resolve_of rom work st.length (cell_of s 0) 4) 0))))
     unfolding act_of effects
     cell_fetched true u c e f = stopped s look 22 refl (fetch_cell s n o next h l true u c e f)
     cell_fetched false true c e f = stopped s look 23 refl (fetch_cell s n o next h l false true c e f)
     cell_fetched false false c e f = carried s look (fetch_cell s n o next h l false false c e f) ∙ rw c
 
     byte_fetched : (b : Bool) → of_cell n ≡ false → bad_range rom work st.length (cell_of s 0) 1 ≡ b
-        → FetchIs (pick b (NotFetched 22) (Value (byte_of (resolve_of rom work st.length (cell_of s 0) 1) 0)))
+        → FetchIs (pick b (Err 22) (Ok (byte_of (resolve_of rom work st.length (cell_of s 0) 1) 0)))
     unfolding act_of effects
     byte_fetched true c e = stopped s look 22 refl (fetch_byte s n o next h l true c e)
     byte_fetched false c e = carried s look (fetch_byte s n o next h l false c e) ∙ rw c
@@ -53,14 +52,14 @@ module _ (rom work store : List ℕ) (st : State) (n : ℕ) (o : Operand) (next 
     fetch_is true c = cell_fetched (bad_range rom work st.length (cell_of s 0) 4) (uneven (cell_of s 0)) c refl refl
     fetch_is false c = byte_fetched (bad_range rom work st.length (cell_of s 0) 1) c refl
 
-    module _ (f : Fetched) (a : ℕ) (e : a ≡ cell_of s 0) (g : f ≡ look_of n rom work st.length a) where
+    module _ (f : Result ℕ ℕ) (a : ℕ) (e : a ≡ cell_of s 0) (g : f ≡ look_of n rom work st.length a) where
       fetch_told : FetchIs f
       fetch_told = subst FetchIs (sym (rw e at g)) (fetch_is (of_cell n) refl)
 
-      pub fetch_refused : (why : ℕ) → f ≡ NotFetched why → done_of s look ≡ refuse why s
+      pub fetch_refused : (why : ℕ) → f ≡ Err why → done_of s look ≡ refuse why s
       fetch_refused why i = subst FetchIs i fetch_told
 
-      pub fetch_good : (v : ℕ) → f ≡ Value v → done_of s look ≡ goes s (moved st (gave st 1 (v ∷ [])) next)
+      pub fetch_good : (v : ℕ) → f ≡ Ok v → done_of s look ≡ goes s (moved st (gave st 1 (v ∷ [])) next)
       fetch_good v i = subst FetchIs i fetch_told
 
   -- ---- stored

@@ -7,8 +7,7 @@ use Rattle.state.specs.Joints.Moves.{Popped, stepped, restacked, push_of, pop_of
 use Rattle.acts.specs.Joints.Acts.{pair_on}
 use Rattle.rom.specs.Sizes.{data_most}
 use Rattle.state.specs.declared.state.State.{State}
-use Rattle.state.specs.declared.answer.Answer.TheVariants.{Going}
-use Rattle.state.specs.declared.answer.Stepped.{Stepped}
+use Rattle.state.specs.Answer.{Stepped, Going}
 
 module _ (st : State) where
   -- the state with its k highest cells gone

@@ -12,8 +12,7 @@ use Rattle.state.specs.Laws.Seeking.{slot_none, slot_some, table_defined, kinds_
 use Rattle.state.specs.Joints.Moves.{stepped}
 use Rattle.state.specs.declared.state.State.{State}
 use Rattle.state.specs.declared.state.Numbers.{Numbers}
-use Rattle.state.specs.declared.answer.Answer.TheVariants.{Refused}
-use Rattle.state.specs.declared.answer.Stepped.{Stepped}
+use Rattle.state.specs.Answer.{Stepped, Refused}
 use Rattle.acts.specs.Joints.Acts.{QuietOf, QuietBy, Tabled, Tables, slot_in}
 use Rattle.acts.proofs.Defining.{enter_outside, enter_none, assign_outside, assign_none}
 use Rattle.state.specs.Joints.Tables.{slots_of, table_past}

@@ -2,6 +2,7 @@
 ghost use Rattle.std.specs.Prelude.{◌≡◌};
 ghost use Rattle.acts.specs.Joints.Acts.{acted_of, refused_of};
 
+use rom::Refusal;
 use state::{Core, Handed, Told};
 use tree::Tail;
 
@@ -12,8 +13,8 @@ pub struct Acted {
     pub tail: Tail,
 }
 
-// The numbers as they were, with the number of a refusal.
-pub fn refuse(core: Core, tail: Tail, why: u32) -> Acted
+// The numbers as they were, with why the token is refused.
+pub fn refuse(core: Core, tail: Tail, why: Refusal) -> Acted
     ensures { result ≡ refused_of core tail why }
 {
     Acted {

@@ -12,10 +12,11 @@ ghost use Rattle.rom.specs.Sizes.{data_most, numbers_most, work_size};
 
 use crate::tables::{held_at, note};
 use memory::{WORK_BASE, write_cell};
+use rom::Refusal;
 use rom::sizes::{DATA_MOST, NUMBERS_MOST, WORK_SIZE};
 use state::{Core, Handed, go, pop, stop};
 use tokens::programs::PROGRAMS_MOST;
-use tokens::{Body, read_body};
+use tokens::{Stop, read_body};
 
 // One number more, defined in the width in force.
 fn defined(
@@ -72,14 +73,14 @@ fn colon(
         (λ s t. Colons number rom.now s next t) }
 {
     match read_body(rom, core.length, core.wide, &*known, next) {
-        Body::Ends(at) => {
+        Ok(at) => {
             let behind = at + 1;
             let k = defined(
                 names, kinds, values, ways, slots, known, core, number, 0xB7, next,
             );
             go(Core { place: behind, ..k })
         }
-        Body::Stops { at: _, why } => stop(core, why),
+        Err(Stop { why, .. }) => stop(core, why),
     }
 }
 
@@ -106,7 +107,7 @@ fn constant(
         (λ s t. QuietOf define (Definition number kind) s next t) }
 {
     if core.height < 1 {
-        return stop(core, 14);
+        return stop(core, Refusal::TooLow);
     }
     let p = pop(cells, core);
     let k = Core {
@@ -150,7 +151,7 @@ fn variable(
 {
     let at = rounded(core.work_place);
     if WORK_SIZE < (at as usize) + 4 {
-        return stop(core, 24);
+        return stop(core, Refusal::WorkExhausted);
     }
     write_cell(work, at, 0);
     let k = defined(
@@ -239,10 +240,10 @@ pub fn define_number(
         (λ s t. Defines (Definition number kind) rom.now work.old work.new s next t) }
 {
     if held_at(&*slots, number).is_some() {
-        return stop(core, 13);
+        return stop(core, Refusal::DefinedAlready);
     }
     if NUMBERS_MOST <= core.held {
-        return stop(core, 13);
+        return stop(core, Refusal::DefinedAlready);
     }
     define_new(
         rom, work, cells, names, kinds, values, ways, slots, known, core, number, kind, next,

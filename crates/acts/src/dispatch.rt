@@ -2,7 +2,8 @@
 // token may change any of them: so they have one parameter for each, in the order of the state's own.
 ghost use Rattle.std.specs.Prelude.{◌≡◌, ◌≤◌, length};
 ghost use Rattle.state.specs.Joints.Hot.{Cold};
-ghost use Rattle.acts.specs.Joints.Acts.{Fit, GlanceSeen, Comes, ActsKept, every_on, why_in};
+ghost use Rattle.acts.specs.Joints.Acts.{Fit, GlanceSeen, Comes, ActsKept, every_on, Unread, why_in};
+ghost use Rattle.rom.specs.Refusal.{refusal_number};
 ghost use Rattle.rom.specs.Sizes.{numbers_most};
 
 use crate::acted::{Acted, refuse, with_tail};
@@ -13,11 +14,11 @@ use crate::memory_tokens::{fetch_from, store_to};
 use crate::nodes::{close_node, open_node};
 use crate::numbers::{assign_value, enter};
 use crate::properties::{put_named, put_titled};
-use rom::byte;
 use rom::sizes::{DATA_MOST, FRAMES_MOST, NODES_MOST, NUMBERS_MOST, PROPERTIES_MOST};
+use rom::{Refusal, byte};
 use state::Core;
 use tokens::programs::PROGRAMS_MOST;
-use tokens::{Glance, Read, family, family_of, glance_at, out_of_place, read_at};
+use tokens::{Glance, family, family_of, glance_at, out_of_place, read_at};
 use tree::Tail;
 
 // A token that was seen at the place and may stand there.
@@ -103,17 +104,18 @@ fn act(
         family::NEW_DEVICE => with_tail(open_node(parents, core, next), tail),
         family::FINISH_DEVICE => with_tail(close_node(&*parents, core, next), tail),
         // no other family is seen here
-        _ => refuse(core, tail, 11),
+        _ => refuse(core, tail, Refusal::Unlisted),
     }
 }
 
-// Why no token can be read at the place: 10, 18 or 11.
-fn why_at(rom: &[u8], core: Core) -> u32
-    ensures { result ≡ why_in rom.now core }
+// Why no token can be read at the place, where none can: 10, 18 or 11.
+fn why_at(rom: &[u8], core: Core) -> Refusal
+    requires { Unread rom.now core }
+    ensures { refusal_number result ≡ why_in rom.now core }
 {
     match read_at(rom, core.length, core.wide, 0 < core.frames, core.place) {
-        Read::Refused(why) => why,
-        Read::Good(_) => 0,
+        Err(why) => why,
+        Ok(_) => unreachable!(),
     }
 }
 
@@ -158,7 +160,7 @@ fn by_glance(
         return refuse(core, tail, why_at(rom, core));
     }
     if out_of_place(seen.code, 0 < core.frames) {
-        return refuse(core, tail, 18);
+        return refuse(core, tail, Refusal::Misplaced);
     }
     act(
         rom, work, store, cells, places, wides, bases, names, kinds, values, ways, parents, owners,
@@ -239,7 +241,7 @@ pub fn cold_token(
         0x75 => with_tail(store_to(work, &*cells, core, 0x75, place + 1), tail),
         0xC2 => {
             if core.frames == 0 {
-                return refuse(core, tail, 18);
+                return refuse(core, tail, Refusal::Misplaced);
             }
             with_tail(
                 leave_body(&*places, &*wides, &*bases, core, place + 1),

@@ -7,12 +7,12 @@ ghost use Rattle.state.specs.Joints.Apart.{on_stack, Moves};
 ghost use Rattle.state.specs.Joints.Moves.{stepped};
 ghost use Rattle.acts.specs.Joints.Acts.{Quiet, Writes, WritesFrom, encoded_on};
 ghost use Rattle.rom.specs.Sizes.{data_most, work_size};
-ghost use Rattle.state.specs.declared.answer.Answer.TheVariants.{Going};
+ghost use Rattle.state.specs.Answer.{Going};
 
 use crate::flow::pair;
 use memory::{WORK_BASE, Window, copy_in, copy_within, put, window_of, write_cell};
-use rom::is_spread;
 use rom::sizes::{DATA_MOST, WORK_SIZE};
+use rom::{Refusal, is_spread};
 use state::{Core, Handed, pop, stop};
 
 // Bytes at the work place given by their address and length; the work place moves past them.
@@ -35,14 +35,14 @@ pub fn join_arrays(cells: &mut [u32; DATA_MOST], core: Core, next: u32) -> Hande
     ensures { Moves (on_stack cells.old) core result (on_stack cells.new) (λ s t. Quiet join s next t) }
 {
     if core.height < 4 {
-        return stop(core, 14);
+        return stop(core, Refusal::TooLow);
     }
     let p = pop(&*cells, core);
     let q = pop(&*cells, p.core);
     let t = pop(&*cells, q.core);
     let u = pop(&*cells, t.core);
     if u.cell.wrapping_add(t.cell) != q.cell {
-        return stop(core, 25);
+        return stop(core, Refusal::NotAdjoining);
     }
     pair(cells, u.core, next, u.cell, t.cell.wrapping_add(p.cell))
 }
@@ -54,14 +54,14 @@ pub fn encode_int(work: &mut [u8], cells: &mut [u32; DATA_MOST], core: Core, nex
         (λ s t. Writes encode_int work.old work.new s next t) }
 {
     if core.height < 1 {
-        return stop(core, 14);
+        return stop(core, Refusal::TooLow);
     }
     if DATA_MOST < core.height + 1 {
-        return stop(core, 15);
+        return stop(core, Refusal::TooHigh);
     }
     let at = core.work_place;
     if WORK_SIZE < (at as usize) + 4 {
-        return stop(core, 24);
+        return stop(core, Refusal::WorkExhausted);
     }
     let p = pop(&*cells, core);
     write_cell(work, at, p.cell);
@@ -110,17 +110,17 @@ pub fn encode_string(
         (λ s t. WritesFrom encode_string rom.now work.old work.new s next t) }
 {
     if core.height < 2 {
-        return stop(core, 14);
+        return stop(core, Refusal::TooLow);
     }
     let p = pop(&*cells, core);
     let q = pop(&*cells, p.core);
     let count = p.cell;
     if bad_string(rom, &*work, core.length, q.cell, count) {
-        return stop(core, 22);
+        return stop(core, Refusal::NoWindow);
     }
     let at = core.work_place;
     if WORK_SIZE < (at as usize) + ((count as usize) + 1) {
-        return stop(core, 24);
+        return stop(core, Refusal::WorkExhausted);
     }
     lay_string(rom, work, core.length, q.cell, count, at);
     put(work, (at as usize) + (count as usize), 0);

@@ -4,11 +4,12 @@ ghost use Rattle.tokens.specs.Family.{finish, text, widen, leave as family_leave
 ghost use Rattle.tokens.specs.declared.decoding.Operand.TheVariants.{Text};
 ghost use Rattle.state.specs.Joints.Apart.{on_stack, on_calls, Moves, Looks};
 ghost use Rattle.state.specs.Joints.Moves.{stepped};
-ghost use Rattle.state.specs.declared.answer.Answer.TheVariants.{Going};
+ghost use Rattle.state.specs.Answer.{Going};
 ghost use Rattle.acts.specs.Joints.Acts.{Quiet, QuietOf, as_they_are, pair_on};
 ghost use Rattle.rom.specs.Sizes.{data_most, rom_most};
 
 use memory::ROM_BASE;
+use rom::Refusal;
 use rom::sizes::{DATA_MOST, FRAMES_MOST};
 use state::{Core, Handed, Told, go, leave, push, stop};
 
@@ -72,7 +73,7 @@ pub fn quote(cells: &mut [u32; DATA_MOST], core: Core, start: u32, count: u32, n
         (λ s t. QuietOf text (Text start count) s next t) }
 {
     if DATA_MOST < core.height + 2 {
-        return stop(core, 15);
+        return stop(core, Refusal::TooHigh);
     }
     pair(cells, core, next, ROM_BASE + start, count)
 }

@@ -3,9 +3,11 @@ ghost use Rattle.std.specs.Prelude.{◌≡◌, ◌≤◌};
 ghost use Rattle.tokens.specs.Family.{fetch, store};
 ghost use Rattle.state.specs.Joints.Apart.{on_stack, Moves, Looks};
 ghost use Rattle.acts.specs.Joints.Acts.{ReadsBy, WritesBy, of_cell, look_of, store_why, store_then};
+ghost use Rattle.rom.specs.Refusal.{numbered, refusal_in};
 ghost use Rattle.rom.specs.Sizes.{data_most};
 
-use memory::{Fetched, fetch_byte, fetch_cell, store_byte, store_cell};
+use memory::{fetch_byte, fetch_cell, store_byte, store_cell};
+use rom::Refusal;
 use rom::sizes::DATA_MOST;
 use state::{Core, Handed, go, pop, push, stop};
 
@@ -16,8 +18,8 @@ fn is_cell(number: u32) -> bool
     number == 0x6D || number == 0x72
 }
 
-fn fetched(rom: &[u8], work: &[u8], size: u32, number: u32, address: u32) -> Fetched
-    ensures { result ≡ look_of number rom.now work.now size address }
+fn fetched(rom: &[u8], work: &[u8], size: u32, number: u32, address: u32) -> Result<u32, Refusal>
+    ensures { numbered result ≡ look_of number rom.now work.now size address }
 {
     if is_cell(number) {
         return fetch_cell(rom, work, size, address);
@@ -39,12 +41,12 @@ pub fn fetch_from(
         (λ s t. ReadsBy number fetch rom.now work.now s next t) }
 {
     if core.height < 1 {
-        return stop(core, 14);
+        return stop(core, Refusal::TooLow);
     }
     let p = pop(&*cells, core);
     match fetched(rom, work, core.length, number, p.cell) {
-        Fetched::Refused(why) => stop(core, why),
-        Fetched::Value(cell) => {
+        Err(why) => stop(core, why),
+        Ok(cell) => {
             // a copy that is written: by `..p.core` a loop over memory took 1.8 times the instructions
             let mut k = p.core;
             k.place = next;
@@ -53,9 +55,9 @@ pub fn fetch_from(
     }
 }
 
-// A cell or its low 8 bits stored: 0, or why not.
-fn stored(work: &mut [u8], number: u32, address: u32, cell: u32) -> u32
-    ensures { (result ≡ store_why number work.old address)
+// A cell or its low 8 bits stored.
+fn stored(work: &mut [u8], number: u32, address: u32, cell: u32) -> Result<(), Refusal>
+    ensures { (refusal_in result ≡ store_why number work.old address)
         × (work.new ≡ store_then number work.old address cell) }
 {
     if is_cell(number) {
@@ -77,12 +79,11 @@ pub fn store_to(
         work.new s next t) }
 {
     if core.height < 2 {
-        return stop(core, 14);
+        return stop(core, Refusal::TooLow);
     }
     let p = pop(cells, core);
     let q = pop(cells, p.core);
-    let why = stored(work, number, p.cell, q.cell);
-    if why != 0 {
+    if let Err(why) = stored(work, number, p.cell, q.cell) {
         return stop(core, why);
     }
     let mut k = q.core;

@@ -7,7 +7,7 @@ ghost use Rattle.rom.specs.Sizes.{data_most};
 
 use rom::sizes::NODES_MOST;
 use state::{Core, Handed, go, stop};
-use tree::{Outcome, close_child, open_child};
+use tree::{close_child, open_child};
 
 // new-device
 pub fn open_node(parents: &mut [u32; NODES_MOST], core: Core, next: u32) -> Handed
@@ -20,11 +20,11 @@ pub fn open_node(parents: &mut [u32; NODES_MOST], core: Core, next: u32) -> Hand
     k.nodes = opened.nodes;
     k.active = opened.active;
     match opened.outcome {
-        Outcome::Done => {
+        Ok(()) => {
             k.place = next;
             go(k)
         }
-        Outcome::Refused(why) => stop(k, why),
+        Err(why) => stop(k, why),
     }
 }
 
@@ -37,10 +37,10 @@ pub fn close_node(parents: &[u32; NODES_MOST], core: Core, next: u32) -> Handed
     let mut k = core;
     k.active = closed.active;
     match closed.outcome {
-        Outcome::Done => {
+        Ok(()) => {
             k.place = next;
             go(k)
         }
-        Outcome::Refused(why) => stop(k, why),
+        Err(why) => stop(k, why),
     }
 }

@@ -4,6 +4,7 @@ ghost use Rattle.acts.specs.Joints.Acts.{Assigns, Enters, Slotted};
 ghost use Rattle.rom.specs.Sizes.{data_most, numbers_most};
 
 use crate::tables::held_at;
+use rom::Refusal;
 use rom::sizes::{DATA_MOST, FRAMES_MOST, NUMBERS_MOST};
 use state::{Core, Handed, call, entry, go, kind_byte, pop, push, stop, wide_at};
 use tokens::programs::PROGRAMS_MOST;
@@ -24,13 +25,13 @@ pub fn assign_value(
         values.new }
 {
     let Some(at) = held_at(slots, number) else {
-        return stop(core, 12);
+        return stop(core, Refusal::Undefined);
     };
     if kind_byte(kinds, at) != 0xB8 {
-        return stop(core, 12);
+        return stop(core, Refusal::Undefined);
     }
     if core.height < 1 {
-        return stop(core, 14);
+        return stop(core, Refusal::TooLow);
     }
     let p = pop(cells, core);
     values[at] = p.cell;
@@ -60,7 +61,7 @@ pub fn enter(
         cells.new places.new wides.new bases.new }
 {
     let Some(at) = held_at(slots, number) else {
-        return stop(core, 12);
+        return stop(core, Refusal::Undefined);
     };
     let value = entry(values, at);
     if kind_byte(kinds, at) == 0xB7 {
@@ -68,7 +69,7 @@ pub fn enter(
         return call(places, wides, bases, core, value, wide, next);
     }
     if DATA_MOST < core.height + 1 {
-        return stop(core, 15);
+        return stop(core, Refusal::TooHigh);
     }
     // a copy that is written: by `..core` in the tokens' functions a loop of calls took 2.2 times the instructions
     let mut k = core;

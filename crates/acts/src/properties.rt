@@ -8,9 +8,10 @@ ghost use Rattle.rom.specs.Sizes.{data_most};
 use crate::acted::{Acted, refuse};
 use crate::encode::bad_string;
 use memory::resolve;
+use rom::Refusal;
 use rom::sizes::{DATA_MOST, PROPERTIES_MOST};
 use state::{Core, Told, pop};
-use tree::{Kept, Outcome, Tail, put_in};
+use tree::{Kept, Tail, put_in};
 
 // What a call on the records leaves: the numbers as they were where it is refused, else with so many cells gone, at the next place.
 fn file_kept(core: Core, taken: usize, next: u32, kept: Kept) -> Acted
@@ -22,7 +23,7 @@ fn file_kept(core: Core, taken: usize, next: u32, kept: Kept) -> Acted
         ..core
     };
     match kept.outcome {
-        Outcome::Done => Acted {
+        Ok(()) => Acted {
             told: Told::On,
             core: Core {
                 height: core.height - taken,
@@ -31,7 +32,7 @@ fn file_kept(core: Core, taken: usize, next: u32, kept: Kept) -> Acted
             },
             tail: kept.tail,
         },
-        Outcome::Refused(why) => refuse(k, kept.tail, why),
+        Err(why) => refuse(k, kept.tail, why),
     }
 }
 
@@ -55,17 +56,17 @@ pub fn put_named(
         (λ s t. KeepsFrom rom.now work.now store.old store.new s next t) }
 {
     if core.height < 4 {
-        return refuse(core, tail, 14);
+        return refuse(core, tail, Refusal::TooLow);
     }
     let p = pop(cells, core);
     let q = pop(cells, p.core);
     let t = pop(cells, q.core);
     let u = pop(cells, t.core);
     if bad_string(rom, work, core.length, q.cell, p.cell) {
-        return refuse(core, tail, 22);
+        return refuse(core, tail, Refusal::NoWindow);
     }
     if bad_string(rom, work, core.length, u.cell, t.cell) {
-        return refuse(core, tail, 22);
+        return refuse(core, tail, Refusal::NoWindow);
     }
     let name = resolve(rom, work, core.length, q.cell, p.cell);
     let value = resolve(rom, work, core.length, u.cell, t.cell);
@@ -116,12 +117,12 @@ pub fn put_titled(
         (λ s t. KeepsBy number rom.now work.now store.old store.new s next t) }
 {
     if core.height < 2 {
-        return refuse(core, tail, 14);
+        return refuse(core, tail, Refusal::TooLow);
     }
     let p = pop(cells, core);
     let q = pop(cells, p.core);
     if bad_string(rom, work, core.length, q.cell, p.cell) {
-        return refuse(core, tail, 22);
+        return refuse(core, tail, Refusal::NoWindow);
     }
     let value = resolve(rom, work, core.length, q.cell, p.cell);
     // with a null

@@ -23,7 +23,7 @@ use Rattle.state.specs.Run.{run_of}
 use Rattle.state.specs.Laws.Keeps.Whole.{not_going}
 use Rattle.state.specs.Laws.Past.{same_run}
 use Rattle.state.specs.declared.state.State.{State}
-use Rattle.state.specs.declared.answer.Answer.TheVariants.{Refused}
+use Rattle.state.specs.Answer.{Refused}
 use Rattle.machine.specs.Joints.Rooms.{large_room, RoomFor, SpreadIs, Laying}
 use Rattle.machine.proofs.Turns.{run_known}
 

@@ -21,15 +21,15 @@ use Rattle.state.specs.Laws.Keeps.Parts.{base_below}
 use Rattle.state.specs.Joints.Apart.{Arrays, arrays_of, core_of, joined}
 use Rattle.state.specs.declared.apart.Core.{Core}
 use Rattle.state.specs.declared.state.State.{State}
-use Rattle.state.specs.declared.answer.Answer.{Answer}
-use Rattle.state.specs.declared.answer.Answer.TheVariants.{Going, Finished, Refused, Spent}
-use Rattle.state.specs.declared.answer.Ran.{Ran}
+use Rattle.state.specs.Answer.{Answer}
+use Rattle.state.specs.Answer.{Going, Finished, Refused, Spent}
+use Rattle.state.specs.Answer.{Ran}
 use Rattle.acts.specs.Joints.Acts.{Fit, every_on}
 use Rattle.state.specs.Joints.Hot.{Cold as IsCold}
 use Rattle.reckon.specs.Joints.Fast.{packed_fast, Goes, HoldsFast, Fares, Fast}
-use Rattle.reckon.specs.declared.turned.Fared.{Fared}
-use Rattle.reckon.specs.declared.turned.Fared.TheVariants.{On, Cold, Not}
-use Rattle.reckon.specs.declared.turned.Turned.{Turned}
+use Rattle.reckon.specs.Joints.Turned.{Fared}
+use Rattle.reckon.specs.Joints.Turned.{On, Cold, Not}
+use Rattle.reckon.specs.Joints.Turned.{Turned}
 use Rattle.machine.specs.Joints.Cruised.{one_answer, one_of}
 use Rattle.rom.specs.Sizes.{data_most, return_most, rom_most}
 

@@ -2,6 +2,7 @@
 ghost use Rattle.std.specs.Prelude.{◌≡◌, ◌≤◌, ◌<◌, min, max};
 ghost use Rattle.rom.specs.Sizes.{rom_least};
 ghost use Rattle.rom.specs.Spread.{view_of, fcode_of};
+ghost use Rattle.state.specs.Answer.{answer_in, stepped_in, ran_in};
 ghost use Rattle.state.specs.Scene.{scene, handed_back};
 ghost use Rattle.state.specs.Step.{ready_of, step_of};
 ghost use Rattle.state.specs.Run.{run_of, told_ran, ran_of};
@@ -17,7 +18,7 @@ use rom::sizes::{
     DATA_MOST, FRAMES_MOST, NODES_MOST, NUMBERS_MOST, PROPERTIES_MOST, RETURN_MOST, ROM_LEAST,
     ROM_MOST, STORE_SIZE, WORK_SIZE,
 };
-use rom::{Spread, fcode_count, lay_fcode, spread_of, wrong_length, wrong_rom};
+use rom::{Refusal, Spread, fcode_count, lay_fcode, spread_of, wrong_length, wrong_rom};
 use state::{
     Answer, Back, Calls, Core, Numbers, Ran, Stack, State, Stepped, Told, core_of, going, is_whole,
 };
@@ -42,22 +43,19 @@ pub struct Cruised {
 // What is known before a token is looked at: 6, 1, 7, 4, or that the state is finished.
 #[tactic(auto, unfolding(state::specs::Step::ready_of))]
 fn ready(fcode: &[u8], work: &[u8], store: &[u8], st: State) -> Answer
-    ensures { result ≡ ready_of (scene fcode.now work.now store.now st) }
+    ensures { answer_in result ≡ ready_of (scene fcode.now work.now store.now st) }
 {
-    if work.len() != WORK_SIZE {
-        return Answer::Refused(6);
-    }
-    if store.len() != STORE_SIZE {
-        return Answer::Refused(6);
+    if work.len() != WORK_SIZE || store.len() != STORE_SIZE {
+        return Answer::Refused(Refusal::WrongSize);
     }
     if wrong_rom(fcode, Spread::One) {
-        return Answer::Refused(1);
+        return Answer::Refused(Refusal::WrongRom);
     }
     if !is_whole(st) {
-        return Answer::Refused(7);
+        return Answer::Refused(Refusal::Damaged);
     }
     if wrong_length(fcode, Spread::One, st.length) {
-        return Answer::Refused(4);
+        return Answer::Refused(Refusal::WrongLength);
     }
     if st.finished {
         Answer::Finished
@@ -146,7 +144,7 @@ fn cruise(
                 match r.told {
                     Told::On => {
                         if core.active == 0 {
-                            return halted(Answer::Refused(7), n + 1, core);
+                            return halted(Answer::Refused(Refusal::Damaged), n + 1, core);
                         }
                     }
                     Told::Over => return halted(Answer::Finished, n + 1, core),
@@ -161,7 +159,7 @@ fn cruise(
 // The same of a state: it is taken apart once and put together once.
 fn tokens(rom: &[u8], work: &mut [u8], store: &mut [u8], st: State, budget: u32) -> Ran
     requires { Ready rom.now work.old store.old st × Sized st }
-    ensures { told_ran result work.new store.new ≡ run_of budget
+    ensures { told_ran (ran_in result) work.new store.new ≡ run_of budget
         (scene rom.now work.old store.old st) }
 {
     let mut cells = st.stack.cells;
@@ -239,8 +237,9 @@ fn tokens(rom: &[u8], work: &mut [u8], store: &mut [u8], st: State, budget: u32)
     ended(r.answer, r.count, state)
 }
 
+#[tactic(auto, unfolding(state::specs::Answer::ran_in))]
 fn ended(answer: Answer, count: u32, state: State) -> Ran
-    ensures { result ≡ ran_of answer count state }
+    ensures { ran_in result ≡ ran_of (answer_in answer) count state }
 {
     Ran {
         answer,
@@ -251,7 +250,7 @@ fn ended(answer: Answer, count: u32, state: State) -> Ran
 
 // A run over FCode bytes that lie one behind the other. It is the one function that the loop over tokens is laid out in.
 fn run_fcode(fcode: &[u8], work: &mut [u8], store: &mut [u8], st: State, budget: u32) -> Ran
-    ensures { told_ran result work.new store.new ≡ run_of budget
+    ensures { told_ran (ran_in result) work.new store.new ≡ run_of budget
         (scene fcode.now work.old store.old st) }
 {
     match ready(fcode, work, store, st) {
@@ -272,7 +271,7 @@ fn run_laid(
     budget: u32,
 ) -> Ran
     requires { Laying spread rom.now st.length count × RoomFor count room.old }
-    ensures { told_ran result work.new store.new ≡ run_of budget
+    ensures { told_ran (ran_in result) work.new store.new ≡ run_of budget
         (scene (view_of spread rom.now) work.old store.old st) }
 {
     lay_fcode(rom, spread, &mut room[..count]);
@@ -290,7 +289,7 @@ fn run_in<const ROOM: usize>(
     budget: u32,
 ) -> Ran
     requires { Laying spread rom.now st.length count × (count ≤ ROOM) × (ROOM ≤ large_room) }
-    ensures { told_ran result work.new store.new ≡ run_of budget
+    ensures { told_ran (ran_in result) work.new store.new ≡ run_of budget
         (scene (view_of spread rom.now) work.old store.old st) }
 {
     let mut room = [0u8; ROOM];
@@ -315,7 +314,7 @@ fn run_spread(
     budget: u32,
 ) -> Ran
     requires { SpreadIs spread rom.now }
-    ensures { told_ran result work.new store.new ≡ run_of budget
+    ensures { told_ran (ran_in result) work.new store.new ≡ run_of budget
         (scene (view_of spread rom.now) work.old store.old st) }
 {
     if wrong_rom(rom, spread) {
@@ -334,7 +333,7 @@ fn run_spread(
 // Tokens until one finishes or is refused or the budget is spent: 6, 1, 7 and 4 are tested first, then finish, then budget, then the token.
 // The count is that of the tokens carried out. The ROM is as it is lent: its first byte tells how far apart its FCode bytes lie.
 pub fn run(rom: &[u8], work: &mut [u8], store: &mut [u8], st: State, budget: u32) -> Ran
-    ensures { told_ran result work.new store.new ≡ run_of budget
+    ensures { told_ran (ran_in result) work.new store.new ≡ run_of budget
         (scene (fcode_of rom.now) work.old store.old st) }
 {
     let spread = spread_of(rom);
@@ -346,8 +345,9 @@ pub fn run(rom: &[u8], work: &mut [u8], store: &mut [u8], st: State, budget: u32
 }
 
 // A step from a run of one token: a token that was carried out goes on or finishes, whatever the run met behind it.
+#[tactic(auto, unfolding(state::specs::Answer::ran_in))]
 fn one(ran: Ran) -> Stepped
-    ensures { result ≡ one_of ran }
+    ensures { stepped_in result ≡ one_of (ran_in ran) }
 {
     if ran.count == 0 || matches!(ran.answer, Answer::Finished) {
         Stepped {
@@ -361,7 +361,7 @@ fn one(ran: Ran) -> Stepped
 
 // One token, or why it is refused; a finished state says so again. A refused step leaves the state, work memory and store as they were.
 pub fn step(rom: &[u8], work: &mut [u8], store: &mut [u8], st: State) -> Stepped
-    ensures { handed_back result work.new store.new ≡ step_of
+    ensures { handed_back (stepped_in result) work.new store.new ≡ step_of
         (scene (fcode_of rom.now) work.old store.old st) }
 {
     one(run(rom, work, store, st, 1))

@@ -35,5 +35,5 @@ pub record Ran : Type 0 where
   pub count : ℕ
   pub state : State
 
-abbrev pub ran_in : RunSaid → Ran
+unfoldable pub ran_in : RunSaid → Ran
 ran_in r = record { answer = answer_in r.answer; count = r.count; state = r.state }

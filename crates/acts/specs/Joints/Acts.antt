@@ -1,5 +1,6 @@
 -- What the code for a token ensures, of a token of this family, operand and next place: the step's own definition. Assumes nothing.
 use Rattle.std.specs.Prelude.{◌≡◌, ℕ, ◌+◌, ◌-◌, ◌≤◌, Bool, true, false, ◌||◌, List, [], ◌∷◌, length, ◌==◌, ◌≢◌, nat_lt, slice_index}
+use Rattle.std.specs.Prelude.{Result, Ok, Err}
 use Rattle.cells.specs.Choice.{pick, find}
 use Rattle.tokens.specs.Family.{finish, text, widen, leave, fetch, store, define, assign, call, encode_int, encode_string, join, property}
 use Rattle.tokens.specs.Family.{titled}
@@ -7,17 +8,13 @@ use Rattle.tokens.specs.Family.{new_device, finish_device}
 use Rattle.tokens.specs.Decode.{token_of}
 use Rattle.tokens.specs.declared.decoding.Operand.{Operand}
 use Rattle.tokens.specs.declared.decoding.Operand.TheVariants.{Number, Definition}
+use Rattle.tokens.specs.declared.decoding.Token.{Token}
 use Rattle.tokens.specs.Place.{misplaced_of, read_of}
 use Rattle.tokens.specs.Joints.Glance.{glance_of}
-use Rattle.tokens.specs.declared.read.Read.{Read}
-use Rattle.tokens.specs.declared.read.Read.TheVariants.{Refused as Unread, Good}
 use Rattle.tokens.specs.declared.glance.Glance.{Glance}
 use Rattle.tokens.specs.Table.{is_program}
 use Rattle.memory.specs.Window.{work_base}
 use Rattle.memory.specs.Cells.{fetch_cell_of, fetch_byte_of, cell_refusal, byte_refusal, cell_stored, byte_stored}
-use Rattle.memory.specs.declared.window.Fetched.{Fetched}
-use Rattle.tree.specs.declared.tree.Outcome.{Outcome}
-use Rattle.tree.specs.declared.tree.Outcome.TheVariants.{Done, Refused as NotDone}
 use Rattle.tree.specs.Node.{Written, Activated}
 use Rattle.tree.specs.declared.in_place.Tail.{Tail}
 use Rattle.tree.specs.Joints.Apart.{Tallied}
@@ -33,11 +30,11 @@ use Rattle.state.specs.Joints.Apart.{Moves}
 use Rattle.state.specs.Step.{ready_of, done_of}
 use Rattle.state.specs.Step.{token_turn as turn_of}
 use Rattle.state.specs.Joints.Tables.{slots_of}
+use Rattle.rom.specs.declared.refusal.Refusal.{Refusal}
 use Rattle.rom.specs.Sizes.{data_most, numbers_most, rom_most, work_size}
 use Rattle.state.specs.declared.state.State.{State}
 use Rattle.state.specs.declared.state.Numbers.{Numbers}
-use Rattle.state.specs.declared.answer.Answer.TheVariants.{Going, Refused}
-use Rattle.state.specs.declared.answer.Stepped.{Stepped}
+use Rattle.state.specs.Answer.{Stepped, Going, Refused}
 use Rattle.state.specs.declared.apart.Core.{Core}
 use Rattle.state.specs.declared.apart.Handed.{Handed}
 use Rattle.state.specs.declared.apart.Told.TheVariants.{On, Not}
@@ -182,7 +179,7 @@ abbrev pub as_they_are : Arrays → Arrays
 as_they_are a = a
 
 -- ---- a token that writes a property: the records from those before, where the tree is whole, and the tail of the store
-abbrev pub refused_of : Core → Tail → ℕ → Acted
+abbrev pub refused_of : Core → Tail → Refusal → Acted
 refused_of k tail why = record { told = Not why; core = k; tail = tail }
 
 abbrev pub acted_of : Handed → Tail → Acted
@@ -206,9 +203,9 @@ filed_core k place height records =
       records = records;
     }
 
-abbrev pub filed_of : Core → ℕ → ℕ → Outcome → ℕ → Tail → Acted
-filed_of k taken next Done records tail = record { told = On; core = filed_core k next (k.height - taken) records; tail = tail }
-filed_of k taken next (NotDone why) records tail = record { told = Not why; core = filed_core k k.place k.height records; tail = tail }
+abbrev pub filed_of : Core → ℕ → ℕ → Result (Unit {0}) Refusal → ℕ → Tail → Acted
+filed_of k taken next (Ok tt) records tail = record { told = On; core = filed_core k next (k.height - taken) records; tail = tail }
+filed_of k taken next (Err why) records tail = record { told = Not why; core = filed_core k k.place k.height records; tail = tail }
 
 abbrev pub on_files : List ℕ → List ℕ → List ℕ → List ℕ → Arrays → Arrays
 on_files cells owners titles sizes a = on_records owners titles sizes (on_stack cells a)
@@ -222,9 +219,9 @@ Files cells owners titles sizes k r owners' titles' sizes' store P =
     × (r.core.held ≡ k.held)
 
 -- what a call on the tree leaves: refused, the state as it was; else the state without the cells that were taken, with the tree then
-abbrev pub outcome_on : State → State → Outcome → Stepped
-outcome_on st on Done = stepped Going on
-outcome_on st on (NotDone why) = stepped (Refused why) st
+abbrev pub outcome_on : State → State → Result (Unit {0}) ℕ → Stepped
+outcome_on st on (Ok tt) = stepped Going on
+outcome_on st on (Err why) = stepped (Refused why) st
 
 abbrev pub kept_on : State → State → ℕ → Written → Stepped
 kept_on st taken next w = outcome_on st (with_tree (moved_to taken next) w.tree) w.outcome
@@ -237,7 +234,7 @@ active_on st next w = outcome_on st (with_tree (with_active (moved_to st next) w
 abbrev pub of_cell : ℕ → Bool
 of_cell n = n == 0x6D || n == 0x72
 
-abbrev pub look_of : ℕ → List ℕ → List ℕ → ℕ → ℕ → Fetched
+abbrev pub look_of : ℕ → List ℕ → List ℕ → ℕ → ℕ → Result ℕ ℕ
 look_of n rom work size address = pick (of_cell n) (fetch_cell_of rom work size address) (fetch_byte_of rom work size address)
 
 abbrev pub store_why : ℕ → List ℕ → ℕ → ℕ
@@ -285,10 +282,14 @@ abbrev pub ActsKept : List ℕ → List ℕ → List ℕ → List ℕ → List �
 ActsKept slots known names kinds store titles sizes k tail =
     Tables slots known names kinds k.held × Tallied store titles sizes k.records tail
 
--- why no token can be read there
-abbrev pub why_of : Read → ℕ
-why_of (Unread why) = why
-why_of (Good t) = 0
+-- no token can be read at the place
+abbrev pub Unread : List ℕ → Core → Type 0
+Unread rom k = (why : ℕ) × (read_of rom k.length k.wide (nat_lt 0 k.frames) k.place ≡ Err why)
+
+-- why none can be read there
+abbrev pub why_of : Result Token ℕ → ℕ
+why_of (Err why) = why
+why_of (Ok t) = 0
 
 abbrev pub why_in : List ℕ → Core → ℕ
 why_in rom k = why_of (read_of rom k.length k.wide (nat_lt 0 k.frames) k.place)

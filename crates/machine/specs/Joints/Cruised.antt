@@ -4,20 +4,21 @@ use Rattle.cells.specs.Choice.{pick}
 use Rattle.state.specs.Run.{RunResult}
 use Rattle.state.specs.Joints.Apart.{Arrays, joined}
 use Rattle.state.specs.Joints.Moves.{stepped}
-use Rattle.state.specs.declared.answer.Answer.{Answer}
-use Rattle.state.specs.declared.answer.Answer.TheVariants.{Going, Finished, Refused, Spent}
-use Rattle.state.specs.declared.answer.Ran.{Ran}
-use Rattle.state.specs.declared.answer.Stepped.{Stepped}
+use Rattle.state.specs.Answer.{Answer, answer_in}
+use Rattle.state.specs.declared.answer.Answer.{Answer as Said}
+use Rattle.state.specs.Answer.{Going, Finished, Refused, Spent}
+use Rattle.state.specs.Answer.{Ran}
+use Rattle.state.specs.Answer.{Stepped}
 use Rattle.state.specs.declared.apart.Core.{Core}
 use Rattle.machine.specs.declared.running.Cruised.{Cruised}
 
 -- ---- for the code's own steps
-abbrev pub cruised_by : Answer → ℕ → Core → Cruised
+abbrev pub cruised_by : Said → ℕ → Core → Cruised
 cruised_by a n k = record { answer = a; count = n; core = k }
 
 -- what a run leaves of a state that is put together again
 abbrev pub cruised_to : Cruised → Arrays → List ℕ → List ℕ → RunResult
-cruised_to r a work store = record { answer = r.answer; count = r.count; state = joined a r.core; work = work; store = store }
+cruised_to r a work store = record { answer = answer_in r.answer; count = r.count; state = joined a r.core; work = work; store = store }
 
 -- a step from a run of one token
 abbrev pub one_answer : Answer → Answer

@@ -61,6 +61,3 @@ define_new-requires c =
       pre.4,
       pre.5,
     )
-
-pub returns : goal.returns
-returns c = (c.define_new.ensures.0, c.define_new.ensures.1)

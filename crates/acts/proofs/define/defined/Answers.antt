@@ -3,11 +3,6 @@ use Rattle.acts.proofs.Slotting.{tabled_defined, tables_of}
 use Rattle.state.specs.Numbers.{numbers_on}
 use Rattle.acts.proofs.define.defined.Goals as goal
 
-pub note-requires : goal.note-requires
-note-requires c =
-    let pre = c.requires in
-    let f = pre.0.1 in omega arith
-
 pub returns : goal.returns
 returns c =
     let pre = c.requires in

@@ -1,4 +1,4 @@
-use Rattle.std.proofs.Common.{ℕ, true, [], sym, refl, ◌∙◌, subst, arith, rules}
+use Rattle.std.proofs.Common.{ℕ, true, [], sym, refl, ◌∙◌, subst, rules}
 use Rattle.acts.proofs.Acting.{plain_turn, text_turn, text_form, assign_turn, define_turn, define_fits, frames_open, none_other}
 use Rattle.acts.proofs.Acting.{records_still}
 use Rattle.acts.proofs.Backs.{no_arrays}
@@ -24,13 +24,6 @@ overflow_sub-next c =
     x.ways.now x.parents.now x.owners.now x.titles.now x.sizes.now a) x.core) x.seen p.1.0
     p.1.1 p.1.2 f) in
     search rules
-
-pub quote-requires : goal.quote-requires
-quote-requires c =
-    let u = c.requires in
-    let h = u.0.0 in
-    let p = u.0.4 in
-    (omega arith, h)
 
 pub leave_body-requires : goal.leave_body-requires
 leave_body-requires c =
@@ -76,16 +69,6 @@ pub enter-requires : goal.enter-requires
 enter-requires c =
     let p = c.requires in
     (p.0.0, p.0.1, (p.5.0 [] []).0)
-
-pub put_named-requires : goal.put_named-requires
-put_named-requires c =
-    let p = c.requires in
-    (p.0.0, p.0.3, p.5.1)
-
-pub put_titled-requires : goal.put_titled-requires
-put_titled-requires c =
-    let p = c.requires in
-    (p.0.0, p.0.3, p.5.1)
 
 pub returns-in-2 : goal.returns-in-2
 returns-in-2 c =

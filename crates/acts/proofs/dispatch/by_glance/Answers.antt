@@ -2,7 +2,14 @@ use Rattle.acts.proofs.Acting.{unread_turn, misplaced_turn}
 use Rattle.acts.specs.Joints.Acts.{every_on}
 use Rattle.state.specs.Joints.Apart.{joined}
 use Rattle.std.proofs.Common.{sym, ◌∙◌}
+use Rattle.tokens.specs.Laws.Glance.{glance_refused}
 use Rattle.acts.proofs.dispatch.by_glance.Goals as goal
+
+pub why_at-requires : goal.why_at-requires
+why_at-requires c =
+    let x = c.args in
+    glance_refused x.rom.now x.core.length x.core.wide _ x.core.place c.glance_at-seen.result (sym c.glance_at-seen.ensures)
+    c.if-seen-eq0.true
 
 pub returns-then-seen-eq0 : goal.returns-then-seen-eq0
 returns-then-seen-eq0 c =
@@ -46,6 +53,3 @@ act-requires c =
       p.3,
       p.4,
     )
-
-pub returns : goal.returns
-returns c = c.act.ensures

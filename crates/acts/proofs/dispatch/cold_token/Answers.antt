@@ -7,11 +7,26 @@ use Rattle.state.specs.Joints.Apart.{joined}
 use Rattle.tokens.specs.Code.{code_of}
 use Rattle.tokens.specs.Family.{fetch, store, leave, call}
 use Rattle.tokens.specs.Joints.Glance.{seen_as, nothing_seen}
+use Rattle.tokens.specs.Laws.Glance.{glance_refused}
 use Rattle.tokens.specs.Laws.GlanceForms.{past_end}
 use Rattle.tokens.specs.Place.{misplaced_of}
 use Rattle.tokens.specs.Table.{ends, lows, highs, doubles, table, row_of}
 use Rattle.tokens.specs.declared.decoding.Operand.TheVariants.{Nothing}
 use Rattle.acts.proofs.dispatch.cold_token.Goals as goal
+
+pub why_at-requires : goal.why_at-requires
+why_at-requires c =
+    let x = c.args in
+    glance_refused x.rom.now x.core.length x.core.wide _ x.core.place nothing_seen
+    (sym (past_end x.rom.now x.core.length x.core.wide x.core.place c.if-core-place.true)) refl
+
+pub why_at-requires-then-core-place-2 : goal.why_at-requires-then-core-place-2
+why_at-requires-then-core-place-2 c =
+    let x = c.args in
+    let h = c.in-8-to-15.if-first-lt8-own.false in
+    let i = c.in-8-to-15.if-first-lt16-own.true in
+    glance_refused x.rom.now x.core.length x.core.wide _ x.core.place nothing_seen
+    (cut_early x.rom.now x.core c.byte-first.result c.byte-first.ensures h (omega arith) c.if-core-place-2.true) refl
 
 pub returns-then-core-place : goal.returns-then-core-place
 returns-then-core-place c =

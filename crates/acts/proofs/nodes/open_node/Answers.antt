@@ -1,20 +1,22 @@
 use Rattle.acts.proofs.Keeping.{active_done, active_refused, open_same, open_told}
 use Rattle.state.specs.Joints.Apart.{joined, on_nodes}
-use Rattle.std.proofs.Common.{refl}
+use Rattle.rom.specs.Refusal.{numbered}
+use Rattle.std.proofs.Common.{refl, ap}
 use Rattle.acts.proofs.nodes.open_node.Goals as goal
 
-pub returns-in-Done : goal.returns-in-Done
-returns-in-Done c =
+pub returns-in-Ok : goal.returns-in-Ok
+returns-in-Ok c =
     rw c.go.ensures (λ a.
     let x = c.args in
     let st = joined (on_nodes x.parents.now a) x.core in
     let e = c.open_child-opened.ensures st.tree in
-    open_told st x.next c.requires _ _ (active_done st x.next _ _ c.in-Done.is refl) e)
+    open_told st x.next c.requires _ _ (active_done st x.next _ _ (ap numbered c.in-Ok.is) refl) e)
 
-pub returns-in-Refused : goal.returns-in-Refused
-returns-in-Refused c =
+pub returns-in-Err : goal.returns-in-Err
+returns-in-Err c =
     rw c.stop.ensures (λ a.
     let x = c.args in
     let st = joined (on_nodes x.parents.now a) x.core in
+    let f = ap numbered c.in-Err.is in
     let e = c.open_child-opened.ensures st.tree in
-    open_told st x.next c.requires _ _ (active_refused st x.next _ _ _ c.in-Refused.is (open_same st x.next _ _ c.in-Refused.is e) refl) e)
+    open_told st x.next c.requires _ _ (active_refused st x.next _ _ _ f (open_same st x.next _ _ f e) refl) e)

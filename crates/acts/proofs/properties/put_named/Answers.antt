@@ -51,14 +51,6 @@ returns-then-bad_string-2 c =
       refl,
     )
 
-pub put_in-kept-requires : goal.put_in-kept-requires
-put_in-kept-requires c =
-    let pre = c.requires in
-    pre.2
-
-pub file_kept-requires : goal.file_kept-requires
-file_kept-requires c = c.if-core-lt4.false
-
 pub returns : goal.returns
 returns c =
     let x = c.args in

@@ -4,8 +4,9 @@ use Rattle.machine.proofs.Turns.{turn_rooted, turn_goes}
 use Rattle.state.specs.Joints.Apart.{arrays, joined, answer_of}
 use Rattle.state.specs.Laws.Keeps.Whole.{ready_facts}
 use Rattle.state.specs.Scene.{scene}
-use Rattle.state.specs.declared.answer.Answer.TheVariants.{Finished, Refused}
+use Rattle.state.specs.Answer.{Finished, Refused}
 use Rattle.tree.specs.Laws.InPlace.{tallied_first}
+use Rattle.reckon.specs.Joints.Turned.{fared_in, turned_in}
 use Rattle.machine.proofs.running.cruise.Goals as goal
 
 pub fill_tables-requires : goal.fill_tables-requires
@@ -81,6 +82,7 @@ overflow_add-n c =
     let lt = c.loop-n-test.true in let most = fits.budget in omega arith
 
 pub loop-n-preserved-in-On : goal.loop-n-preserved-in-On
+unfolding turned_in
 loop-n-preserved-in-On c =
     let lt = c.loop-n-test.true in (
       (omega arith, c.loop-n.invariant.0.1, c.loop-n.invariant.0.2),
@@ -88,9 +90,9 @@ loop-n-preserved-in-On c =
           hot_goes x.budget c.loop-n.n _ (scene x.rom.now c.loop-n.work c.loop-n.store
           (joined (arrays c.loop-n.cells c.loop-n.back c.loop-n.places c.loop-n.wides c.loop-n.bases c.loop-n.names c.loop-n.kinds
           c.loop-n.values c.loop-n.ways c.loop-n.parents
-          c.loop-n.owners c.loop-n.titles c.loop-n.sizes) c.loop-n.core)) c.loop-n.invariant.1 c.loop-n-test.true c.fast-t.result _ _
+          c.loop-n.owners c.loop-n.titles c.loop-n.sizes) c.loop-n.core)) c.loop-n.invariant.1 c.loop-n-test.true (turned_in c.fast-t.result) _ _
           c.fast-t.ensures
-          c.in-On.is),
+          (ap fared_in c.in-On.is)),
       c.loop-n.invariant.2,
     )
 
@@ -101,24 +103,26 @@ pub shape_of-store-in-Not : goal.shape_of-store-in-Not
 shape_of-store-in-Not c = c.loop-n.invariant.0.2
 
 pub returns-in-Not : goal.returns-in-Not
+unfolding turned_in
 returns-in-Not c =
     let x = c.args in
     rw c.halted.ensures (hot_refused x.budget c.loop-n.n _
     (scene x.rom.now c.loop-n.work c.loop-n.store
     (joined (arrays c.loop-n.cells c.loop-n.back c.loop-n.places c.loop-n.wides c.loop-n.bases c.loop-n.names c.loop-n.kinds c.loop-n.values
     c.loop-n.ways c.loop-n.parents
-    c.loop-n.owners c.loop-n.titles c.loop-n.sizes) c.loop-n.core)) c.loop-n.invariant.1 c.loop-n-test.true c.fast-t.result _ _
-    c.fast-t.ensures _ c.in-Not.is)
+    c.loop-n.owners c.loop-n.titles c.loop-n.sizes) c.loop-n.core)) c.loop-n.invariant.1 c.loop-n-test.true (turned_in c.fast-t.result) _ _
+    c.fast-t.ensures _ (ap fared_in c.in-Not.is))
 
 pub cold_token-r-requires : goal.cold_token-r-requires
+unfolding turned_in
 cold_token-r-requires c =
     let x = c.args in
     let h = hot_left x.budget c.loop-n.n _ (scene x.rom.now c.loop-n.work c.loop-n.store
     (joined (arrays c.loop-n.cells c.loop-n.back c.loop-n.places c.loop-n.wides c.loop-n.bases c.loop-n.names c.loop-n.kinds c.loop-n.values
     c.loop-n.ways c.loop-n.parents
     c.loop-n.owners c.loop-n.titles c.loop-n.sizes) c.loop-n.core)) c.loop-n.invariant.1
-    c.loop-n-test.true c.fast-t.result _ _ c.fast-t.ensures
-    c.in-Cold.is in
+    c.loop-n-test.true (turned_in c.fast-t.result) _ _ c.fast-t.ensures
+    (ap fared_in c.in-Cold.is) in
     let i = h.0 in
     (fit _ i.0, h.1, i.1.numbers.programs, i.1.numbers.kinds, c.loop-n.invariant.2)
 
@@ -129,20 +133,22 @@ pub shape_of-store-then-core-eq0 : goal.shape_of-store-then-core-eq0
 shape_of-store-then-core-eq0 c = c.cold_token-r.auto.store ∙ c.loop-n.invariant.0.2
 
 pub returns-then-core-eq0 : goal.returns-then-core-eq0
+unfolding turned_in
 returns-then-core-eq0 c =
     let x = c.args in
     let h = hot_left x.budget c.loop-n.n _ (scene x.rom.now c.loop-n.work c.loop-n.store
     (joined (arrays c.loop-n.cells c.loop-n.back c.loop-n.places c.loop-n.wides c.loop-n.bases c.loop-n.names c.loop-n.kinds c.loop-n.values
     c.loop-n.ways c.loop-n.parents
-    c.loop-n.owners c.loop-n.titles c.loop-n.sizes) c.loop-n.core)) c.loop-n.invariant.1 c.loop-n-test.true c.fast-t.result _ _
-    c.fast-t.ensures c.in-Cold.is
+    c.loop-n.owners c.loop-n.titles c.loop-n.sizes) c.loop-n.core)) c.loop-n.invariant.1 c.loop-n-test.true (turned_in c.fast-t.result) _ _
+    c.fast-t.ensures (ap fared_in c.in-Cold.is)
     in let i = h.0 in
     rw c.halted-then-core-eq0.ensures (turn_rooted _ _ _ _ i c.loop-n-test.true _
-    (came _ (turned_to c.loop-n.core c.fast-t.result) _ _ _ _ _ _ _ _ _ _ _ _ _ _ _ _ i.0 c.cold_token-r.ensures.0 refl refl refl refl refl
+    (came _ (turned_to c.loop-n.core (turned_in c.fast-t.result)) _ _ _ _ _ _ _ _ _ _ _ _ _ _ _ _ i.0 c.cold_token-r.ensures.0 refl refl refl refl refl
     refl refl
     refl refl refl refl refl refl) (ap answer_of c.in-On-told.is) c.if-core-eq0.true)
 
 pub loop-n-preserved : goal.loop-n-preserved
+unfolding turned_in
 loop-n-preserved c =
     let lt = c.loop-n-test.true in (
       (omega arith, c.cold_token-r.auto.work ∙ c.loop-n.invariant.0.1, c.cold_token-r.auto.store ∙ c.loop-n.invariant.0.2),
@@ -150,11 +156,11 @@ loop-n-preserved c =
           let h = hot_left x.budget c.loop-n.n _ (scene x.rom.now c.loop-n.work c.loop-n.store
           (joined (arrays c.loop-n.cells c.loop-n.back c.loop-n.places c.loop-n.wides c.loop-n.bases c.loop-n.names c.loop-n.kinds
           c.loop-n.values c.loop-n.ways c.loop-n.parents
-          c.loop-n.owners c.loop-n.titles c.loop-n.sizes) c.loop-n.core)) c.loop-n.invariant.1 c.loop-n-test.true c.fast-t.result _ _
+          c.loop-n.owners c.loop-n.titles c.loop-n.sizes) c.loop-n.core)) c.loop-n.invariant.1 c.loop-n-test.true (turned_in c.fast-t.result) _ _
           c.fast-t.ensures
-          c.in-Cold.is in let i = h.0 in
+          (ap fared_in c.in-Cold.is) in let i = h.0 in
           turn_goes _ _ _ _ i c.loop-n-test.true _
-          (came _ (turned_to c.loop-n.core c.fast-t.result) _ _ _ _ _ _ _ _ _ _ _ _ _ _ _ _ i.0 c.cold_token-r.ensures.0 refl refl refl refl
+          (came _ (turned_to c.loop-n.core (turned_in c.fast-t.result)) _ _ _ _ _ _ _ _ _ _ _ _ _ _ _ _ i.0 c.cold_token-r.ensures.0 refl refl refl refl
           refl refl
           refl refl refl refl refl refl refl) (ap answer_of c.in-On-told.is) c.if-core-eq0.false),
       c.cold_token-r.ensures.1,
@@ -172,16 +178,17 @@ pub shape_of-store-in-Over : goal.shape_of-store-in-Over
 shape_of-store-in-Over c = c.cold_token-r.auto.store ∙ c.loop-n.invariant.0.2
 
 pub returns-in-Over : goal.returns-in-Over
+unfolding turned_in
 returns-in-Over c =
     let x = c.args in
     let h = hot_left x.budget c.loop-n.n _ (scene x.rom.now c.loop-n.work c.loop-n.store
     (joined (arrays c.loop-n.cells c.loop-n.back c.loop-n.places c.loop-n.wides c.loop-n.bases c.loop-n.names c.loop-n.kinds c.loop-n.values
     c.loop-n.ways c.loop-n.parents
-    c.loop-n.owners c.loop-n.titles c.loop-n.sizes) c.loop-n.core)) c.loop-n.invariant.1 c.loop-n-test.true c.fast-t.result _ _
-    c.fast-t.ensures c.in-Cold.is
+    c.loop-n.owners c.loop-n.titles c.loop-n.sizes) c.loop-n.core)) c.loop-n.invariant.1 c.loop-n-test.true (turned_in c.fast-t.result) _ _
+    c.fast-t.ensures (ap fared_in c.in-Cold.is)
     in let i = h.0 in
     rw c.halted-in-Over.ensures (turn_ends _ _ _ _ i c.loop-n-test.true _
-    (came _ (turned_to c.loop-n.core c.fast-t.result) _ _ _ _ _ _ _ _ _ _ _ _ _ _ _ _ i.0 c.cold_token-r.ensures.0 refl refl refl refl refl
+    (came _ (turned_to c.loop-n.core (turned_in c.fast-t.result)) _ _ _ _ _ _ _ _ _ _ _ _ _ _ _ _ i.0 c.cold_token-r.ensures.0 refl refl refl refl refl
     refl refl
     refl refl refl refl refl refl) Finished (ap answer_of c.in-Over.is))
 
@@ -192,16 +199,17 @@ pub shape_of-store-in-Not-told : goal.shape_of-store-in-Not-told
 shape_of-store-in-Not-told c = c.cold_token-r.auto.store ∙ c.loop-n.invariant.0.2
 
 pub returns-in-Not-told : goal.returns-in-Not-told
+unfolding turned_in
 returns-in-Not-told c =
     let x = c.args in
     let h = hot_left x.budget c.loop-n.n _ (scene x.rom.now c.loop-n.work c.loop-n.store
     (joined (arrays c.loop-n.cells c.loop-n.back c.loop-n.places c.loop-n.wides c.loop-n.bases c.loop-n.names c.loop-n.kinds c.loop-n.values
     c.loop-n.ways c.loop-n.parents
-    c.loop-n.owners c.loop-n.titles c.loop-n.sizes) c.loop-n.core)) c.loop-n.invariant.1 c.loop-n-test.true c.fast-t.result _ _
-    c.fast-t.ensures c.in-Cold.is
+    c.loop-n.owners c.loop-n.titles c.loop-n.sizes) c.loop-n.core)) c.loop-n.invariant.1 c.loop-n-test.true (turned_in c.fast-t.result) _ _
+    c.fast-t.ensures (ap fared_in c.in-Cold.is)
     in let i = h.0 in
     rw c.halted-in-Not-told.ensures (turn_ends _ _ _ _ i c.loop-n-test.true _
-    (came _ (turned_to c.loop-n.core c.fast-t.result) _ _ _ _ _ _ _ _ _ _ _ _ _ _ _ _ i.0 c.cold_token-r.ensures.0 refl refl refl refl refl
+    (came _ (turned_to c.loop-n.core (turned_in c.fast-t.result)) _ _ _ _ _ _ _ _ _ _ _ _ _ _ _ _ i.0 c.cold_token-r.ensures.0 refl refl refl refl refl
     refl refl
     refl refl refl refl refl refl) (Refused _) (ap answer_of c.in-Not-told.is))
 

@@ -1,6 +1,7 @@
 use Rattle.rom.specs.Spread.{fcode_of}
-use Rattle.state.specs.Scene.{scene}
-use Rattle.std.proofs.Common.{rules}
+use Rattle.state.specs.Answer.{Stepped, ran_in}
+use Rattle.state.specs.Scene.{scene, handed_back}
+use Rattle.std.proofs.Common.{ap, ◌∙◌, rules}
 use Rattle.machine.proofs.Turns.{step_told}
 use Rattle.machine.proofs.running.step.Goals as goal
 
@@ -8,8 +9,8 @@ pub returns : goal.returns
 returns c =
     let a = c.args in
     let good = c.well_formed.1.1.1.0 in
-    rw c.one.ensures
-    (step_told (scene (fcode_of a.rom.now) a.work.now a.store.now a.st)
+    ap (λ (x : Stepped). handed_back x _ _) c.one.ensures
+    ∙ (step_told (scene (fcode_of a.rom.now) a.work.now a.store.now a.st)
     (record {
       stack = let a = good.1.1.1.1.1.1.0 in search rules;
       back = let a = good.1.1.1.1.1.1.1.0 in search rules;
@@ -21,4 +22,4 @@ returns c =
           let a = good.1.1.1.1.1.1.1.1.1.1.1.1.1.0 in
           record { parents = search rules; owners = search rules; name_sizes = search rules; value_sizes = search rules };
     })
-    c.run.result _ _ c.run.ensures)
+    (ran_in c.run.result) _ _ c.run.ensures)
