@@ -21,15 +21,14 @@ use Rattle.state.specs.Laws.Keeps.Parts.{base_below}
 use Rattle.state.specs.Joints.Apart.{Arrays, arrays_of, core_of, joined}
 use Rattle.state.specs.declared.apart.Core.{Core}
 use Rattle.state.specs.declared.state.State.{State}
-use Rattle.state.specs.Answer.{Answer}
-use Rattle.state.specs.Answer.{Going, Finished, Refused, Spent}
-use Rattle.state.specs.Answer.{Ran}
+use Rattle.rom.specs.Refusal.{refusal_number}
+use Rattle.state.specs.Answer.{Answer, Going, Finished, Refused, Spent, Ran, answer_in}
+use Rattle.state.specs.declared.answer.Answer.{Answer as Said}
+use Rattle.state.specs.declared.answer.Answer.TheVariants.{Going as OnIt, Finished as Over, Refused as Stopped, Spent as Used}
 use Rattle.acts.specs.Joints.Acts.{Fit, every_on}
 use Rattle.state.specs.Joints.Hot.{Cold as IsCold}
 use Rattle.reckon.specs.Joints.Fast.{packed_fast, Goes, HoldsFast, Fares, Fast}
-use Rattle.reckon.specs.Joints.Turned.{Fared}
-use Rattle.reckon.specs.Joints.Turned.{On, Cold, Not}
-use Rattle.reckon.specs.Joints.Turned.{Turned}
+use Rattle.reckon.specs.Joints.Turned.{Fared, On, Cold, Not, Turned}
 use Rattle.machine.specs.Joints.Cruised.{one_answer, one_of}
 use Rattle.rom.specs.Sizes.{data_most, return_most, rom_most}
 
@@ -227,6 +226,13 @@ came t k c p w b n ki v wy pa ow ti si then x work store e h q q1 q2 q3 q4 q5 q6
 
 pub not_spent : (n : ℕ) → Spent n ≡ Going → ⊥
 not_spent n e = let z : ◌≡◌ {A = ℕ} 0 1 = cc in omega arith
+
+-- what the code says goes on where it does
+pub still_going : (a : Said) → answer_in a ≡ Going → a ≡ OnIt
+still_going OnIt e = refl
+still_going Over e = absurd (not_finished e)
+still_going (Stopped why) e = absurd (not_going (refusal_number why) e)
+still_going (Used n) e = absurd (not_spent n e)
 
 -- ---- a step from a run of one token
 module _ (s : Scene) (z : Sized s.state) (e : ready_of s ≡ Going) where

@@ -8,7 +8,12 @@ use crate::writing::{put, write_cell};
 use rom::{Refusal, byte, word32};
 
 // The range is in no window where fewer bytes than asked for are there.
-pub fn fetch_cell<'a>(rom: &'a [u8], work: &'a [u8], size: u32, address: u32) -> Result<u32, Refusal>
+pub fn fetch_cell<'a>(
+    rom: &'a [u8],
+    work: &'a [u8],
+    size: u32,
+    address: u32,
+) -> Result<u32, Refusal>
     ensures { numbered result ≡ fetch_cell_of rom.now work.now size address }
 {
     let part = resolve(rom, work, size, address, 4);
@@ -21,7 +26,12 @@ pub fn fetch_cell<'a>(rom: &'a [u8], work: &'a [u8], size: u32, address: u32) ->
     Ok(word32(part, 0))
 }
 
-pub fn fetch_byte<'a>(rom: &'a [u8], work: &'a [u8], size: u32, address: u32) -> Result<u32, Refusal>
+pub fn fetch_byte<'a>(
+    rom: &'a [u8],
+    work: &'a [u8],
+    size: u32,
+    address: u32,
+) -> Result<u32, Refusal>
     ensures { numbered result ≡ fetch_byte_of rom.now work.now size address }
 {
     let part = resolve(rom, work, size, address, 1);

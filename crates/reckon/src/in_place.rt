@@ -14,8 +14,8 @@ use crate::reckon::{
     to_return, tuck,
 };
 use crate::turned::{Turned, cold, on, refuse};
-use rom::{Refusal, destination};
 use rom::sizes::{DATA_MOST, FRAMES_MOST, RETURN_MOST};
+use rom::{Refusal, destination};
 use state::base;
 
 fn behind_branch(wide: bool, place: u32) -> u32

@@ -424,10 +424,12 @@ pub fn divide(stack: &mut [u32; DATA_MOST], h: usize, b: usize, place: u32) -> T
     }
     match cells::u_mod(stack[h - 2], stack[h - 1]) {
         None => refuse(Refusal::ZeroDivisor, h, b, place),
-        Some(Divided {
-            remainder,
-            quotient,
-        }) => {
+        Some(
+            Divided {
+                remainder,
+                quotient,
+            },
+        ) => {
             stack[h - 2] = remainder;
             stack[h - 1] = quotient;
             on(h, b, place + 1)

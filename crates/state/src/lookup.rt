@@ -9,7 +9,9 @@ ghost use Rattle.state.specs.Joints.Lookup.{tree_or_none};
 use crate::state::State;
 use crate::whole::is_whole;
 use rom::Refusal;
-use tree::{Row, Tree, ValuePlace, find_node, find_property, no_tree, node_rows, node_table, property_value};
+use tree::{
+    Row, Tree, ValuePlace, find_node, find_property, no_tree, node_rows, node_table, property_value,
+};
 
 // The tree of a whole state. A damaged state has none to show: the tree without nodes is damaged itself, so that each of the tree's calls
 // answers 7 where 7 stands in its order, behind 6 and before all else.
@@ -30,7 +32,12 @@ pub fn find_node_in(store: &[u8], state: State, path: &[u8]) -> Result<u32, Refu
 }
 
 // Where the value of the property of a path and a name lies: 6, 7, 29, 30.
-pub fn find_property_in(store: &[u8], state: State, path: &[u8], name: &[u8]) -> Result<ValuePlace, Refusal>
+pub fn find_property_in(
+    store: &[u8],
+    state: State,
+    path: &[u8],
+    name: &[u8],
+) -> Result<ValuePlace, Refusal>
     ensures { sought_in result ≡ find_property_in state store.now path.now name.now }
 {
     find_property(store, tree_or_none(state), path, name)

@@ -33,7 +33,13 @@ fn misfit(code: u32, within: bool) -> Refusal
 
 // The token at a place, if it may stand there.
 #[tactic(auto, unfolding(crate::specs::Place::read_of))]
-pub fn read_at(rom: &[u8], length: u32, wide: bool, within: bool, place: u32) -> Result<Token, Refusal>
+pub fn read_at(
+    rom: &[u8],
+    length: u32,
+    wide: bool,
+    within: bool,
+    place: u32,
+) -> Result<Token, Refusal>
     ensures { numbered result ≡ read_of rom.now length wide within place }
 {
     match decode(rom, Spread::One, length, wide, place) {

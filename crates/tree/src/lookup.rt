@@ -160,7 +160,12 @@ pub fn find_node(store: &[u8], tree: Tree, path: &[u8]) -> Result<u32, Refusal>
 }
 
 // Where the value of the property of a path and a name lies: 6, 7, 29, 30.
-pub fn find_property(store: &[u8], tree: Tree, path: &[u8], name: &[u8]) -> Result<ValuePlace, Refusal>
+pub fn find_property(
+    store: &[u8],
+    tree: Tree,
+    path: &[u8],
+    name: &[u8],
+) -> Result<ValuePlace, Refusal>
     ensures { sought_in result ≡ find_property_of tree store.now path.now name.now }
 {
     let node = find_node(store, tree, path)?;

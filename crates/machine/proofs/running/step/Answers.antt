@@ -9,7 +9,7 @@ pub returns : goal.returns
 returns c =
     let a = c.args in
     let good = c.well_formed.1.1.1.0 in
-    ap (λ (x : Stepped). handed_back x _ _) c.one.ensures
+    ap (λ (x : Stepped). handed_back x c.run.new.work c.run.new.store) c.one.ensures
     ∙ (step_told (scene (fcode_of a.rom.now) a.work.now a.store.now a.st)
     (record {
       stack = let a = good.1.1.1.1.1.1.0 in search rules;
