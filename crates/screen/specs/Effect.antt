@@ -1,9 +1,7 @@
 -- What a token does to heights, and where it leads: all that the screen asks of a token beside what the list of crate tokens says.
 -- Assumes nothing.
-use Rattle.std.specs.Prelude.{ℕ, Bool, true, false, not, ◌&&◌, ◌||◌, List, [], ◌∷◌, eqb}
+use Rattle.std.specs.Prelude.{ℕ, Bool, true, false, not, ◌&&◌, ◌||◌, List, [], ◌∷◌, eqb, None, Option, Some}
 use Rattle.cells.specs.Choice.{pick, find}
-use Rattle.rom.specs.declared.branch.Aim.{Aim}
-use Rattle.rom.specs.declared.branch.Aim.TheVariants.{Inside, Outside}
 use Rattle.tokens.specs.Family.{finish, always, choice, widen, pick_up, roll_up, maybe, leave, define, assign, call, new_device}
 use Rattle.tokens.specs.Family.{finish_device}
 use Rattle.tokens.specs.Code.{family_in, gives_in, return_takes_in, return_gives_in}
@@ -31,9 +29,9 @@ is_colon t = of_kind colon t
 
 -- ---- branches
 -- the place that a branch leads to, and none where that is outside 8..length-1
-abbrev pub landings : Aim → List ℕ
-landings (Inside to) = to ∷ []
-landings Outside = []
+abbrev pub landings : Option ℕ → List ℕ
+landings (Some to) = to ∷ []
+landings None = []
 
 abbrev pub aims : Operand → List ℕ
 aims Nothing = []

@@ -1,11 +1,10 @@
 -- The height rules of the screen: what an assignment of heights is, in document 01's words, rule by rule. Nothing here knows how one is
 -- found. Assumes nothing.
-use Rattle.std.specs.Prelude.{ℕ, zero, suc, ◌+◌, ◌-◌, ◌≤◌, ◌<◌, min, max, ◌≡◌, not, List, T}
+use Rattle.std.specs.Prelude.{ℕ, zero, suc, ◌+◌, ◌-◌, ◌≤◌, ◌<◌, min, max, ◌≡◌, not, List, T, Ok}
 use Rattle.rom.specs.Sizes.{first_place, data_most, return_most, frames_most, numbers_most, nodes_most}
 use Rattle.tokens.specs.Family.{finish, leave, define, finish_device}
 use Rattle.tokens.specs.Definition.{new_number}
 use Rattle.tokens.specs.declared.decoding.Token.{Token}
-use Rattle.tokens.specs.declared.read.Read.TheVariants.{Good}
 use Rattle.screen.specs.Effect.{is_a, allowed, fixes, is_colon, aims, is_branch, astray, value_sum, effect_of}
 use Rattle.screen.specs.declared.effect.Sum.{Sum}
 use Rattle.screen.specs.Reach.{In, Setting, nodes_after, numbers_after, token_at, known, reads, extends, leads, Holds, Reach, Met, Body}
@@ -93,11 +92,11 @@ pub record Assignment (rom : List ℕ) : Type 0 where
   -- at most 32 nodes"
   pub limited : {p : ℕ} {s : Setting} {t : Token} → Met rom 0 s p t → nodes_after t s.nodes ≤ nodes_most
   -- 6. "no reachable token, and none in a body, would give 10, 11, 12, 13, 18 or 19": 10, 11 and 18 here, 12 above and 13 above;
-  pub whole : {x p : ℕ} {s : Setting} → Reach rom x s p → (t : Token) × (token_at rom x s.wide p ≡ Good t)
+  pub whole : {x p : ℕ} {s : Setting} → Reach rom x s p → (t : Token) × (token_at rom x s.wide p ≡ Ok t)
   -- a body's tokens;
   pub read : {d : ℕ} {s : Setting} {t : Token} → Met rom 0 s d t → T (is_colon t) → (c : ℕ) × Holds rom (reads s.wide t.next c)
   -- 19 of reachable branches, taken or not, and of every branch of a body
   pub aimed : {x p : ℕ} {s : Setting} {t : Token} → Met rom x s p t → T (not (astray t))
   pub aimed_in : {s : Setting} {d n c p : ℕ} {t u : Token} → Body rom s d t n c → Starts rom s.wide t.next p
-      → token_at rom 1 s.wide p ≡ Good u
+      → token_at rom 1 s.wide p ≡ Ok u
       → T (not (astray u))

@@ -12,4 +12,4 @@ mod tally;
 mod visiting;
 mod walking;
 
-pub use screening::{Verdict, screen};
+pub use screening::screen;

@@ -22,7 +22,7 @@ use crate::tables::{item_at, set_kind, set_sum};
 use crate::walking::{Text, walk_from};
 use tokens::programs::PROGRAMS_MOST;
 use tokens::{
-    Glance, Read, Token, family, glance_from, kind_in, kind_of, new_number, out_of_place, quick_at,
+    Glance, Token, family, glance_from, kind_in, kind_of, new_number, out_of_place, quick_at,
     read_at, takes_here,
 };
 
@@ -346,8 +346,8 @@ fn next_round(
     ensures { AfterIs rom.now length seen.old kinds.old sums.old stand far seen.new kinds.new sums.new result }
 {
     match read_at(rom, length, stand.wide, false, far) {
-        Read::Refused(_) => After::Fails,
-        Read::Good(token) => {
+        Err(_) => After::Fails,
+        Ok(token) => {
             if !fixes(token.code) {
                 return After::Ends;
             }

@@ -1,5 +1,6 @@
 // The screen of a ROM, with its marks.
 ghost use Rattle.std.specs.Prelude.{◌≡◌, ◌≤◌, length, replicate};
+ghost use Rattle.rom.specs.Refusal.{numbered};
 ghost use Rattle.rom.specs.Sizes.{marks_size, rom_most};
 ghost use Rattle.rom.specs.Spread.{fcode_of};
 ghost use Rattle.screen.specs.Laws.Found.Model.{laid_of, screen_of};
@@ -12,16 +13,9 @@ use crate::cell::{FIRST_CELL, mark_in};
 use crate::limits::FIRST_PLACE;
 use crate::rounds::{Stand, all_rounds};
 use rom::sizes::{MARKS_SIZE, ROM_MOST};
-use rom::{Spread, check_header, lay_fcode, program_length, spread_of, wide_start};
+use rom::{Refusal, Spread, check_header, lay_fcode, program_length, spread_of, wide_start};
 use tokens::first_codes;
 use tokens::programs::PROGRAMS_MOST;
-
-// A ROM passes, or is refused for the reason of a number.
-#[derive(Clone, Copy)]
-pub enum Verdict {
-    Passes,
-    Refused(u32),
-}
 
 // The marks are the cells' low bytes: one more than the data height at each token that can be reached, 0 anywhere else, and behind the
 // cells.
@@ -86,9 +80,9 @@ fn judge_in(
     marks: &mut [u8],
     seen: &mut [u32],
     work: &mut [u16],
-) -> Verdict
+) -> Result<(), Refusal>
     requires { Judging (fcode_of rom.now) length marks.old seen.old work.old }
-    ensures { screened result marks.new ≡ judged_of (fcode_of rom.now) marks.old }
+    ensures { screened (numbered result) marks.new ≡ judged_of (fcode_of rom.now) marks.old }
 {
     let spread = spread_of(rom);
     let count = length as usize;
@@ -96,17 +90,17 @@ fn judge_in(
     let program = laid(rom, spread, count, &*marks);
     if finds_heights(program, length, &mut *seen, &mut *work) {
         lay_marks(&*seen, marks);
-        return Verdict::Passes;
+        return Ok(());
     }
     marks.fill(0);
-    Verdict::Refused(31)
+    Err(Refusal::NoHeights)
 }
 
 // The same with tables of so many cells.
 #[inline(never)]
-fn judge_with<const N: usize>(rom: &[u8], length: u32, marks: &mut [u8]) -> Verdict
+fn judge_with<const N: usize>(rom: &[u8], length: u32, marks: &mut [u8]) -> Result<(), Refusal>
     requires { Judged (fcode_of rom.now) length marks.old N }
-    ensures { screened result marks.new ≡ judged_of (fcode_of rom.now) marks.old }
+    ensures { screened (numbered result) marks.new ≡ judged_of (fcode_of rom.now) marks.old }
 {
     let mut seen = [0u32; N];
     let mut work = [0u16; N];
@@ -117,16 +111,13 @@ fn judge_with<const N: usize>(rom: &[u8], length: u32, marks: &mut [u8]) -> Verd
 // its heights leaves the marks all zero; a mark buffer of another size, or a bad header, leaves it as it was. A program is judged by the
 // smallest tables that have room for it, since they are cleared at each call. What has tables is never copied into its caller, whose frame
 // they would be laid into whatever the ROM's size is (docs/DECISIONS.md, point 122; tests/host.c looks at the stack).
-pub fn screen(rom: &[u8], marks: &mut [u8]) -> Verdict
-    ensures { Promised (fcode_of rom.now) marks.old result marks.new }
+pub fn screen(rom: &[u8], marks: &mut [u8]) -> Result<(), Refusal>
+    ensures { Promised (fcode_of rom.now) marks.old (numbered result) marks.new }
 {
     if marks.len() != MARKS_SIZE {
-        return Verdict::Refused(6);
+        return Err(Refusal::WrongSize);
     }
-    let why = check_header(rom);
-    if why != 0 {
-        return Verdict::Refused(why);
-    }
+    check_header(rom)?;
     let length = program_length(rom, spread_of(rom));
     if length <= 256 {
         return judge_with::<256>(rom, length, marks);

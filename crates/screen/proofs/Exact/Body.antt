@@ -1,6 +1,6 @@
 -- Where there is an assignment of heights, the body of a b(:) that ends a round which starts with them is read, its walk finds them, moved
 -- by 64 less its need, and its tally is the sum of its number. Assumes nothing.
-use Rattle.std.specs.Prelude.{ℕ, suc, ◌+◌, ◌-◌, ◌≤◌, ◌<◌, max, ◌≡◌, refl, Bool, true, false, not, List, ◌≢◌, T, leb, get_or}
+use Rattle.std.specs.Prelude.{ℕ, suc, ◌+◌, ◌-◌, ◌≤◌, ◌<◌, max, ◌≡◌, refl, Bool, true, false, not, List, ◌≢◌, T, leb, get_or, Ok}
 use Rattle.std.proofs.Common.{arith, sym, ap, ◌∙◌, subst, T_not, le→leb}
 use Rattle.std.proofs.Math.Decide.{ℕ_discrete, dec_lt}
 use borrow.Author.Tests.{ne_eqb}
@@ -12,7 +12,6 @@ use Rattle.tokens.specs.Body.{unknown_of}
 use Rattle.tokens.specs.Laws.Tokens.{next_ahead, none_starts}
 use Rattle.tokens.specs.Definition.{new_number}
 use Rattle.tokens.specs.declared.decoding.Token.{Token}
-use Rattle.tokens.specs.declared.read.Read.TheVariants.{Good}
 use Rattle.screen.specs.Effect.{is_a, fixes, is_colon, astray, leads_of, names, effect_of}
 use Rattle.screen.specs.Reach.{In, Setting, token_at, Claim, Holds, Reach, Met, Body, Starts}
 use Rattle.screen.specs.Laws.Rules.Reach.{ExtendsBy, extends_by, start_within, one_end, extends_ahead, one_good}
@@ -39,7 +38,7 @@ use Rattle.screen.specs.Laws.Found.Cell.{entered}
 use Rattle.screen.specs.Laws.Found.Cell.{body_most}
 
 -- behind a token of a body that is not its last the body is read on
-reads_behind : {rom : List ℕ} {w : Bool} {p c : ℕ} {t : Token} → Holds rom (Claim.reads w p c) → token_at rom 1 w p ≡ Good t
+reads_behind : {rom : List ℕ} {w : Bool} {p c : ℕ} {t : Token} → Holds rom (Claim.reads w p c) → token_at rom 1 w p ≡ Ok t
     → (t.number ≡ 0xC2 → ⊥)
     → Holds rom (Claim.reads w t.next c)
 reads_behind {t = t} (Holds.last {t = u} j m) i n = absurd (n (subst (λ v. v.number ≡ 0xC2) (one_good j i) m))
@@ -51,7 +50,7 @@ reads_from h Starts.entry = h
 reads_from h (Starts.behind s i n) = reads_behind (reads_from h s) i n
 
 -- the first token of a body that is read is known
-first_known : {rom : List ℕ} {w : Bool} {p c : ℕ} {u : Token} → Holds rom (Claim.reads w p c) → token_at rom 1 w p ≡ Good u
+first_known : {rom : List ℕ} {w : Bool} {p c : ℕ} {u : Token} → Holds rom (Claim.reads w p c) → token_at rom 1 w p ≡ Ok u
     → Holds rom (Claim.known p u)
 first_known {rom} {w} {p} {c} {u} (Holds.last {t = v} j m) i =
     let e = one_good j i in
@@ -61,7 +60,7 @@ first_known {rom} {w} {p} {c} {u} (Holds.more {t = v} j m k r) i = subst (λ o. 
 
 -- every token of a body that is read is known
 pub reads_known : {rom : List ℕ} {w : Bool} {e c p : ℕ} {u : Token} → Holds rom (Claim.reads w e c) → Starts rom w e p
-    → token_at rom 1 w p ≡ Good u
+    → token_at rom 1 w p ≡ Ok u
     → Holds rom (Claim.known p u)
 reads_known h s i = first_known (reads_from h s) i
 
@@ -140,8 +139,8 @@ module _ (rom : List ℕ) (fits : length_of rom ≤ rom_most) (a : Assignment ro
 
                 same : s' ≡ here → ⊥
                 same y =
-                    let i : token_at rom 0 wide far ≡ Good v =
-                    subst (λ o. token_at rom 0 wide o ≡ Good v) q (subst (λ o. token_at rom 0 o.wide d ≡ Good v) y m.is) in
+                    let i : token_at rom 0 wide far ≡ Ok v =
+                    subst (λ o. token_at rom 0 wide o ≡ Ok v) q (subst (λ o. token_at rom 0 o.wide d ≡ Ok v) y m.is) in
                     let j : v ≡ t = one_good i r.is in
                     let h : Holds rom (Claim.extends wide t e) =
                     subst (λ o. Holds rom (Claim.extends wide o e)) j (subst (λ o. Holds rom (Claim.extends o.wide v e)) y ex) in
@@ -271,15 +270,15 @@ module _ (rom : List ℕ) (fits : length_of rom ≤ rom_most) (a : Assignment ro
         every_at (Holds.body {s = s} {d} {c = o} {t = u} i j q h) e =
             let z : d ≡ far = omega arith in
             let y = one_setting (subst (λ v. Reach rom 0 s v) z i) in
-            let v : u ≡ t = one_good (subst (λ v. token_at rom 0 wide v ≡ Good u) z (subst (λ v. token_at rom 0 v.wide d ≡ Good u) y j))
+            let v : u ≡ t = one_good (subst (λ v. token_at rom 0 wide v ≡ Ok u) z (subst (λ v. token_at rom 0 v.wide d ≡ Ok u) y j))
             r.is in
             record { setting = y; cell = entry_cell; at = subst (λ v. BodyAt v.next entry_cell) (sym v) At.begins }
         every_at (Holds.next {x = o} {s = s} {p} {q} {t = u} i j l) e =
             let z = every_at i e in
             let y = z.setting in
             let ff = visit_fits rom x b.kinds b.sums p z.cell (wk.fine z.at) in
-            let j' : token_at rom (suc far) wide p ≡ Good u =
-            subst (λ v. token_at rom (suc far) v.wide p ≡ Good u) y (subst (λ v. token_at rom v s.wide p ≡ Good u) e j) in
+            let j' : token_at rom (suc far) wide p ≡ Ok u =
+            subst (λ v. token_at rom (suc far) v.wide p ≡ Ok u) y (subst (λ v. token_at rom v s.wide p ≡ Ok u) e j) in
             let same : ff.token ≡ u = one_good ff.meets.is j' in
             let no_fix = fails (fixes u) (fixes_outside rom (length_of rom) wide p u j').0 in
             let way = leads_way ff (subst (λ v. T (not (fixes v))) (sym same) no_fix)
@@ -305,7 +304,7 @@ module _ (rom : List ℕ) (fits : length_of rom ≤ rom_most) (a : Assignment ro
         met_told {s} {p} {u} q =
             let z = every_at q.reach refl in
             let i = at_inside z.at in
-            let j : token_at rom 1 wide p ≡ Good u = subst (λ v. token_at rom 1 v.wide p ≡ Good u) z.setting q.is in
+            let j : token_at rom 1 wide p ≡ Ok u = subst (λ v. token_at rom 1 v.wide p ≡ Ok u) z.setting q.is in
             let y = limits rom fits a q in
             let v = need_low in
             let e : cell_at p ≡ cell_with (heights (H p + entered - need) (B p)) = wk.marked z.at ∙ i.cell in

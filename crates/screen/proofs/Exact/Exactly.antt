@@ -1,6 +1,6 @@
 -- The model keeps the screen's promise, and nothing else does: it passes a ROM exactly where an assignment exists, with the marks that any
 -- assignment fixes. Assumes nothing.
-use Rattle.std.specs.Prelude.{ℕ, suc, ◌≤◌, ◌<◌, ◌≡◌, refl, Bool, true, false, List, ◌≢◌, ◌↔◌, eqb, length, get_or, replicate}
+use Rattle.std.specs.Prelude.{ℕ, suc, ◌≤◌, ◌<◌, ◌≡◌, refl, Bool, true, false, List, ◌≢◌, ◌↔◌, eqb, length, get_or, replicate, Err, Result}
 use Rattle.std.proofs.Common.{arith, sym, ap, ◌∙◌, eqb→eq, ext_get_or}
 use Rattle.std.proofs.Math.Decide.{dec_lt, ℕ_discrete}
 use Rattle.std.proofs.Math.Path.{subst}
@@ -26,8 +26,6 @@ use Rattle.screen.specs.Laws.Accept.Cover.{start}
 use Rattle.screen.specs.Laws.Accept.Accept.{accept}
 use Rattle.screen.proofs.Exact.Exact.{exact}
 use Rattle.screen.proofs.Exact.Agree.{last_is, Reached, only_reached}
-use Rattle.screen.specs.declared.screening.Verdict.{Verdict}
-use Rattle.screen.specs.declared.screening.Verdict.TheVariants.{Refused}
 use Rattle.screen.specs.Laws.Found.Cell.{cell_with, mark_in, heights, TokenHeights, same_heights, cell_mark, mark_none}
 
 module _ (rom : List ℕ) (fits : length_of rom ≤ rom_most) where
@@ -125,7 +123,7 @@ module _ (rom before : List ℕ) (s : length before ≡ marks_size) (h : header_
   judged_bad g =
       subst (λ o. KeepsPromise rom before (verdict_on before o))
       (sym (when_false (some (laid_of (last_of rom).board.seen)) none (last_of rom).good g))
-      (subst (λ n. Promised rom before (Refused 31) (replicate n 0)) (sym s)
+      (subst (λ n. Promised rom before (Err 31) (replicate n 0)) (sym s)
       (no_heights s h (λ a. subst T (sym (exact rom (header_length rom h) a) ∙ g) tt)))
 
   judged : (g : Bool) → (last_of rom).good ≡ g → KeepsPromise rom before (judged_of rom before)
@@ -142,12 +140,13 @@ promise_kept rom before =
     (λ h. bad_header (eqb→eq (length before) marks_size s) (neqb→ne (header_of rom) 0 h)))
     (λ s. wrong_size (neqb→ne (length before) marks_size s))
 
-pub promise_by : (rom before : List ℕ) (v : Verdict) (m : List ℕ) → screened v m ≡ screened_of rom before → Promised rom before v m
+pub promise_by : (rom before : List ℕ) (v : Result (Unit {0}) ℕ) (m : List ℕ) → screened v m ≡ screened_of rom before
+    → Promised rom before v m
 promise_by rom before v m e = subst (KeepsPromise rom before) (sym e) (promise_kept rom before)
 
 -- ---- any two results that the promise allows are equal
-pub one_result : {rom before : List ℕ} {v w : Verdict} {m n : List ℕ} → Promised rom before v m → Promised rom before w n → (v ≡ w)
-    × (m ≡ n)
+pub one_result : {rom before : List ℕ} {v w : Result (Unit {0}) ℕ} {m n : List ℕ} → Promised rom before v m
+    → Promised rom before w n → (v ≡ w) × (m ≡ n)
 one_result (wrong_size s) (wrong_size r) = (refl, refl)
 one_result (wrong_size s) (bad_header r h) = absurd (s r)
 one_result (wrong_size s) (no_heights r h z) = absurd (s r)

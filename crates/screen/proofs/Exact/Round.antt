@@ -1,5 +1,5 @@
 -- Where there is an assignment of heights, a round that starts with them finds them, and is good. Assumes nothing.
-use Rattle.std.specs.Prelude.{ℕ, zero, suc, ◌+◌, ◌-◌, ◌≤◌, ◌<◌, ◌≡◌, Bool, not, List, ◌⊎◌, ◌≢◌, T, get_or}
+use Rattle.std.specs.Prelude.{ℕ, zero, suc, ◌+◌, ◌-◌, ◌≤◌, ◌<◌, ◌≡◌, Bool, not, List, ◌⊎◌, ◌≢◌, T, get_or, Err, Ok, Result}
 use Rattle.std.proofs.Common.{arith, sym, ap, ◌∙◌, subst, inl, inr, T_not}
 use Rattle.std.proofs.Math.Decide.{ℕ_discrete, dec_lt}
 use Rattle.std.proofs.Math.Path.{refl}
@@ -13,8 +13,6 @@ use Rattle.tokens.specs.Body.{kind_of, unknown_of}
 use Rattle.tokens.specs.Laws.Tokens.{none_starts}
 use Rattle.tokens.specs.Definition.{new_number, kind_in}
 use Rattle.tokens.specs.declared.decoding.Token.{Token}
-use Rattle.tokens.specs.declared.read.Read.{Read}
-use Rattle.tokens.specs.declared.read.Read.TheVariants.{Refused, Good}
 use Rattle.screen.specs.Effect.{is_a, fixes, is_colon, names, effect_of, called}
 use Rattle.screen.specs.Reach.{Setting, token_at, Named, Claim, Holds, Reach, Met}
 use Rattle.screen.specs.Laws.Rules.Reach.{extends_ahead}
@@ -56,7 +54,7 @@ known_by (Holds.unnamed n) = unnamed n
 known_by (Holds.named r i n x l) = named (record { reach = r; is = i }) n x l
 
 -- a place that has a token has no refusal
-pub not_good : {r : Read} {t : Token} {why : ℕ} → r ≡ Good t → r ≡ Refused why → ⊥
+pub not_good : {r : Result Token ℕ} {t : Token} {why : ℕ} → r ≡ Ok t → r ≡ Err why → ⊥
 not_good e f = let z : zero ≡ 1 = cc (e, f) in omega arith
 
 module _ (rom : List ℕ) (fits : length_of rom ≤ rom_most) (a : Assignment rom) where
@@ -157,8 +155,8 @@ module _ (rom : List ℕ) (fits : length_of rom ≤ rom_most) (a : Assignment ro
             y : (r : Ran rom z.board) × Advanced rom z.board r.token z.after × T (fixes r.token)
             y = advanced rom fits (ready rom fits z.from) z.next
 
-            is : token_at rom 0 z.board.stand.wide d ≡ Good t
-            is = subst (λ v. token_at rom 0 v.wide d ≡ Good t) z.setting m.is
+            is : token_at rom 0 z.board.stand.wide d ≡ Ok t
+            is = subst (λ v. token_at rom 0 v.wide d ≡ Ok t) z.setting m.is
 
             same : t ≡ y.0.token
             same = (round_end_lem rom fits y.0 z.at is (define_fixes t f)).1

@@ -6,7 +6,7 @@
 -- (`step_passes`), every way to a place has carried out all that lie before it, each once and in their order (`reach_passed`), and the
 -- same is in force at the end of each (`one_fixed`). What is reachable in a body is a token start of it, with what is in force at its b(:)
 -- (`in_body`). Assumes nothing.
-use Rattle.std.specs.Prelude.{ℕ, suc, ◌≤◌, ◌<◌, min, max, ◌≡◌, refl, Bool, true, false, not, List, T}
+use Rattle.std.specs.Prelude.{ℕ, suc, ◌≤◌, ◌<◌, min, max, ◌≡◌, refl, Bool, true, false, not, List, T, Ok}
 use Rattle.std.proofs.Common.{arith, sym, ◌∙◌, subst, T_not}
 use Rattle.std.proofs.Math.Decide.{dec_lt, ℕ_discrete}
 use Rattle.cells.specs.Laws.Facts.{never_true, fails}
@@ -15,7 +15,6 @@ use Rattle.rom.specs.Sizes.{first_place}
 use Rattle.tokens.specs.Laws.Tokens.{next_ahead}
 use Rattle.tokens.specs.Definition.{new_number}
 use Rattle.tokens.specs.declared.decoding.Token.{Token}
-use Rattle.tokens.specs.declared.read.Read.TheVariants.{Good}
 use Rattle.screen.specs.Effect.{fixes, is_colon, is_branch, leads_of}
 use Rattle.screen.specs.Reach.{In, Setting, setting, after, token_at, extends, leads, Holds, Reach, Met, Body, Starts}
 use Rattle.screen.specs.Reach.{first, body, next, to_next, entry, behind}
@@ -188,7 +187,7 @@ module _ {rom : List ℕ} (a : Assignment rom) where
   -- ---- in bodies
   -- from a start of a body a token leads to a start of it: no C2 leads on, and by rule 2 its branches stay on its starts
   pub start_on : {d n c p q : ℕ} {s r : Setting} {t u : Token} → Body rom s d t n c → Met rom (suc d) r p u
-      → token_at rom 1 s.wide p ≡ Good u
+      → token_at rom 1 s.wide p ≡ Ok u
       → Starts rom s.wide t.next p → In q (leads_of u) → Starts rom s.wide t.next q
   start_on {p = p} {q = q} {s = s} {t = t} {u = u} b m i start l = by (fall_or_jump u q l)
     where
@@ -238,8 +237,8 @@ module _ {rom : List ℕ} (a : Assignment rom) where
             start = on (leads_by l);
           }
         where
-          here : token_at rom 1 z.outer.wide p ≡ Good t
-          here = subst (λ (f : Fixed). token_at rom 1 f.wide p ≡ Good t) z.same i
+          here : token_at rom 1 z.outer.wide p ≡ Ok t
+          here = subst (λ (f : Fixed). token_at rom 1 f.wide p ≡ Ok t) z.same i
 
           on : LeadsBy rom s.wide p t q → Starts rom z.outer.wide z.token.next q
           on (LeadsBy.itself k j) = start_on z.body (record { reach = r; is = i }) here z.start j

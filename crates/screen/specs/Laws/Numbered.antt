@@ -1,17 +1,15 @@
 -- What the enums of this crate say is what the definitions compute. Assumes nothing.
-use Rattle.std.specs.Prelude.{ℕ, List, ◌≢◌, ◌≡◌, refl, length}
+use Rattle.std.specs.Prelude.{ℕ, List, ◌≢◌, ◌≡◌, refl, length, Err, Ok, Result}
 use Rattle.rom.specs.Sizes.{marks_size}
 use Rattle.rom.specs.Header.{header_of}
 use Rattle.screen.specs.Rules.{Assignment}
 use Rattle.screen.specs.Promise.{Promised, wrong_size, bad_header, no_heights, passes, verdict_number}
-use Rattle.screen.specs.declared.screening.Verdict.{Verdict}
-use Rattle.screen.specs.declared.screening.Verdict.TheVariants.{Passes, Refused}
 use Rattle.screen.specs.Numbered.{verdict_says}
 
 -- the number that the host is given is that one
-pub verdict_number_lem : (v : Verdict) → (verdict_says v).number ≡ verdict_number v
-verdict_number_lem Passes = refl
-verdict_number_lem (Refused why) = refl
+pub verdict_number_lem : (v : Result (Unit {0}) ℕ) → (verdict_says v).number ≡ verdict_number v
+verdict_number_lem (Ok tt) = refl
+verdict_number_lem (Err why) = refl
 
 -- what a verdict that the promise allows says: 6 for a mark buffer of the wrong size, then the header's refusal, and then 31 where no
 -- height assignment exists and 0 where one does
@@ -22,7 +20,7 @@ Says rom before number =
     × (length before ≡ marks_size → header_of rom ≡ 0 → Assignment rom → number ≡ 0)
     × (length before ≡ marks_size → header_of rom ≡ 0 → (Assignment rom → ⊥) → number ≡ 31)
 
-pub promised_says : (rom before : List ℕ) (v : Verdict) (marks : List ℕ) → Promised rom before v marks
+pub promised_says : (rom before : List ℕ) (v : Result (Unit {0}) ℕ) (marks : List ℕ) → Promised rom before v marks
     → Says rom before (verdict_says v).number
 promised_says rom before v marks (wrong_size n) =
     (λ m. refl, λ e h. absurd (n e), λ e h a. absurd (n e), λ e h a. absurd (n e))

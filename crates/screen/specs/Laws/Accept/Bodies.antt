@@ -1,11 +1,10 @@
 -- What holds of every reachable token of a body, where the model's rounds pass, and so of every one. Assumes nothing.
-use Rattle.std.specs.Prelude.{ℕ, zero, suc, ◌+◌, ◌-◌, ◌≤◌, ◌≡◌, false, not, List, T, get_or}
+use Rattle.std.specs.Prelude.{ℕ, zero, suc, ◌+◌, ◌-◌, ◌≤◌, ◌≡◌, false, not, List, T, get_or, Ok}
 use Rattle.std.proofs.Common.{arith, sym, ap, ◌∙◌, subst}
 use Rattle.rom.specs.Header.{length_of}
 use Rattle.rom.specs.Sizes.{return_most, rom_most}
 use Rattle.tokens.specs.Laws.Tokens.{next_ahead}
 use Rattle.tokens.specs.declared.decoding.Token.{Token}
-use Rattle.tokens.specs.declared.read.Read.TheVariants.{Good}
 use Rattle.screen.specs.Effect.{allowed, fixes, astray, effect_of}
 use Rattle.screen.specs.Reach.{Setting, token_at, Claim, Holds, Met}
 use Rattle.screen.specs.Laws.Walk.Visits.{Meets}
@@ -22,7 +21,7 @@ use Rattle.screen.specs.Laws.Accept.Heights.{height_left, back_left, sum_left, S
 use Rattle.screen.specs.Laws.Found.Cell.{height_in_lem, back_in_lem, cell_with, height_in, back_in, heights, entered, body_most}
 
 module _ (rom : List ℕ) (fits : length_of rom ≤ rom_most) {last : Board} (passed : Chain rom (start rom fits) last) where
-  module _ {d p : ℕ} {s : Setting} {t : Token} (i : Inside rom fits passed d s p) (e : token_at rom (suc d) s.wide p ≡ Good t) where
+  module _ {d p : ℕ} {s : Setting} {t : Token} (i : Inside rom fits passed d s p) (e : token_at rom (suc d) s.wide p ≡ Ok t) where
     abbrev y : BodyRan rom (left rom i.board) i.ran.token i.board.stand.wide i.then
     y = body_of rom fits passed i
 

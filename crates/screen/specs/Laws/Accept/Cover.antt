@@ -1,5 +1,5 @@
 -- The rounds come to every reachable token outside bodies, each in its setting. Assumes nothing.
-use Rattle.std.specs.Prelude.{ℕ, ◌≤◌, ◌<◌, ◌≡◌, refl, Bool, true, false, not, List, ◌⊎◌, ◌≢◌, T, get_or}
+use Rattle.std.specs.Prelude.{ℕ, ◌≤◌, ◌<◌, ◌≡◌, refl, Bool, true, false, not, List, ◌⊎◌, ◌≢◌, T, get_or, Ok}
 use Rattle.std.proofs.Common.{sym, ap, ◌∙◌, subst, inl, inr, T_not}
 use Rattle.cells.specs.Laws.Tests.{pick_is}
 use Rattle.tokens.specs.Table.{is_program, programs_most}
@@ -8,7 +8,6 @@ use Rattle.rom.specs.Header.{length_of, wide_of}
 use Rattle.rom.specs.Sizes.{rom_most}
 use Rattle.tokens.specs.Body.{kind_of}
 use Rattle.tokens.specs.declared.decoding.Token.{Token}
-use Rattle.tokens.specs.declared.read.Read.TheVariants.{Good}
 use Rattle.screen.specs.Effect.{fixes, leads_of}
 use Rattle.screen.specs.Reach.{In, Setting, after, token_at, Claim, Holds, Reach, Met}
 use Rattle.screen.specs.Laws.Rules.Reach.{LeadsBy, leads_by}
@@ -81,7 +80,7 @@ module _ (rom : List ℕ) (fits : length_of rom ≤ rom_most) where
     pub setting : s ≡ setting_of board.stand
 
   -- where a round's token leads that ends no round, the same round comes to
-  module _ {b : Board} (r : Ran rom b) {p c : ℕ} {t : Token} (a : OutAt rom b p c) (e : token_at rom 0 b.stand.wide p ≡ Good t) where
+  module _ {b : Board} (r : Ran rom b) {p c : ℕ} {t : Token} (a : OutAt rom b p c) (e : token_at rom 0 b.stand.wide p ≡ Ok t) where
     fitted : Fits rom (outside_text (length_of rom) b.stand) b.kinds b.sums p c
     fitted = visit_fits rom (outside_text (length_of rom) b.stand) b.kinds b.sums p c (r.walked.fine a)
 
@@ -99,8 +98,8 @@ module _ (rom : List ℕ) (fits : length_of rom ≤ rom_most) where
     pub round_end_lem : T (fixes t) → (p ≡ far_of rom b) × (t ≡ r.token)
     round_end_lem f = (
       last,
-      let g = r.is in let h : token_at rom 0 b.stand.wide (far_of rom b) ≡ Good t =
-          subst (λ k. token_at rom 0 b.stand.wide k ≡ Good t) last e in cc (g, h),
+      let g = r.is in let h : token_at rom 0 b.stand.wide (far_of rom b) ≡ Ok t =
+          subst (λ k. token_at rom 0 b.stand.wide k ≡ Ok t) last e in cc (g, h),
     )
       where
         i : (b.stand.start ≤ p) × (p < length_of rom) × (p ≤ far_of rom b) × (get_or b.seen p 0 ≡ 0)
@@ -140,13 +139,13 @@ module _ (rom : List ℕ) (fits : length_of rom ≤ rom_most) where
 
       onward : {s : Setting} {p q : ℕ} {t : Token} → Met rom 0 s p t → Holds rom (Claim.leads s.wide p t q) → Before b s p
           → Before b (after t s) q ⊎ P (after t s) q
-      onward {s} {p} {q} {t} m l z = subst (λ v. Holds rom (Claim.leads v.wide p t q) → token_at rom 0 v.wide p ≡ Good t
+      onward {s} {p} {q} {t} m l z = subst (λ v. Holds rom (Claim.leads v.wide p t q) → token_at rom 0 v.wide p ≡ Ok t
           → Before b (after t v) q ⊎ P (after t v) q) (sym z.setting) by l m.is
         where
           c : Board
           c = z.board
 
-          by : Holds rom (Claim.leads z.board.stand.wide p t q) → token_at rom 0 z.board.stand.wide p ≡ Good t
+          by : Holds rom (Claim.leads z.board.stand.wide p t q) → token_at rom 0 z.board.stand.wide p ≡ Ok t
               → Before b (after t (setting_of z.board.stand)) q ⊎ P (after t (setting_of z.board.stand)) q
           by k e = on_kind (fixes t) refl
             where

@@ -1,15 +1,13 @@
 -- The order of rounds, where the model's rounds pass: the setting of a body, and where its branches lead. Assumes nothing.
-use Rattle.std.specs.Prelude.{ℕ, suc, ◌≤◌, ◌<◌, ◌≡◌, not, ◌||◌, List, T}
+use Rattle.std.specs.Prelude.{ℕ, suc, ◌≤◌, ◌<◌, ◌≡◌, not, ◌||◌, List, T, None, Ok, Some}
 use Rattle.std.proofs.Common.{arith, sym, ap, ◌∙◌, subst, T_not}
 use Rattle.cells.specs.Laws.Facts.{fails, either}
 use Rattle.rom.specs.Header.{length_of}
 use Rattle.tokens.specs.Family.{always, choice, leave, finish}
-use Rattle.rom.specs.declared.branch.Aim.TheVariants.{Inside as Lands, Outside}
 use Rattle.rom.specs.Sizes.{rom_most}
 use Rattle.tokens.specs.declared.decoding.Operand.{Operand}
 use Rattle.tokens.specs.declared.decoding.Operand.TheVariants.{Nothing, Literal, Text, Branch, Number, Definition}
 use Rattle.tokens.specs.declared.decoding.Token.{Token}
-use Rattle.tokens.specs.declared.read.Read.TheVariants.{Good}
 use Rattle.screen.specs.Effect.{is_a, is_colon, is_branch, astray, aims, both_ways, leads_of}
 use Rattle.screen.specs.Reach.{In, there, Setting, token_at, Holds, Met, Body, Starts}
 use Rattle.screen.specs.Laws.Rules.Tokens.{none_in, fixes_no_branch, one_family}
@@ -30,8 +28,8 @@ pub aim_leads : (t : Token) (q : ℕ) → T (is_branch t) → In q (aims t.opera
 aim_leads t q b i = by (ways_of t)
   where
     choice_leads : (o : Operand) (n : ℕ) → In q (aims o) → In q (both_ways n (aims o))
-    choice_leads (Branch bits (Lands to)) n i = there i
-    choice_leads (Branch bits Outside) n i = none_in i
+    choice_leads (Branch bits (Some to)) n i = there i
+    choice_leads (Branch bits None) n i = none_in i
     choice_leads Nothing n i = none_in i
     choice_leads (Literal k) n i = none_in i
     choice_leads (Text k l) n i = none_in i
@@ -87,7 +85,7 @@ module _ (rom : List ℕ) (fits : length_of rom ≤ rom_most) {last : Board} (pa
       (body_start rom fits passed l))
 
   pub aimed_in_lem : {s : Setting} {d n c p : ℕ} {t u : Token} → Body rom s d t n c → Starts rom s.wide t.next p
-      → token_at rom 1 s.wide p ≡ Good u
+      → token_at rom 1 s.wide p ≡ Ok u
       → T (not (astray u))
   aimed_in_lem {s} {d} {p = p} {t} {u} b h e =
       let k = inside rom fits passed (Holds.body b.met.reach b.met.is b.colon b.reads) in
@@ -95,4 +93,4 @@ module _ (rom : List ℕ) (fits : length_of rom ≤ rom_most) {last : Board} (pa
       let f = same_colon rom fits passed k b.met b.colon in
       let h' = subst (λ v. Starts rom v.wide t.next p) g h in
       let h'' = subst (λ (v : Token). Starts rom k.board.stand.wide v.next p) f h' in
-      fails (astray u) ((body_of rom fits passed k).marked.fine h'' (subst (λ v. token_at rom 1 v.wide p ≡ Good u) g e)).0
+      fails (astray u) ((body_of rom fits passed k).marked.fine h'' (subst (λ v. token_at rom 1 v.wide p ≡ Ok u) g e)).0

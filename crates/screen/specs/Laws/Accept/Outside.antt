@@ -1,5 +1,5 @@
 -- What holds of every reachable token outside bodies, where the model's rounds pass. Assumes nothing.
-use Rattle.std.specs.Prelude.{ℕ, ◌+◌, ◌-◌, ◌≤◌, ◌≡◌, refl, Bool, true, false, not, ◌||◌, List, T, eqb, get_or}
+use Rattle.std.specs.Prelude.{ℕ, ◌+◌, ◌-◌, ◌≤◌, ◌≡◌, refl, Bool, true, false, not, ◌||◌, List, T, eqb, get_or, Ok}
 use Rattle.std.proofs.Common.{arith, sym, ap, ◌∙◌, subst}
 use Rattle.cells.specs.Laws.Facts.{holds, fails, or_second}
 use Rattle.rom.specs.Header.{length_of}
@@ -7,7 +7,6 @@ use Rattle.rom.specs.Sizes.{rom_most, data_most}
 use Rattle.tokens.specs.Family.{call, always, choice, leave, finish}
 use Rattle.tokens.specs.Definition.{takes_here}
 use Rattle.tokens.specs.declared.decoding.Token.{Token}
-use Rattle.tokens.specs.declared.read.Read.TheVariants.{Good}
 use Rattle.screen.specs.Effect.{is_a, fixes, leads_of, effect_of}
 use Rattle.screen.specs.Reach.{In, Setting, token_at, Claim, Holds, Met}
 use Rattle.screen.specs.Laws.Rules.Tokens.{fixes_is, stops_quiet}
@@ -30,8 +29,8 @@ module _ (rom : List ℕ) (fits : length_of rom ≤ rom_most) {last : Board} (pa
     pub out_of : Out rom fits passed s p
     out_of = outside rom fits passed m.reach
 
-    pub out_is : token_at rom 0 out_of.board.stand.wide p ≡ Good t
-    out_is = subst (λ v. token_at rom 0 v.wide p ≡ Good t) out_of.setting m.is
+    pub out_is : token_at rom 0 out_of.board.stand.wide p ≡ Ok t
+    out_is = subst (λ v. token_at rom 0 v.wide p ≡ Ok t) out_of.setting m.is
 
     out_fits : Fits rom (outside_text (length_of rom) out_of.board.stand) out_of.board.kinds out_of.board.sums p out_of.cell
     out_fits = visit_fits rom (outside_text (length_of rom) out_of.board.stand) out_of.board.kinds out_of.board.sums p

@@ -1,5 +1,5 @@
 -- Rule 4, where the model's rounds pass: no two tokens overlap, and no branch leads around one that ends a round. Assumes nothing.
-use Rattle.std.specs.Prelude.{ℕ, zero, suc, ◌≤◌, ◌<◌, min, max, ◌≡◌, refl, Bool, true, false, not, List, ◌≢◌, T, get_or}
+use Rattle.std.specs.Prelude.{ℕ, zero, suc, ◌≤◌, ◌<◌, min, max, ◌≡◌, refl, Bool, true, false, not, List, ◌≢◌, T, get_or, Ok}
 use Rattle.std.proofs.Common.{arith, sym, ap, ◌∙◌, subst, T_not}
 use Rattle.std.proofs.Math.Decide.{ℕ_discrete}
 use Rattle.cells.specs.Laws.Facts.{holds, fails, never_true}
@@ -7,7 +7,6 @@ use Rattle.rom.specs.Header.{length_of}
 use Rattle.rom.specs.Sizes.{rom_most}
 use Rattle.tokens.specs.Laws.Tokens.{next_ahead}
 use Rattle.tokens.specs.declared.decoding.Token.{Token}
-use Rattle.tokens.specs.declared.read.Read.TheVariants.{Good}
 use Rattle.screen.specs.Effect.{fixes, is_colon, is_branch, aims}
 use Rattle.screen.specs.Reach.{In, Setting, token_at, Claim, Holds, Met}
 use Rattle.screen.specs.Laws.Rules.Reach.{ExtendsBy, extends_by}
@@ -106,7 +105,7 @@ module _ (rom : List ℕ) (fits : length_of rom ≤ rom_most) {last : Board} (pa
               far_token : p ≡ far_of rom (out_of rom fits passed m).board
                   → t ≡ (advanced rom fits (ready rom fits (out_of rom fits passed m).follows) x).0.token
               far_token g =
-                  let a = subst (λ v. token_at rom 0 (out_of rom fits passed m).board.stand.wide v ≡ Good t) g
+                  let a = subst (λ v. token_at rom 0 (out_of rom fits passed m).board.stand.wide v ≡ Ok t) g
                   (out_is rom fits passed m) in
                   let b = (advanced rom fits (ready rom fits (out_of rom fits passed m).follows) x).0.is in
                   cc (a, b)

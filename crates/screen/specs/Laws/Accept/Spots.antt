@@ -1,6 +1,6 @@
 -- Where the model's rounds pass: the round or the body that each reachable token belongs to, and what its cell is at the end. Assumes
 -- nothing.
-use Rattle.std.specs.Prelude.{ℕ, suc, ◌≤◌, ◌≡◌, refl, Bool, true, false, not, List, ◌⊎◌, T, get_or}
+use Rattle.std.specs.Prelude.{ℕ, suc, ◌≤◌, ◌≡◌, refl, Bool, true, false, not, List, ◌⊎◌, T, get_or, Ok}
 use Rattle.std.proofs.Common.{sym, ap, ◌∙◌, subst, inl, inr, T_not}
 use Rattle.cells.specs.Laws.Facts.{holds, fails}
 use Rattle.rom.specs.Header.{length_of}
@@ -8,7 +8,6 @@ use Rattle.rom.specs.Sizes.{rom_most}
 use Rattle.tokens.specs.Family.{call}
 use Rattle.tokens.specs.Body.{unknown_of}
 use Rattle.tokens.specs.declared.decoding.Token.{Token}
-use Rattle.tokens.specs.declared.read.Read.TheVariants.{Good}
 use Rattle.screen.specs.Effect.{is_a, fixes, is_colon, leads_of, called, effect_of}
 use Rattle.screen.specs.Reach.{In, Setting, after, token_at, Claim, Holds, Reach, Met}
 use Rattle.screen.specs.Laws.Rules.Tokens.{after_same, fixes_outside}
@@ -84,8 +83,8 @@ module _ (rom : List ℕ) (fits : length_of rom ≤ rom_most) {last : Board} (pa
       → InLast (after t s) q
   last_closed s p q t m (c, a, e) l = by (fixes t) refl
     where
-      is : token_at rom 0 final.board.stand.wide p ≡ Good t
-      is = subst (λ v. token_at rom 0 v.wide p ≡ Good t) e m.is
+      is : token_at rom 0 final.board.stand.wide p ≡ Ok t
+      is = subst (λ v. token_at rom 0 v.wide p ≡ Ok t) e m.is
 
       by : (k : Bool) → fixes t ≡ k → InLast (after t s) q
       by true f =
@@ -179,7 +178,7 @@ module _ (rom : List ℕ) (fits : length_of rom ≤ rom_most) {last : Board} (pa
   at_colon : {s : Setting} {d : ℕ} {t : Token} → Met rom 0 s d t → T (is_colon t) → Inside d s t.next
   at_colon {s} {d} {t} m c =
       let o = outside m.reach in
-      let is = subst (λ v. token_at rom 0 v.wide d ≡ Good t) o.setting m.is in
+      let is = subst (λ v. token_at rom 0 v.wide d ≡ Ok t) o.setting m.is in
       let u = round_end_lem rom fits o.ran o.at is (colon_fixes t c) in
       let e = behind rom fits o.ran (subst (λ v. T (fixes v)) u.1 (colon_fixes t c)) o.chain in
       let z = advanced rom fits (ready rom fits o.follows) e.next in
@@ -209,14 +208,14 @@ module _ (rom : List ℕ) (fits : length_of rom ≤ rom_most) {last : Board} (pa
     pub body_fits : Fits rom scope i.board.kinds i.board.sums p i.cell
     body_fits = visit_fits rom scope i.board.kinds i.board.sums p i.cell ((body_of i).walked.fine i.at)
 
-    pub body_token : {t : Token} → token_at rom (suc d) s.wide p ≡ Good t → body_fits.token ≡ t
+    pub body_token : {t : Token} → token_at rom (suc d) s.wide p ≡ Ok t → body_fits.token ≡ t
     body_token {t} e =
-        let g = subst (λ v. token_at rom (suc d) v.wide p ≡ Good t) i.setting e in let f = body_fits.meets.is in cc (f, g)
+        let g = subst (λ v. token_at rom (suc d) v.wide p ≡ Ok t) i.setting e in let f = body_fits.meets.is in cc (f, g)
 
-    pub body_free : {t : Token} → token_at rom (suc d) s.wide p ≡ Good t → T (not (fixes t))
+    pub body_free : {t : Token} → token_at rom (suc d) s.wide p ≡ Ok t → T (not (fixes t))
     body_free {t} e = fails (fixes t) (fixes_outside rom (length_of rom) s.wide p t e).0
 
-    abbrev pub body_on : {q : ℕ} {t : Token} → token_at rom (suc d) s.wide p ≡ Good t → In q (leads_of t) → Inside d s q
+    abbrev pub body_on : {q : ℕ} {t : Token} → token_at rom (suc d) s.wide p ≡ Ok t → In q (leads_of t) → Inside d s q
     body_on {q} {t} e l =
         inside_at i q (visit_of rom scope i.board.kinds i.board.sums p i.cell).cell
         (At.on i.at ((body_of i).walked.fine i.at)

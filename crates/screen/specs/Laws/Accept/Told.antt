@@ -1,5 +1,5 @@
 -- What a body's sum is where the model's rounds pass: what its tally took is what the rules ask for. Assumes nothing.
-use Rattle.std.specs.Prelude.{ℕ, suc, ◌+◌, ◌-◌, ◌≤◌, max, ◌≡◌, false, List, ◌≢◌, T, eqb, get_or}
+use Rattle.std.specs.Prelude.{ℕ, suc, ◌+◌, ◌-◌, ◌≤◌, max, ◌≡◌, false, List, ◌≢◌, T, eqb, get_or, Ok}
 use Rattle.std.proofs.Common.{arith, sym, ap, ◌∙◌, subst, eqb→eq}
 use Rattle.cells.specs.Laws.Facts.{both_hold}
 use Rattle.rom.specs.Header.{length_of}
@@ -9,7 +9,6 @@ use Rattle.tokens.specs.Place.{read_of}
 use Rattle.tokens.specs.Body.{kind_of}
 use Rattle.tokens.specs.Definition.{new_number, kind_in}
 use Rattle.tokens.specs.declared.decoding.Token.{Token}
-use Rattle.tokens.specs.declared.read.Read.TheVariants.{Good}
 use Rattle.screen.specs.Effect.{is_a, is_colon, effect_of}
 use Rattle.screen.specs.Reach.{Setting, token_at, Met, Body}
 use Rattle.screen.specs.Laws.Rules.Tokens.{fixed_wide}
@@ -45,7 +44,7 @@ module _ (rom : List ℕ) (fits : length_of rom ≤ rom_most) {last : Board} (pa
     pub same_colon : {t : Token} {r : Setting} → Met rom 0 r d t → T (is_colon t) → t ≡ i.ran.token
     same_colon {t} {r} m c =
         let g = fixed_wide rom (length_of rom) r.wide false d t m.is (colon_fixes t c) i.board.stand.wide in
-        let h = subst (λ k. read_of rom (length_of rom) i.board.stand.wide false k ≡ Good t) i.place g in
+        let h = subst (λ k. read_of rom (length_of rom) i.board.stand.wide false k ≡ Ok t) i.place g in
         let f = i.ran.is in
         cc (f, h)
 
@@ -61,7 +60,7 @@ module _ (rom : List ℕ) (fits : length_of rom ≤ rom_most) {last : Board} (pa
         let q = (body_of rom fits passed i).told.peak.all a in
         omega (arith, q, ap height_in m ∙ height_in_lem entered 0 (omega arith))
 
-    module _ {t : Token} (e : token_at rom (suc d) s.wide p ≡ Good t) where
+    module _ {t : Token} (e : token_at rom (suc d) s.wide p ≡ Ok t) where
       pub cell_there : height_in (get_or (body_of rom fits passed i).path.seen p 0) ≡ (in_cells rom fits passed i e).height
       cell_there = ap height_in ((body_of rom fits passed i).walked.marked i.at) ∙ cell_height rom fits passed i e
 
@@ -93,8 +92,8 @@ module _ (rom : List ℕ) (fits : length_of rom ≤ rom_most) {last : Board} (pa
   module _ {d p q : ℕ} {s : Setting} {u : Token} (i : Inside rom fits passed d s p)
       (a : Among rom (length_of rom) i.board.stand.wide (body_of rom fits passed i).path.seen i.ran.token.next
       (suc (body_of rom fits passed i).marks.end) q u) where
-    pub token_there : token_at rom (suc d) s.wide q ≡ Good u
-    token_there = subst (λ v. token_at rom (suc d) v.wide q ≡ Good u) (sym i.setting) a.visited.is
+    pub token_there : token_at rom (suc d) s.wide q ≡ Ok u
+    token_there = subst (λ v. token_at rom (suc d) v.wide q ≡ Ok u) (sym i.setting) a.visited.is
 
     pub met_there : Met rom (suc d) s q u
     met_there = record { reach = inside_reach rom fits passed (at_met rom fits passed i a); is = token_there }

@@ -1,6 +1,6 @@
 -- A body's definitions, by what the code has learnt where it returns. Assumes nothing.
 use Prim.Native.Nat.{ℕ, zero, suc, ◌+◌, ◌-◌, ◌<◌, ◌≤◌}
-use Rattle.std.specs.Prelude.{◌≡◌, Bool, false, not, ◌&&◌, ◌||◌, List, ◌≢◌, get_or, set, T, leb, eqb, Option, Some, None}
+use Rattle.std.specs.Prelude.{◌≡◌, Bool, false, not, ◌&&◌, ◌||◌, List, ◌≢◌, get_or, set, T, leb, eqb, Option, Some, None, Err, Ok, Result}
 use Rattle.std.proofs.Math.Path.{refl, ap}
 use Rattle.std.proofs.Common.{sym, ◌∙◌, subst, add-one, eq-eqb, ne_eqb, eqb-true, get_or-set_other, eqb→eq, leb→le}
 use Rattle.std.proofs.Math.Bool.{true, or-false, not-not}
@@ -22,8 +22,6 @@ use Rattle.tokens.specs.Joints.Quick.{QuickRead}
 use Rattle.tokens.specs.declared.decoding.Token.{Token}
 use Rattle.tokens.specs.declared.glance.Glance.{Glance}
 use Rattle.tokens.specs.declared.quick.Quick.{Quick}
-use Rattle.tokens.specs.declared.read.Read.{Read}
-use Rattle.tokens.specs.declared.read.Read.TheVariants.{Refused, Good}
 use Rattle.tokens.specs.Laws.Stands.{stands}
 use Rattle.screen.specs.Effect.{is_a, astray}
 use Rattle.screen.specs.Laws.Rules.Ways.{unnamed_known}
@@ -49,9 +47,9 @@ pub off_on {ℓ} : {X : Type ℓ} → false ≡ true → X
 off_on e = absurd (subst (λ (b : Bool). T (not b)) e tt)
 
 -- ---- a token that a body may have
-abbrev pub stands_in : List ℕ → Read → Bool
-stands_in kinds (Refused why) = false
-stands_in kinds (Good t) = not (astray t || unknown_of kinds t)
+abbrev pub stands_in : List ℕ → Result Token ℕ → Bool
+stands_in kinds (Err why) = false
+stands_in kinds (Ok t) = not (astray t || unknown_of kinds t)
 
 -- by a glance at it, wherever that was taken
 abbrev pub StandsBy : List ℕ → Glance → Bool → Type 0
@@ -62,7 +60,7 @@ StandsBy kinds g r =
 abbrev pub is_branch_code : ℕ → Bool
 is_branch_code c = eqb (family_in c) always || eqb (family_in c) choice
 
-plain_stands : (kinds : List ℕ) (t : Token) → family_in t.code ≡ plain → stands_in kinds (Good t) ≡ true
+plain_stands : (kinds : List ℕ) (t : Token) → family_in t.code ≡ plain → stands_in kinds (Ok t) ≡ true
 plain_stands kinds t f = rw (unnamed_known kinds t (rw f), f)
 
 module _ (kinds : List ℕ) (g : Glance) where
@@ -85,7 +83,7 @@ module _ (kinds : List ℕ) (g : Glance) where
     OfToken Q = (rom : List ℕ) (length : ℕ) (wide : Bool) (p : ℕ) (t : Token) → VisitShown rom (body_text length wide 0) p g t → Q t
 
     -- the token that the glance was taken of
-    of_token : family_in g.code ≢ unlisted → (r : Bool) → OfToken (λ t. r ≡ stands_in kinds (Good t)) → StandsBy kinds g r
+    of_token : family_in g.code ≢ unlisted → (r : Bool) → OfToken (λ t. r ≡ stands_in kinds (Ok t)) → StandsBy kinds g r
     of_token n r h rom length wide p e =
         let a = glance_read rom length wide true p g e (λ z. omega arith) m in
         rw a.1 (h rom length wide p a.0 (shown rom (body_text length wide 0) p g a.0 a.1 e))
@@ -146,13 +144,13 @@ module _ (rom : List ℕ) (length : ℕ) (wide : Bool) (kinds : List ℕ) where
   starts_are zero p seen h = absurd (omega arith)
   starts_are (suc k) p seen h = let z : suc k - 1 ≡ k = omega arith in rw z refl
 
-  start_stops : (seen : List ℕ) (p : ℕ) (go : ℕ → List ℕ → Marked) (r : Read) → stands_in kinds r ≡ false
+  start_stops : (seen : List ℕ) (p : ℕ) (go : ℕ → List ℕ → Marked) (r : Result Token ℕ) → stands_in kinds r ≡ false
       → start_in kinds seen p go r ≡ marked false p seen
-  start_stops seen p go (Refused why) s = refl
-  start_stops seen p go (Good t) s = when_true _ _ (astray t || unknown_of kinds t) (not_on (astray t || unknown_of kinds t) s)
+  start_stops seen p go (Err why) s = refl
+  start_stops seen p go (Ok t) s = when_true _ _ (astray t || unknown_of kinds t) (not_on (astray t || unknown_of kinds t) s)
 
-  start_goes : (seen : List ℕ) (p : ℕ) (go : ℕ → List ℕ → Marked) (t : Token) → stands_in kinds (Good t) ≡ true
-      → start_in kinds seen p go (Good t)
+  start_goes : (seen : List ℕ) (p : ℕ) (go : ℕ → List ℕ → Marked) (t : Token) → stands_in kinds (Ok t) ≡ true
+      → start_in kinds seen p go (Ok t)
       ≡ elim (eqb t.number 0xC2) [ true ↦ marked true p (set seen p unmet) | false ↦ go t.next (set seen p unmet) ]
   start_goes seen p go t s = when_false _ _ (astray t || unknown_of kinds t) (not_off (astray t || unknown_of kinds t) s)
 
@@ -162,9 +160,9 @@ module _ (rom : List ℕ) (length : ℕ) (wide : Bool) (kinds : List ℕ) where
   starts_past (suc k) p seen h = rw (none_starts rom length wide true p h)
 
   -- a token that stands, of which a glance was taken
-  good_read : (r : Read) → stands_in kinds r ≡ true → (t : Token) × (r ≡ Good t)
-  good_read (Refused why) s = off_on s
-  good_read (Good t) s = (t, refl)
+  good_read : (r : Result Token ℕ) → stands_in kinds r ≡ true → (t : Token) × (r ≡ Ok t)
+  good_read (Err why) s = off_on s
+  good_read (Ok t) s = (t, refl)
 
   -- the next token is ahead of one that stands
   pub quick_ahead : (p : ℕ) (q : Quick) → QuickRead rom length p q → p < q.next
@@ -204,7 +202,7 @@ module _ (rom : List ℕ) (length : ℕ) (wide : Bool) (kinds : List ℕ) where
             → marked false p seen ≡ starts_of rom length wide kinds rom_most entry seen₀
         marking_stops s = sym (begun ∙ start_stops seen p on (read_of rom length wide true p) s)
 
-        goes : (t : Token) → read_of rom length wide true p ≡ Good t → stands_in kinds (Good t) ≡ true → (t.number ≡ 0xC2 → ⊥)
+        goes : (t : Token) → read_of rom length wide true p ≡ Ok t → stands_in kinds (Ok t) ≡ true → (t.number ≡ 0xC2 → ⊥)
             → Marking t.next (set seen p unmet)
         goes t e s n =
             let u = k.enough in
@@ -213,7 +211,7 @@ module _ (rom : List ℕ) (length : ℕ) (wide : Bool) (kinds : List ℕ) where
               turns = k.turns - 1;
               enough = omega arith;
               same =
-                  sym (begun ∙ ap (λ (r : Read). start_in kinds seen p on r) e ∙ start_goes seen p on t s
+                  sym (begun ∙ ap (λ (r : Result Token ℕ). start_in kinds seen p on r) e ∙ start_goes seen p on t s
                   ∙ when_false _ _ (eqb t.number 0xC2) (ne_eqb _ _ n));
             }
 
@@ -232,8 +230,8 @@ module _ (rom : List ℕ) (length : ℕ) (wide : Bool) (kinds : List ℕ) where
               let r = good_read (read_of rom length wide true p) s in
               let t = r.0 in
               let h : t.number ≡ 0xC2 = (stands rom length wide true p t r.1).number ∙ (ends_first rom p b f).0 n in
-              sym (begun ∙ ap (λ (y : Read). start_in kinds seen p on y) r.1
-              ∙ start_goes seen p on t (subst (λ (y : Read). stands_in kinds y ≡ true) r.1 s)
+              sym (begun ∙ ap (λ (y : Result Token ℕ). start_in kinds seen p on y) r.1
+              ∙ start_goes seen p on t (subst (λ (y : Result Token ℕ). stands_in kinds y ≡ true) r.1 s)
               ∙ when_true _ _ (eqb t.number 0xC2) (eq-eqb _ _ h))
 
           pub marking_goes : (b ≡ 0xC2 → ⊥) → Marking g.next (set seen p unmet)
@@ -243,7 +241,7 @@ module _ (rom : List ℕ) (length : ℕ) (wide : Bool) (kinds : List ℕ) where
               let h = (stands rom length wide true p t r.1).number in
               let d = (shown rom (body_text length wide 0) p g t r.1 (sym e)).next in
               subst (λ (q : ℕ). Marking q (set seen p unmet)) d
-              (goes t r.1 (subst (λ (y : Read). stands_in kinds y ≡ true) r.1 s) (λ q. n ((ends_first rom p b f).1 (sym h ∙ q))))
+              (goes t r.1 (subst (λ (y : Result Token ℕ). stands_in kinds y ≡ true) r.1 s) (λ q. n ((ends_first rom p b f).1 (sym h ∙ q))))
 
 -- how far they were marked: up to the C2, whose place that is, or not
 pub record MarksGood (length : ℕ) (m : Marked) (end : ℕ) (seen' : List ℕ) : Type 0 where

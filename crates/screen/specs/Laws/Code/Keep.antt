@@ -1,7 +1,7 @@
 -- What a walk keeps: no cell is above a bound, no place past the longest ROM, and the tally is low. So that no sum of the code wraps.
 -- Assumes nothing.
 use Prim.Native.Nat.{ℕ, zero, suc, ◌+◌, ◌≤◌, max}
-use Rattle.std.specs.Prelude.{◌≡◌, Bool, false, ◌&&◌, ◌||◌, get_or, set, ltb, eqb}
+use Rattle.std.specs.Prelude.{◌≡◌, Bool, false, ◌&&◌, ◌||◌, get_or, set, ltb, eqb, Err, Ok, Result}
 use Rattle.std.proofs.Common.{sym, ap, subst, arith, get_or-set_other}
 use Rattle.std.proofs.Math.Bool.{true}
 use mathlib.Core.List.{List, [], ◌∷◌}
@@ -12,8 +12,6 @@ use Rattle.rom.specs.Sizes.{rom_most, data_most}
 use Rattle.tokens.specs.Place.{read_of}
 use Rattle.tokens.specs.Body.{unknown_of}
 use Rattle.tokens.specs.declared.decoding.Token.{Token}
-use Rattle.tokens.specs.declared.read.Read.{Read}
-use Rattle.tokens.specs.declared.read.Read.TheVariants.{Refused, Good}
 use Rattle.screen.specs.Effect.{astray, effect_of}
 use Rattle.screen.specs.Laws.Code.Codes.{fitting, effect_small}
 use Rattle.screen.specs.Laws.Code.Body.{Bounded, Low, low_none, low_tallied}
@@ -55,9 +53,9 @@ some_bound (x ∷ xs) = let m = some_bound xs in (max x m.0, omega arith, record
 module _ (b : ℕ) (h : 65536 ≤ b) (kinds : List ℕ) where
   bounded_start : (seen : List ℕ) (p : ℕ) (go : ℕ → List ℕ → Marked) → ((q : ℕ) (m : List ℕ) → Bounded b m → Bounded b (go q m).seen)
       → Bounded b seen
-      → (r : Read) → Bounded b (start_in kinds seen p go r).seen
-  bounded_start seen p go f k (Refused why) = k
-  bounded_start seen p go f k (Good t) =
+      → (r : Result Token ℕ) → Bounded b (start_in kinds seen p go r).seen
+  bounded_start seen p go f k (Err why) = k
+  bounded_start seen p go f k (Ok t) =
       let s = bounded_set b seen p unmet (omega arith) k in
       when_is (λ (m : Marked). Bounded b m.seen) (astray t || unknown_of kinds t) (marked false p seen)
       (elim (eqb t.number 0xC2) [ true ↦ marked true p (set seen p unmet) | false ↦ go t.next (set seen p unmet) ]) (λ u. k)
@@ -74,11 +72,11 @@ module _ (b : ℕ) (h : 65536 ≤ b) (kinds : List ℕ) where
       (read_of rom length wide true p)
 
 -- ---- a walk
-low_read : (sums : List ℕ) (a : Tally) (cell : ℕ) (r : Read) → Low a → Low (tallied_in sums a cell r)
-low_read sums a cell (Refused why) l = l
-low_read sums a cell (Good t) l = low_tallied a t (effect_of (sum_at sums) t) cell (effect_small sums t) l
+low_read : (sums : List ℕ) (a : Tally) (cell : ℕ) (r : Result Token ℕ) → Low a → Low (tallied_in sums a cell r)
+low_read sums a cell (Err why) l = l
+low_read sums a cell (Ok t) l = low_tallied a t (effect_of (sum_at sums) t) cell (effect_small sums t) l
 
-low_told : (within : Bool) (sums : List ℕ) (a : Tally) (cell : ℕ) (r : Read) → Low a → Low (told_in within sums a cell r)
+low_told : (within : Bool) (sums : List ℕ) (a : Tally) (cell : ℕ) (r : Result Token ℕ) → Low a → Low (told_in within sums a cell r)
 low_told true sums a cell r l = low_read sums a cell r l
 low_told false sums a cell r l = l
 
@@ -97,9 +95,9 @@ token_cell x kinds sums cell t =
     cell_most_lem (heights_after (effect_of (sum_at sums) t) cell) f.most f.return_high)
     (λ h. omega arith)
 
-read_cell : (x : Scope) (kinds sums : List ℕ) (cell : ℕ) (r : Read) → (read_visit x kinds sums cell r).cell ≤ cell_most
-read_cell x kinds sums cell (Refused why) = omega arith
-read_cell x kinds sums cell (Good t) = token_cell x kinds sums cell t
+read_cell : (x : Scope) (kinds sums : List ℕ) (cell : ℕ) (r : Result Token ℕ) → (read_visit x kinds sums cell r).cell ≤ cell_most
+read_cell x kinds sums cell (Err why) = omega arith
+read_cell x kinds sums cell (Ok t) = token_cell x kinds sums cell t
 
 visit_cell : (rom : List ℕ) (x : Scope) (kinds sums : List ℕ) (p cell : ℕ) → (visit_of rom x kinds sums p cell).cell ≤ cell_most
 unfolding visit_of

@@ -1,6 +1,6 @@
 -- The rounds' definitions, by what the code has learnt where it returns. Assumes nothing.
 use Prim.Native.Nat.{ℕ, zero, suc, ◌+◌, ◌-◌, ◌*◌, ◌<◌, ◌≤◌}
-use Rattle.std.specs.Prelude.{◌≡◌, Bool, not, ◌&&◌, ◌||◌, List, ◌≢◌, get_or, set, T, ltb, leb, eqb, Option, Some, None}
+use Rattle.std.specs.Prelude.{◌≡◌, Bool, not, ◌&&◌, ◌||◌, List, ◌≢◌, get_or, set, T, ltb, leb, eqb, Option, Some, None, Err, Ok, Result}
 use Rattle.std.proofs.Math.Path.{refl, ap}
 use Rattle.std.proofs.Common.{sym, ◌∙◌, subst, add-one, leb→le, ltb→lt}
 use Rattle.std.proofs.Math.Bool.{true, false, or-true}
@@ -24,8 +24,6 @@ use Rattle.tokens.specs.declared.decoding.Operand.TheVariants.{Nothing, Literal,
 use Rattle.tokens.specs.declared.decoding.Token.{Token}
 use Rattle.tokens.specs.declared.glance.Glance.{Glance}
 use Rattle.tokens.specs.declared.quick.Quick.{Quick}
-use Rattle.tokens.specs.declared.read.Read.{Read}
-use Rattle.tokens.specs.declared.read.Read.TheVariants.{Refused, Good}
 use Rattle.tokens.specs.Laws.Stands.{stands}
 use Rattle.screen.specs.Effect.{is_a, fixes, value_sum}
 use Rattle.screen.specs.Laws.Code.Body.{Bounded, SurveyGood, off_on}
@@ -52,7 +50,7 @@ use Rattle.screen.specs.Laws.Found.Sums.{packed_sum}
 
 -- ---- overlaps
 -- a token that ends a round is the highest
-abbrev pub highest_in : ℕ → ℕ → Read → Bool
+abbrev pub highest_in : ℕ → ℕ → Result Token ℕ → Bool
 highest_in far p r = eqb p far || not (fixed_in r)
 
 -- the place behind a token, where it may stand
@@ -74,7 +72,7 @@ EndBy far p g y =
 
 module _ (far p : ℕ) where
   -- what is refused there
-  end_refused : (r : Read) (why : ℕ) → r ≡ Refused why → Ended (highest_in far p r) (end_in p r) (Some (p + 1))
+  end_refused : (r : Result Token ℕ) (why : ℕ) → r ≡ Err why → Ended (highest_in far p r) (end_in p r) (Some (p + 1))
   end_refused r why e = ended_at (rw e (or-true (eqb p far))) (rw (e, add-one) refl)
 
   module _ (g : Glance) where
@@ -125,7 +123,7 @@ abbrev pub PassIs : List ℕ → Scope → ℕ → ℕ → ℕ → ℕ → Optio
 PassIs rom x far cell p free y = Ended (may_of rom x far cell p free) (free_of rom x cell p free) y
 
 module _ (rom : List ℕ) (x : Scope) (far cell p free : ℕ) where
-  abbrev read : Read
+  abbrev read : Result Token ℕ
   read = read_of rom x.length x.wide false p
 
   pub pass_none : cell ≡ 0 → PassIs rom x far cell p free (Some free)
@@ -261,7 +259,7 @@ formed_so (Definition n k) f =
     let v = leb→le k 0xBA r.1 in
     (omega arith, omega arith)
 
-pub defining : (rom : List ℕ) (length : ℕ) (wide within : Bool) (p : ℕ) (t : Token) → read_of rom length wide within p ≡ Good t
+pub defining : (rom : List ℕ) (length : ℕ) (wide within : Bool) (p : ℕ) (t : Token) → read_of rom length wide within p ≡ Ok t
     → DefinesWithin length t
 defining rom length wide within p t e =
     let f = formed_so t.operand (stands rom length wide within p t e).formed in
@@ -546,20 +544,20 @@ module _ (rom : List ℕ) (length : ℕ) (seen kinds sums : List ℕ) (s : Stand
   abbrev here : Board
   here = board seen kinds sums s
 
-  pub behind_refused : (why : ℕ) → read_of rom length s.wide false far ≡ Refused why → (go : Board → RoundEnd)
+  pub behind_refused : (why : ℕ) → read_of rom length s.wide false far ≡ Err why → (go : Board → RoundEnd)
       → (behind rom length (board seen kinds sums s) far go).good ≡ false
   behind_refused why e go = rw e refl
 
-  pub behind_ends : (t : Token) → read_of rom length s.wide false far ≡ Good t → fixes t ≡ false → (go : Board → RoundEnd)
+  pub behind_ends : (t : Token) → read_of rom length s.wide false far ≡ Ok t → fixes t ≡ false → (go : Board → RoundEnd)
       → behind rom length (board seen kinds sums s) far go ≡ round_end true (board seen kinds sums s)
   behind_ends t e f go = rw e (when_false _ (round_end true here) (fixes t) f)
 
-  acted : (t : Token) (cell : ℕ) → read_of rom length s.wide false far ≡ Good t → fixes t ≡ true → cell ≡ get_or seen far 0
+  acted : (t : Token) (cell : ℕ) → read_of rom length s.wide false far ≡ Ok t → fixes t ≡ true → cell ≡ get_or seen far 0
       → (go : Board → RoundEnd)
       → behind rom length (board seen kinds sums s) far go ≡ go_on go (advance_of rom length here cell t)
   acted t cell e f d go = rw (e, d) (when_true _ (round_end true here) (fixes t) f)
 
-  module _ (t : Token) (cell : ℕ) (e : read_of rom length s.wide false far ≡ Good t) (f : fixes t ≡ true) (d : cell ≡ get_or seen far 0)
+  module _ (t : Token) (cell : ℕ) (e : read_of rom length s.wide false far ≡ Ok t) (f : fixes t ≡ true) (d : cell ≡ get_or seen far 0)
     where
       pub behind_fails : (advance_of rom length (board seen kinds sums s) cell t).good ≡ false → (go : Board → RoundEnd)
           → (behind rom length (board seen kinds sums s) far go).good ≡ false

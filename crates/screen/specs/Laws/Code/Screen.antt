@@ -1,5 +1,5 @@
 -- The screen's definitions, by what the code has learnt where it returns. Assumes nothing.
-use Rattle.std.specs.Prelude.{ℕ, ◌+◌, ◌<◌, ◌≤◌, ◌≡◌, Bool, ◌≢◌, length, get_or, set, replicate, eqb}
+use Rattle.std.specs.Prelude.{ℕ, ◌+◌, ◌<◌, ◌≤◌, ◌≡◌, Bool, ◌≢◌, length, get_or, set, replicate, eqb, Err, Ok}
 use Rattle.std.proofs.Math.Path.{refl, sym, ap}
 use Rattle.std.proofs.Common.{◌∙◌, subst, ⊎_elim, arith, eq-or-lt_of_le, eq-eqb, ne_eqb, get_or-set_same, get_or-set_other, ext_get_or}
 use Rattle.std.proofs.Math.Bool.{true, false}
@@ -18,7 +18,6 @@ use Rattle.screen.specs.Laws.Code.Walk.{WalkTables}
 use Rattle.screen.specs.Laws.Code.Body.{Bounded}
 use Rattle.screen.specs.Laws.Code.Round.{PassedIs}
 use Rattle.screen.specs.Laws.Found.Screen.{screened, judged_of, screened_of}
-use Rattle.screen.specs.declared.screening.Verdict.TheVariants.{Passes, Refused}
 use Rattle.screen.specs.Laws.Found.Cell.{mark_in, mark_none}
 
 -- ---- a list that is filled from the front
@@ -138,12 +137,12 @@ module _ (rom : List ℕ) (n : ℕ) (seen work : List ℕ) (k : Cleared rom n se
 
 -- ---- the verdict
 module _ (rom marks : List ℕ) where
-  pub screen_size : (length marks ≡ marks_size → ⊥) → screened (Refused 6) marks ≡ screened_of rom marks
+  pub screen_size : (length marks ≡ marks_size → ⊥) → screened (Err 6) marks ≡ screened_of rom marks
   unfolding screened_of
   screen_size n = sym (when_false _ _ (eqb (length marks) marks_size) (ne_eqb _ _ n))
 
   pub screen_header : (why : ℕ) → length marks ≡ marks_size → why ≡ header_of rom → (why ≡ 0 → ⊥)
-      → screened (Refused why) marks ≡ screened_of rom marks
+      → screened (Err why) marks ≡ screened_of rom marks
   unfolding screened_of
   screen_header why l e n =
       rw e
@@ -157,11 +156,11 @@ module _ (rom marks : List ℕ) where
 
   -- with the cells of a program that passes, or without
   pub judge_passes : (good : Bool) (seen' marks' : List ℕ) → passed_by good seen' ≡ screen_of rom → good ≡ true → marks' ≡ laid_of seen'
-      → screened Passes marks' ≡ judged_of rom marks
+      → screened (Ok tt) marks' ≡ judged_of rom marks
   unfolding judged_of
   judge_passes good seen' marks' e g m = rw (← e, g, m) refl
 
   pub judge_refuses : (good : Bool) (seen' marks' : List ℕ) → passed_by good seen' ≡ screen_of rom → good ≡ false
-      → marks' ≡ replicate (length marks) 0 → screened (Refused 31) marks' ≡ judged_of rom marks
+      → marks' ≡ replicate (length marks) 0 → screened (Err 31) marks' ≡ judged_of rom marks
   unfolding judged_of
   judge_refuses good seen' marks' e g m = rw (← e, g, m) refl

@@ -1,6 +1,6 @@
 -- A visit and a tally as the code has them, and what each step of a visit comes to. Assumes nothing.
 use Prim.Native.Nat.{ℕ, suc, ◌+◌, ◌-◌, ◌≤◌, ◌<◌, max}
-use Rattle.std.specs.Prelude.{◌≡◌, refl, Bool, not, ◌&&◌, ◌||◌, List, ◌≢◌}
+use Rattle.std.specs.Prelude.{◌≡◌, refl, Bool, not, ◌&&◌, ◌||◌, List, ◌≢◌, Err, None, Ok, Some, Result}
 use Rattle.std.proofs.Common.{sym, ap, ◌∙◌}
 use Rattle.std.proofs.Math.Bool.{true, false, not-not, and-true}
 use native.Mathlib.Omega.{arith}
@@ -9,7 +9,6 @@ use borrow.Author.Tests.{le-leb, eq-eqb, ne_eqb, eqb-true, eqb-false}
 use Rattle.cells.specs.Choice.{pick}
 use Rattle.cells.specs.Laws.Tests.{pick_is}
 use Rattle.cells.specs.Laws.Facts.{holds, follows, fails, is_false, neither}
-use Rattle.rom.specs.declared.branch.Aim.TheVariants.{Inside, Outside}
 use Rattle.tokens.specs.Family.{unlisted, plain, finish, always, choice, widen, pick_up, roll_up, maybe, leave, define, assign, call}
 use Rattle.tokens.specs.Family.{new_device, finish_device}
 use Rattle.tokens.specs.Row.{none as no_form, number as number_form}
@@ -28,7 +27,6 @@ use Rattle.tokens.specs.declared.decoding.Operand.TheVariants.{Nothing, Literal,
 use Rattle.tokens.specs.declared.decoding.Token.{Token}
 use Rattle.tokens.specs.declared.decoding.Decoded.{Decoded}
 use Rattle.tokens.specs.declared.decoding.Decoded.TheVariants.{Cut, Unlisted, Whole}
-use Rattle.tokens.specs.declared.read.Read.TheVariants.{Refused, Good}
 use Rattle.tokens.specs.declared.glance.Glance.{Glance}
 use Rattle.tokens.specs.declared.quick.Quick.{Quick}
 use Rattle.tokens.specs.Laws.Stands.{stands}
@@ -164,29 +162,29 @@ fit_visit within e cell next aim to r c =
 
 -- ---- a token that was read, and a glance at it
 -- two that were read at one place are one
-pub one_read : {t u : Token} → Good t ≡ Good u → t ≡ u
+pub one_read : {t u : Token} → ◌≡◌ {A = Result Token ℕ} (Ok t) (Ok u) → t ≡ u
 one_read e = cc
 
-refused_good : {why : ℕ} {t : Token} → Refused why ≡ Good t → ⊥
+refused_good : {why : ℕ} {t : Token} → Err why ≡ Ok t → ⊥
 refused_good e = let z : ◌≡◌ {A = ℕ} 0 1 = cc in omega arith
 
-judged_seen : (within : Bool) (d : Decoded) (t : Token) → judged within d ≡ Good t → glanced d ≡ seen_in t
+judged_seen : (within : Bool) (d : Decoded) (t : Token) → judged within d ≡ Ok t → glanced d ≡ seen_in t
 judged_seen within Cut t e = absurd (refused_good e)
 judged_seen within (Unlisted code) t e = absurd (refused_good e)
 judged_seen within (Whole u) t e =
-    pick_is (λ r. r ≡ Good t → seen_in u ≡ seen_in t) (misplaced_of u.code within) (Refused 18) (Good u) (λ m i. absurd (refused_good i))
+    pick_is (λ r. r ≡ Ok t → seen_in u ≡ seen_in t) (misplaced_of u.code within) (Err 18) (Ok u) (λ m i. absurd (refused_good i))
     (λ m i. ap seen_in (one_read i)) e
 
 -- the token of which a glance was taken
 pub record VisitShown (rom : List ℕ) (x : Scope) (p : ℕ) (g : Glance) (t : Token) : Type 0 where
-  pub read : read_of rom x.length x.wide x.within p ≡ Good t
+  pub read : read_of rom x.length x.wide x.within p ≡ Ok t
   pub code : t.code ≡ g.code
   pub about : about_of t.number t.operand ≡ g.number
   pub next : t.next ≡ g.next
   pub aim : aim_in t.operand ≡ g.aim
   pub kind : kind_in t.operand ≡ g.kind
 
-pub shown : (rom : List ℕ) (x : Scope) (p : ℕ) (g : Glance) (t : Token) → read_of rom x.length x.wide x.within p ≡ Good t
+pub shown : (rom : List ℕ) (x : Scope) (p : ℕ) (g : Glance) (t : Token) → read_of rom x.length x.wide x.within p ≡ Ok t
     → glance_of rom x.length x.wide p ≡ g → VisitShown rom x p g t
 unfolding read_of glance_of
 shown rom x p g t r e =
@@ -269,8 +267,8 @@ module _ (rom : List ℕ) (x : Scope) (p : ℕ) (g : Glance) (t : Token) (s : Vi
       by Nothing f = refl
       by (Literal n) f = refl
       by (Text start count) f = refl
-      by (Branch bits (Inside to)) f = let l = (f to here).0 in sym (ne_eqb to 0 (omega arith))
-      by (Branch bits Outside) f = refl
+      by (Branch bits (Some to)) f = let l = (f to here).0 in sym (ne_eqb to 0 (omega arith))
+      by (Branch bits None) f = refl
       by (Number n) f = refl
       by (Definition n k) f = refl
 
@@ -282,14 +280,14 @@ module _ (rom : List ℕ) (x : Scope) (p : ℕ) (g : Glance) (t : Token) (s : Vi
       by Nothing = refl
       by (Literal n) = refl
       by (Text start count) = refl
-      by (Branch bits (Inside to)) = refl
-      by (Branch bits Outside) = refl
+      by (Branch bits (Some to)) = refl
+      by (Branch bits None) = refl
       by (Number n) = refl
       by (Definition n k) = refl
 
 -- ---- the visit to a token that was read
 module _ (rom : List ℕ) (x : Scope) (kinds sums : List ℕ) (p cell : ℕ) (t : Token)
-    (r : read_of rom x.length x.wide x.within p ≡ Good t) where
+    (r : read_of rom x.length x.wide x.within p ≡ Ok t) where
   -- one that may not stand there
   pub unsound_visit : sound_of x kinds t cell ≡ false → bad_visit ≡ visit_of rom x kinds sums p cell
   unfolding visit_of token_visit
@@ -318,7 +316,7 @@ pub record Leads (x : Scope) (kinds : List ℕ) (cell : ℕ) (t : Token) (good :
 
 -- such a token is visited by its own effect
 pub own_visit : (rom : List ℕ) (x : Scope) (kinds sums : List ℕ) (p cell : ℕ) (t : Token) (good : Bool) (to away code takes : ℕ)
-    → read_of rom x.length x.wide x.within p ≡ Good t → t.code ≡ code → takes_here t ≡ takes → Leads x kinds cell t good to away
+    → read_of rom x.length x.wide x.within p ≡ Ok t → t.code ≡ code → takes_here t ≡ takes → Leads x kinds cell t good to away
     → pick good (visit_by x.within (plain_effect takes code) cell to away) bad_visit ≡ visit_of rom x kinds sums p cell
 unfolding effect_of
 own_visit rom x kinds sums p cell t false to away code takes r c h l = unsound_visit rom x kinds sums p cell t r l.sound
@@ -589,7 +587,7 @@ quick_seen rom x kinds sums p cell y q k =
           tells x.within t a.1 (tallied_plain sums y cell t (takes_in q.code) (rw f) (rw f) h b);
     }
   where
-    tells : (w : Bool) (t : Token) → read_of rom x.length x.wide x.within p ≡ Good t
+    tells : (w : Bool) (t : Token) → read_of rom x.length x.wide x.within p ≡ Ok t
         → raised_by y (takes_in q.code) cell ≡ tallied y t (effect_of (sum_at sums) t) cell
         → pick w (raised_by y (takes_in q.code) cell) y ≡ told_in w sums y cell (read_of rom x.length x.wide x.within p)
     tells true t r e = rw r e

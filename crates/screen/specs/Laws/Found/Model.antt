@@ -5,13 +5,13 @@
 -- is a row of rounds: each starts behind such a token, or at place 8, stays at or above its start, and comes to no other such token than
 -- the one that ends it, which is the highest place that it comes to. Numbers, width, nodes and open children are the same for the whole of
 -- a round. A body is walked once, when its b(:) ends a round.
-use Rattle.std.specs.Prelude.{ℕ, zero, suc, ◌+◌, ◌-◌, max, Bool, true, false, not, ◌&&◌, ◌||◌, List, [], ◌∷◌, map, ◌++◌, length, get_or}
+use Rattle.std.specs.Prelude.{ℕ, zero, suc, ◌+◌, ◌-◌, max, Bool, true, false, not, ◌&&◌, ◌||◌, List, [], ◌∷◌, map, ◌++◌}
+use Rattle.std.specs.Prelude.{length, get_or, Some, None, Result, Ok, Err}
 use Rattle.std.specs.Prelude.{set, replicate, ltb, leb, eqb}
 use Rattle.std.proofs.Math.Option.{Option, none, some}
 use Rattle.cells.specs.Choice.{pick}
 use Rattle.rom.specs.Sizes.{first_place, data_most, return_most, frames_most, numbers_most, nodes_most, rom_most, marks_size}
 use Rattle.rom.specs.Header.{length_of, wide_of}
-use Rattle.rom.specs.declared.branch.Aim.TheVariants.{Inside, Outside}
 use Rattle.tokens.specs.Family.{finish, always, choice, widen, leave, define, new_device}
 use Rattle.tokens.specs.Table.{first_program, programs_most}
 use Rattle.tokens.specs.Place.{read_of}
@@ -20,8 +20,6 @@ use Rattle.tokens.specs.Definition.{new_number, kind_in, takes_here}
 use Rattle.tokens.specs.declared.decoding.Operand.{Operand}
 use Rattle.tokens.specs.declared.decoding.Operand.TheVariants.{Nothing, Literal, Text, Branch, Number, Definition}
 use Rattle.tokens.specs.declared.decoding.Token.{Token}
-use Rattle.tokens.specs.declared.read.Read.{Read}
-use Rattle.tokens.specs.declared.read.Read.TheVariants.{Refused, Good}
 use Rattle.screen.specs.Effect.{is_a, allowed, fixes, astray, value_sum, effect_of}
 use Rattle.screen.specs.declared.effect.Sum.{Sum}
 use Rattle.screen.specs.declared.effect.Effect.{Effect}
@@ -85,8 +83,8 @@ abbrev pub aim_on : Operand → ℕ
 aim_on Nothing = 0
 aim_on (Literal n) = 0
 aim_on (Text start count) = 0
-aim_on (Branch bits (Inside to)) = to
-aim_on (Branch bits Outside) = 0
+aim_on (Branch bits (Some to)) = to
+aim_on (Branch bits None) = 0
 aim_on (Number n) = 0
 aim_on (Definition n k) = 0
 
@@ -121,9 +119,9 @@ token_visit x kinds sums cell t =
       | false ↦ bad_visit
     ]
 
-abbrev pub read_visit : Scope → List ℕ → List ℕ → ℕ → Read → Visit
-read_visit x kinds sums cell (Refused why) = bad_visit
-read_visit x kinds sums cell (Good t) = token_visit x kinds sums cell t
+abbrev pub read_visit : Scope → List ℕ → List ℕ → ℕ → Result Token ℕ → Visit
+read_visit x kinds sums cell (Err why) = bad_visit
+read_visit x kinds sums cell (Ok t) = token_visit x kinds sums cell t
 
 unfoldable pub visit_of : List ℕ → Scope → List ℕ → List ℕ → ℕ → ℕ → Visit
 visit_of rom x kinds sums p cell = read_visit x kinds sums cell (read_of rom x.length x.wide x.within p)
@@ -157,12 +155,12 @@ tallied a t e cell =
       out = pick (is_a leave t) (suc (height_in cell)) a.out;
     }
 
-abbrev pub tallied_in : List ℕ → Tally → ℕ → Read → Tally
-tallied_in sums a cell (Refused why) = a
-tallied_in sums a cell (Good t) = tallied a t (effect_of (sum_at sums) t) cell
+abbrev pub tallied_in : List ℕ → Tally → ℕ → Result Token ℕ → Tally
+tallied_in sums a cell (Err why) = a
+tallied_in sums a cell (Ok t) = tallied a t (effect_of (sum_at sums) t) cell
 
 -- outside bodies nothing is told
-abbrev pub told_in : Bool → List ℕ → Tally → ℕ → Read → Tally
+abbrev pub told_in : Bool → List ℕ → Tally → ℕ → Result Token ℕ → Tally
 told_in true sums a cell r = tallied_in sums a cell r
 told_in false sums a cell r = a
 
@@ -256,13 +254,13 @@ unfoldable pub walk_all : List ℕ → Scope → List ℕ → List ℕ → List 
 walk_all rom x kinds sums seen start cell = walk_steps rom x kinds sums rom_most (put_visit x (path seen [] (set_out start)) start cell)
 
 -- ---- outside bodies no two tokens overlap, and a token that ends a round is the highest of it
-abbrev pub end_in : ℕ → Read → ℕ
-end_in p (Refused why) = suc p
-end_in p (Good t) = t.next
+abbrev pub end_in : ℕ → Result Token ℕ → ℕ
+end_in p (Err why) = suc p
+end_in p (Ok t) = t.next
 
-abbrev pub fixed_in : Read → Bool
-fixed_in (Refused why) = false
-fixed_in (Good t) = fixes t
+abbrev pub fixed_in : Result Token ℕ → Bool
+fixed_in (Err why) = false
+fixed_in (Ok t) = fixes t
 
 -- so many places from p on, no token before `free`
 unfoldable pub apart_of : List ℕ → Scope → List ℕ → ℕ → ℕ → ℕ → ℕ → Bool
@@ -285,9 +283,9 @@ pub record Marked : Type 0 where
 abbrev pub marked : Bool → ℕ → List ℕ → Marked
 marked good end seen = record { good = good; end = end; seen = seen }
 
-abbrev pub start_in : List ℕ → List ℕ → ℕ → (ℕ → List ℕ → Marked) → Read → Marked
-start_in kinds seen p go (Refused why) = marked false p seen
-start_in kinds seen p go (Good t) =
+abbrev pub start_in : List ℕ → List ℕ → ℕ → (ℕ → List ℕ → Marked) → Result Token ℕ → Marked
+start_in kinds seen p go (Err why) = marked false p seen
+start_in kinds seen p go (Ok t) =
     elim (astray t || unknown_of kinds t) [
       | true ↦ marked false p seen
       | false ↦ elim (eqb t.number 0xC2) [ true ↦ marked true p (set seen p unmet) | false ↦ go t.next (set seen p unmet) ]
@@ -451,9 +449,9 @@ round_good rom length b a =
     && apart_of rom (outside_text length b.stand) a.seen a.walk.far (suc a.walk.far - b.stand.start) b.stand.start 0
 
 -- what comes behind a round: the rest, or the end
-abbrev pub round_rest : (Token → RoundEnd) → (RoundEnd → RoundEnd) → Board → Read → RoundEnd
-round_rest act go b (Refused why) = round_end false b
-round_rest act go b (Good t) = elim (fixes t) [ true ↦ go (act t) | false ↦ round_end true b ]
+abbrev pub round_rest : (Token → RoundEnd) → (RoundEnd → RoundEnd) → Board → Result Token ℕ → RoundEnd
+round_rest act go b (Err why) = round_end false b
+round_rest act go b (Ok t) = elim (fixes t) [ true ↦ go (act t) | false ↦ round_end true b ]
 
 abbrev pub go_on : (Board → RoundEnd) → RoundEnd → RoundEnd
 go_on go y = elim y.good [ true ↦ go y.board | false ↦ y ]

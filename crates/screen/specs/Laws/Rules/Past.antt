@@ -1,7 +1,7 @@
 -- "Bytes past the length are ignored", and so is whatever else leaves a ROM's tokens as they are: of two ROMs with the same verdict of the
 -- header, the same length, first width and tokens the same tokens can be reached, and heights of the one are heights of the other. By the
 -- rules of reachability and of heights, and by nothing that finds them. Assumes nothing.
-use Rattle.std.specs.Prelude.{ℕ, ◌≡◌, Bool, List}
+use Rattle.std.specs.Prelude.{ℕ, ◌≡◌, Bool, List, Err, Ok, Result}
 use Rattle.std.proofs.Math.Path.{refl}
 use Rattle.std.proofs.Common.{sym, ap, ◌∙◌, subst}
 use Rattle.rom.specs.Sizes.{first_place}
@@ -9,14 +9,11 @@ use Rattle.rom.specs.Header.{length_of}
 use Rattle.tokens.specs.Place.{read_of}
 use Rattle.tokens.specs.Laws.Past.{same_read, SamePrograms, programs_back}
 use Rattle.tokens.specs.declared.decoding.Token.{Token}
-use Rattle.tokens.specs.declared.read.Read.TheVariants.{Good}
 use Rattle.screen.specs.Reach.{Setting, setting, in_body, token_at, Claim, reached, Holds, first, body, next, by_itself, past_body}
 use Rattle.screen.specs.Reach.{unnamed, named, to_next, through_body, last, more}
 use Rattle.screen.specs.Reach.{Met, Body, Starts, entry, behind}
 use Rattle.screen.specs.Rules.{Most, Assignment}
 use Rattle.screen.specs.Promise.{Marks, Promised, wrong_size, bad_header, no_heights, passes}
-use Rattle.screen.specs.declared.screening.Verdict.{Verdict}
-use Rattle.screen.specs.declared.screening.Verdict.TheVariants.{Refused}
 
 -- ---- what is reachable
 module _ {rom other : List ℕ} (a : SamePrograms rom other) where
@@ -25,7 +22,7 @@ module _ {rom other : List ℕ} (a : SamePrograms rom other) where
       same_read (length_of rom) rom other a.tokens wide (in_body x) p ∙ ap (λ n. read_of other n wide (in_body x) p) a.length
 
   -- a token of the one is a token of the other
-  token_there : (x : ℕ) (wide : Bool) (p : ℕ) {t : Token} → token_at rom x wide p ≡ Good t → token_at other x wide p ≡ Good t
+  token_there : (x : ℕ) (wide : Bool) (p : ℕ) {t : Token} → token_at rom x wide p ≡ Ok t → token_at other x wide p ≡ Ok t
   token_there x wide p e = sym (same_token x wide p) ∙ e
 
   pub holds_there : {c : Claim} → Holds rom c → Holds other c
@@ -116,9 +113,9 @@ module _ {rom other : List ℕ} (a : SamePrograms rom other) where
         elsewhere = λ p n. m.elsewhere p (λ x s r. n x s (holds_there a r));
       }
 
-  pub promised_there : {before after : List ℕ} {v : Verdict} → Promised rom before v after → Promised other before v after
+  pub promised_there : {before after : List ℕ} {v : Result (Unit {0}) ℕ} → Promised rom before v after → Promised other before v after
   promised_there (wrong_size n) = wrong_size n
   promised_there {before} (bad_header s n) =
-      subst (λ w. Promised other before (Refused w) before) (sym a.header) (bad_header s (λ e. n (a.header ∙ e)))
+      subst (λ w. Promised other before (Err w) before) (sym a.header) (bad_header s (λ e. n (a.header ∙ e)))
   promised_there (no_heights s h n) = no_heights s (sym a.header ∙ h) (λ k. n (heights_there (programs_back a) k))
   promised_there (passes s h k m) = passes s (sym a.header ∙ h) (heights_there a k) (marks_there k m)

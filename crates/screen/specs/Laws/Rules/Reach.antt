@@ -1,11 +1,9 @@
 -- What the sentences of the least set come down to, one by one. Assumes nothing.
-use Rattle.std.specs.Prelude.{ℕ, suc, ◌≤◌, ◌<◌, ◌≡◌, Bool, true, false, not, List, T}
+use Rattle.std.specs.Prelude.{ℕ, suc, ◌≤◌, ◌<◌, ◌≡◌, Bool, true, false, not, List, T, Ok, Result}
 use Rattle.std.proofs.Common.{arith}
 use Rattle.rom.specs.Header.{length_of}
 use Rattle.tokens.specs.Laws.Tokens.{next_ahead}
 use Rattle.tokens.specs.declared.decoding.Token.{Token}
-use Rattle.tokens.specs.declared.read.Read.{Read}
-use Rattle.tokens.specs.declared.read.Read.TheVariants.{Good}
 use Rattle.screen.specs.Effect.{is_colon, leads_of}
 use Rattle.screen.specs.Reach.{In, Setting, token_at, known, reads, extends, leads, Holds, Met, Starts}
 use Rattle.screen.specs.Reach.{by_itself, past_body, to_next, through_body, last, more}
@@ -28,7 +26,7 @@ extends_by (through_body c r) = long c r
 
 -- ---- tokens
 -- one place has one token
-pub one_good : {r : Read} {t u : Token} → r ≡ Good t → r ≡ Good u → t ≡ u
+pub one_good : {r : Result Token ℕ} {t u : Token} → r ≡ Ok t → r ≡ Ok u → t ≡ u
 one_good e f = cc (e, f)
 
 -- ---- the token starts of a body
@@ -37,16 +35,16 @@ data Split (rom : List ℕ) (w : Bool) (p : ℕ) (t : Token) : ℕ → Type 0 wh
   here : Split rom w p t p
   further : {q : ℕ} → (t.number ≡ 0xC2 → ⊥) → Starts rom w t.next q → Split rom w p t q
 
-split : {rom : List ℕ} {w : Bool} {p q : ℕ} {t : Token} → token_at rom 1 w p ≡ Good t → Starts rom w p q → Split rom w p t q
+split : {rom : List ℕ} {w : Bool} {p q : ℕ} {t : Token} → token_at rom 1 w p ≡ Ok t → Starts rom w p q → Split rom w p t q
 split e Starts.entry = here
 split {rom} {w} {p} {q} {t} e (Starts.behind {t = u} s f n) = onto (split e s) f
   where
-    onto : {r : ℕ} → Split rom w p t r → token_at rom 1 w r ≡ Good u → Split rom w p t u.next
+    onto : {r : ℕ} → Split rom w p t r → token_at rom 1 w r ≡ Ok u → Split rom w p t u.next
     onto here f = let d : u ≡ t = cc (e, f) in rw d (further (λ z. n (rw d z)) Starts.entry)
     onto (further m s') f = further m (Starts.behind s' f n)
 
 -- what holds of the first place, and of the starts behind its token, holds of every start
-pub by_start : {rom : List ℕ} {w : Bool} {p q : ℕ} {t : Token} (Q : ℕ → Type 0) → token_at rom 1 w p ≡ Good t → Starts rom w p q → Q p
+pub by_start : {rom : List ℕ} {w : Bool} {p q : ℕ} {t : Token} (Q : ℕ → Type 0) → token_at rom 1 w p ≡ Ok t → Starts rom w p q → Q p
     → ((t.number ≡ 0xC2 → ⊥) → Starts rom w t.next q → Q q) → Q q
 by_start {rom} {w} {p} {q} {t} Q e s h f = by (split e s) h f
   where
@@ -55,7 +53,7 @@ by_start {rom} {w} {p} {q} {t} Q e s h f = by (split e s) h f
     by (further m s') h f = f m s'
 
 -- a start of what is behind the first token is a start
-pub prepend : {rom : List ℕ} {w : Bool} {p q : ℕ} {t : Token} → token_at rom 1 w p ≡ Good t → (t.number ≡ 0xC2 → ⊥)
+pub prepend : {rom : List ℕ} {w : Bool} {p q : ℕ} {t : Token} → token_at rom 1 w p ≡ Ok t → (t.number ≡ 0xC2 → ⊥)
     → Starts rom w t.next q
     → Starts rom w p q
 prepend {rom} {w} {p} {q} {t} e n s = onto s
@@ -71,7 +69,7 @@ pub record EndIs (rom : List ℕ) (w : Bool) (p c : ℕ) : Type 0 where
   pub high : c < length_of rom
   pub start : Starts rom w p c
   pub token : Token
-  pub is : token_at rom 1 w c ≡ Good token
+  pub is : token_at rom 1 w c ≡ Ok token
   pub number : token.number ≡ 0xC2
 
 -- it is so of every body that ends
@@ -89,7 +87,7 @@ pub record Within (rom : List ℕ) (w : Bool) (p c q : ℕ) : Type 0 where
   pub low : p ≤ q
   pub high : q ≤ c
   pub token : Token
-  pub is : token_at rom 1 w q ≡ Good token
+  pub is : token_at rom 1 w q ≡ Ok token
 
 -- it is so of every start
 pub start_within : {rom : List ℕ} {w : Bool} {p c q : ℕ} → Holds rom (reads w p c) → Starts rom w p q → Within rom w p c q

@@ -1,14 +1,12 @@
 -- What is known of a token that was read, by what the token list says of its family.
 -- Assumes nothing.
-use Rattle.std.specs.Prelude.{ℕ, ◌<◌, ◌≤◌, ◌≡◌, refl, Bool, true, false, not, ◌&&◌, ◌||◌, List, [], ◌≢◌, T}
+use Rattle.std.specs.Prelude.{ℕ, ◌<◌, ◌≤◌, ◌≡◌, refl, Bool, true, false, not, ◌&&◌, ◌||◌, List, [], ◌≢◌, T, None, Ok, Option, Some}
 use Rattle.std.proofs.Common.{sym, ◌∙◌, subst, eqb→eq, ne_eqb}
 use Rattle.std.proofs.Math.Dec.{eqb}
 use Rattle.cells.specs.Laws.Tests.{neqb→ne}
 use Rattle.cells.specs.Laws.Facts.{both_hold, follows, fails, is_false, never_true, neither, either, denied}
 use Rattle.rom.specs.Branch.{aim_of}
 use Rattle.rom.specs.Laws.Branch.{AimFits, aim_fits}
-use Rattle.rom.specs.declared.branch.Aim.{Aim}
-use Rattle.rom.specs.declared.branch.Aim.TheVariants.{Inside, Outside}
 use Rattle.tokens.specs.Family.{finish, always, choice, widen, leave, define, assign, call, new_device, finish_device}
 use Rattle.tokens.specs.Row.{offset, head, named_head, inside, outside}
 use Rattle.tokens.specs.Table.{ends, lows, highs, doubles, table, is_program, row_of}
@@ -21,7 +19,6 @@ use Rattle.tokens.specs.Definition.{new_number, kind_in}
 use Rattle.tokens.specs.declared.decoding.Operand.{Operand}
 use Rattle.tokens.specs.declared.decoding.Operand.TheVariants.{Nothing, Definition}
 use Rattle.tokens.specs.declared.decoding.Token.{Token}
-use Rattle.tokens.specs.declared.read.Read.TheVariants.{Good}
 use Rattle.tokens.specs.Laws.Stands.{stands}
 use Rattle.screen.specs.Effect.{is_a, fixes, is_branch, landings, aims, astray, names}
 use Rattle.screen.specs.Reach.{In, here, there, Setting, after}
@@ -160,7 +157,7 @@ after_same t s n =
       is_false (is_a finish_device t) a.1,
     )
 
-module _ (rom : List ℕ) (len : ℕ) (wide within : Bool) (p : ℕ) (t : Token) (e : read_of rom len wide within p ≡ Good t) where
+module _ (rom : List ℕ) (len : ℕ) (wide within : Bool) (p : ℕ) (t : Token) (e : read_of rom len wide within p ≡ Ok t) where
   -- a test of every code is a test of the token's
   coded_so : (f : ℕ → Bool) → ((n : ℕ) → T (f (code_of n))) → T (f t.code)
   coded_so f h = rw (stands rom len wide within p t e).code (h t.number)
@@ -169,10 +166,10 @@ module _ (rom : List ℕ) (len : ℕ) (wide within : Bool) (p : ℕ) (t : Token)
   abbrev Lands : Operand → Type 0
   Lands o = (q : ℕ) → In q (aims o) → (8 ≤ q) × (q < len)
 
-  landed : (a : Aim) → AimFits len a → (q : ℕ) → In q (landings a) → (8 ≤ q) × (q < len)
-  landed (Inside to) f q here = f
-  landed (Inside to) f q (there i) = none_in i
-  landed Outside f q i = none_in i
+  landed : (a : Option ℕ) → AimFits len a → (q : ℕ) → In q (landings a) → (8 ≤ q) × (q < len)
+  landed (Some to) f q here = f
+  landed (Some to) f q (there i) = none_in i
+  landed None f q i = none_in i
 
   -- a branch leads to a place of the program
   pub aims_fit : (q : ℕ) → In q (aims t.operand) → (8 ≤ q) × (q < len)
@@ -226,14 +223,14 @@ module _ (rom : List ℕ) (len : ℕ) (wide within : Bool) (p : ℕ) (t : Token)
 
   -- ---- what has no offset reads the same with either width
   -- a token that is no branch
-  pub wide_same : T (not (is_branch t)) → (v : Bool) → read_of rom len v within p ≡ Good t
+  pub wide_same : T (not (is_branch t)) → (v : Bool) → read_of rom len v within p ≡ Ok t
   wide_same n v =
       let s = stands rom len wide within p t e in
       let f = rw (s.code, s.number) at (no_offset n) in
       same_read rom len v wide within p f ∙ e
 
   -- a token that is met exactly once
-  pub fixed_wide : T (fixes t) → (v : Bool) → read_of rom len v within p ≡ Good t
+  pub fixed_wide : T (fixes t) → (v : Bool) → read_of rom len v within p ≡ Ok t
   fixed_wide h v = wide_same (fixes_no_branch t h) v
 
   -- ---- the end of a body
@@ -247,7 +244,7 @@ module _ (rom : List ℕ) (len : ℕ) (wide within : Bool) (p : ℕ) (t : Token)
 -- ---- a token within a body, and outside of bodies
 module _ (rom : List ℕ) (len : ℕ) (wide : Bool) (p : ℕ) (t : Token) where
   -- within a body nothing is met exactly once, and nothing finishes
-  pub fixes_outside : read_of rom len wide true p ≡ Good t → (fixes t ≡ false) × (is_a finish t ≡ false)
+  pub fixes_outside : read_of rom len wide true p ≡ Ok t → (fixes t ≡ false) × (is_a finish t ≡ false)
   fixes_outside e =
       let c = t.code in
       let m = coded_so rom len wide true p t e inside_fits insides_fit in
@@ -259,7 +256,7 @@ module _ (rom : List ℕ) (len : ℕ) (wide : Bool) (p : ℕ) (t : Token) where
       (is_false (fixes t) n.0, is_false (is_a finish t) n.1)
 
   -- outside of bodies nothing leaves one
-  pub leave_inside : read_of rom len wide false p ≡ Good t → is_a leave t ≡ false
+  pub leave_inside : read_of rom len wide false p ≡ Ok t → is_a leave t ≡ false
   leave_inside e =
       let c = t.code in
       let m = coded_so rom len wide false p t e outside_fits outsides_fit in

@@ -1,6 +1,6 @@
 -- Where a token leads, what it does to heights, and when its number is known: what the list and Effect.antt say, whatever finds heights.
 -- Assumes nothing.
-use Rattle.std.specs.Prelude.{ℕ, ◌≡◌, refl, Bool, true, false, not, ◌||◌, List, [], ◌∷◌, ◌≢◌, T, eqb}
+use Rattle.std.specs.Prelude.{ℕ, ◌≡◌, refl, Bool, true, false, not, ◌||◌, List, [], ◌∷◌, ◌≢◌, T, eqb, Ok}
 use Rattle.std.proofs.Common.{arith, T_not, ne_eqb}
 use Rattle.std.proofs.Math.Dec.{eqb→eq}
 use Rattle.cells.specs.Laws.Tests.{neqb→ne}
@@ -13,7 +13,6 @@ use Rattle.tokens.specs.Body.{kind_of, number_in, unknown_of}
 use Rattle.tokens.specs.Laws.Tokens.{next_ahead}
 use Rattle.tokens.specs.Definition.{colon, kind_in}
 use Rattle.tokens.specs.declared.decoding.Token.{Token}
-use Rattle.tokens.specs.declared.read.Read.TheVariants.{Good}
 use Rattle.screen.specs.Effect.{is_a, fixes, is_colon, is_branch, aims, no_places, astray, both_ways, leads_of, called, own_effect}
 use Rattle.screen.specs.Effect.{effect_of}
 use Rattle.screen.specs.Effect.{names}
@@ -208,7 +207,7 @@ module _ (t : Token) where
       by (fixing h d l) = l
       by (falling h d l) = l
 
-module _ (rom : List ℕ) (len : ℕ) (wide within : Bool) (p : ℕ) (t : Token) (e : read_of rom len wide within p ≡ Good t) where
+module _ (rom : List ℕ) (len : ℕ) (wide within : Bool) (p : ℕ) (t : Token) (e : read_of rom len wide within p ≡ Ok t) where
   -- a token leads to no place 0
   pub leads_ahead : (q : ℕ) → In q (leads_of t) → q ≢ 0
   leads_ahead q i = by (fall_or_jump t q i)
@@ -222,7 +221,7 @@ pub data GivesOn (sum : ℕ → Sum) (t : Token) : Type 0 where
   quiet : (effect_of sum t).gives ≡ 0 → (effect_of sum t).return_gives ≡ 0 → GivesOn sum t
   goes_on : In t.next (leads_of t) → GivesOn sum t
 
-module _ (rom : List ℕ) (len : ℕ) (wide within : Bool) (p : ℕ) (t : Token) (e : read_of rom len wide within p ≡ Good t) (sum : ℕ → Sum)
+module _ (rom : List ℕ) (len : ℕ) (wide within : Bool) (p : ℕ) (t : Token) (e : read_of rom len wide within p ≡ Ok t) (sum : ℕ → Sum)
   where
     -- a token that gives nothing
     quiet_by : T (is_a finish t || is_a leave t || is_a always t || is_a choice t || fixes t) → T (not (is_a call t)) → GivesOn sum t

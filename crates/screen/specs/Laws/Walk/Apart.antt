@@ -1,7 +1,7 @@
 -- The pass over a round's places finds whether two of its tokens overlap, and whether one that ends a round is not the highest.
 -- Assumes nothing.
 use Prim.Native.Nat.{ℕ, zero, suc, ◌+◌, ◌-◌, ◌≤◌, ◌<◌}
-use Rattle.std.specs.Prelude.{◌≡◌, refl, ◌≢◌, Bool, true, false, ◌&&◌, ◌||◌, List, get_or, T, leb, eqb}
+use Rattle.std.specs.Prelude.{◌≡◌, refl, ◌≢◌, Bool, true, false, ◌&&◌, ◌||◌, List, get_or, T, leb, eqb, Result}
 use Rattle.std.proofs.Common.{sym, ◌∙◌, subst, arith, eqb→eq, leb→le}
 use Rattle.std.proofs.Math.Bool.{not, or-false}
 use Rattle.std.proofs.Math.Decide.{ℕ_discrete}
@@ -9,12 +9,12 @@ use Rattle.std.proofs.Math.Dec.{nleb→lt}
 use Rattle.cells.specs.Laws.Facts.{fails, both_hold, neither}
 use Rattle.cells.specs.Laws.Tests.{when_is, neqb→ne}
 use Rattle.tokens.specs.Place.{read_of}
-use Rattle.tokens.specs.declared.read.Read.{Read}
 use Rattle.screen.specs.declared.walking.Text.{Text as Scope}
 use Rattle.screen.specs.Laws.Found.Model.{end_in, fixed_in, apart_of}
+use Rattle.tokens.specs.declared.decoding.Token.{Token}
 
 -- what is read at a place outside bodies
-abbrev pub outer : List ℕ → Scope → ℕ → Read
+abbrev pub outer : List ℕ → Scope → ℕ → Result Token ℕ
 outer rom x p = read_of rom x.length x.wide false p
 
 -- no two tokens from `start` up to `far` overlap, and one that ends a round is at `far`

@@ -1,6 +1,7 @@
 -- The pass over a body's bytes marks its token starts, and finds its C2: exactly where the body ends with one, and no token before it is
 -- refused. Assumes nothing.
-use Rattle.std.specs.Prelude.{ℕ, zero, suc, ◌-◌, ◌≤◌, ◌<◌, ◌≡◌, refl, ◌⊎◌, ◌≢◌, Bool, true, false, ◌||◌, List, length, get_or, set, T, eqb}
+use Rattle.std.specs.Prelude.{ℕ, zero, suc, ◌-◌, ◌≤◌, ◌<◌, ◌≡◌, refl, ◌⊎◌, ◌≢◌, Bool, true, false, ◌||◌, List}
+use Rattle.std.specs.Prelude.{length, get_or, set, T, eqb, Result, Ok, Err}
 use Rattle.std.proofs.Common.{sym, ap, ◌∙◌, subst, inl, inr, arith, length-set, get_or-set_same, get_or-set_other, eqb→eq}
 use Rattle.std.proofs.Math.Decide.{ℕ_discrete}
 use Rattle.cells.specs.Laws.Facts.{is_false, neither}
@@ -10,8 +11,6 @@ use Rattle.rom.specs.Sizes.{rom_most}
 use Rattle.tokens.specs.Body.{unknown_of}
 use Rattle.tokens.specs.Laws.Tokens.{next_ahead}
 use Rattle.tokens.specs.declared.decoding.Token.{Token}
-use Rattle.tokens.specs.declared.read.Read.{Read}
-use Rattle.tokens.specs.declared.read.Read.TheVariants.{Refused, Good}
 use Rattle.screen.specs.Effect.{astray}
 use Rattle.screen.specs.Reach.{token_at, Claim, Holds, Starts}
 use Rattle.screen.specs.Laws.Rules.Reach.{by_start, prepend}
@@ -33,14 +32,14 @@ pub record MarksBody (rom : List ℕ) (w : Bool) (kinds : List ℕ) (entry : ℕ
   pub reads : ((p : ℕ) (t : Token) → entry ≤ p → unknown_of kinds t ≡ false → Holds rom (Claim.known p t))
       → Holds rom (Claim.reads w entry m.end)
   pub starts : {p : ℕ} → Starts rom w entry p → (entry ≤ p) × (p ≤ m.end) × (get_or m.seen p 0 ≡ unmet)
-  pub whole : {p : ℕ} → Starts rom w entry p → (t : Token) × (token_at rom 1 w p ≡ Good t)
-  pub fine : {p : ℕ} {t : Token} → Starts rom w entry p → token_at rom 1 w p ≡ Good t → (astray t ≡ false) × (unknown_of kinds t ≡ false)
+  pub whole : {p : ℕ} → Starts rom w entry p → (t : Token) × (token_at rom 1 w p ≡ Ok t)
+  pub fine : {p : ℕ} {t : Token} → Starts rom w entry p → token_at rom 1 w p ≡ Ok t → (astray t ≡ false) × (unknown_of kinds t ≡ false)
   pub each : (p : ℕ) → Cell rom w entry seen m.seen p
   pub size : length m.seen ≡ length seen
 
 module _ {rom : List ℕ} {w : Bool} {kinds : List ℕ} {p : ℕ} {seen : List ℕ} {t : Token} where
   -- the last token
-  marks_last : p < length seen → token_at rom 1 w p ≡ Good t → astray t ≡ false → unknown_of kinds t ≡ false → t.number ≡ 0xC2
+  marks_last : p < length seen → token_at rom 1 w p ≡ Ok t → astray t ≡ false → unknown_of kinds t ≡ false → t.number ≡ 0xC2
       → MarksBody rom w kinds p seen (marked true p (set seen p unmet))
   marks_last i e a u n =
       let b = next_ahead rom (length_of rom) w true p t e in
@@ -51,9 +50,9 @@ module _ {rom : List ℕ} {w : Bool} {kinds : List ℕ} {p : ℕ} {seen : List �
         starts = λ s.
             by_start (λ q. (p ≤ q) × (q ≤ p) × (get_or (set seen p unmet) q 0 ≡ unmet)) e s
             (omega arith, omega arith, get_or-set_same seen p unmet 0 i) (λ m s'. absurd (m n));
-        whole = λ s. by_start (λ q. (t : Token) × (token_at rom 1 w q ≡ Good t)) e s (t, e) (λ m s'. absurd (m n));
+        whole = λ s. by_start (λ q. (t : Token) × (token_at rom 1 w q ≡ Ok t)) e s (t, e) (λ m s'. absurd (m n));
         fine = λ {p = q} {t = v} s.
-            by_start (λ r. token_at rom 1 w r ≡ Good v → (astray v ≡ false) × (unknown_of kinds v ≡ false)) e s
+            by_start (λ r. token_at rom 1 w r ≡ Ok v → (astray v ≡ false) × (unknown_of kinds v ≡ false)) e s
             (λ f. let d : v ≡ t = cc (e, f) in rw d (a, u)) (λ m s'. absurd (m n));
         each = λ q.
             elim (ℕ_discrete q p) [
@@ -66,7 +65,7 @@ module _ {rom : List ℕ} {w : Bool} {kinds : List ℕ} {p : ℕ} {seen : List �
       }
 
   -- a token before the last
-  marks_more : {m : Marked} → p < length seen → token_at rom 1 w p ≡ Good t → astray t ≡ false → unknown_of kinds t ≡ false
+  marks_more : {m : Marked} → p < length seen → token_at rom 1 w p ≡ Ok t → astray t ≡ false → unknown_of kinds t ≡ false
       → (t.number ≡ 0xC2 → ⊥) → MarksBody rom w kinds t.next (set seen p unmet) m → MarksBody rom w kinds p seen m
   marks_more {m} i e a u n y =
       let b = next_ahead rom (length_of rom) w true p t e in
@@ -78,9 +77,9 @@ module _ {rom : List ℕ} {w : Bool} {kinds : List ℕ} {p : ℕ} {seen : List �
         starts = λ s.
             by_start (λ q. (p ≤ q) × (q ≤ m.end) × (get_or m.seen q 0 ≡ unmet)) e s (omega arith, omega arith, first (y.each p))
             (λ o s'. let z = y.starts s' in (omega arith, z.1, z.2));
-        whole = λ s. by_start (λ q. (t : Token) × (token_at rom 1 w q ≡ Good t)) e s (t, e) (λ o s'. y.whole s');
+        whole = λ s. by_start (λ q. (t : Token) × (token_at rom 1 w q ≡ Ok t)) e s (t, e) (λ o s'. y.whole s');
         fine = λ {p = q} {t = v} s.
-            by_start (λ r. token_at rom 1 w r ≡ Good v → (astray v ≡ false) × (unknown_of kinds v ≡ false)) e s
+            by_start (λ r. token_at rom 1 w r ≡ Ok v → (astray v ≡ false) × (unknown_of kinds v ≡ false)) e s
             (λ f. let d : v ≡ t = cc (e, f) in rw d (a, u)) (λ o s'. y.fine s');
         each = λ q.
             elim (ℕ_discrete q p) [
@@ -103,10 +102,11 @@ module _ {rom : List ℕ} {w : Bool} {kinds : List ℕ} {p : ℕ} {seen : List �
 -- one token, whatever is behind it
 marks_in_lem : (rom : List ℕ) (w : Bool) (kinds : List ℕ) (go : ℕ → List ℕ → Marked)
     → ((q : ℕ) (m : List ℕ) → length_of rom ≤ length m → (go q m).good ≡ true → MarksBody rom w kinds q m (go q m))
-    → (p : ℕ) (seen : List ℕ) → length_of rom ≤ length seen → (r : Read) → token_at rom 1 w p ≡ r → (start_in kinds seen p go r).good ≡ true
+    → (p : ℕ) (seen : List ℕ) → length_of rom ≤ length seen → (r : Result Token ℕ) → token_at rom 1 w p ≡ r
+    → (start_in kinds seen p go r).good ≡ true
     → MarksBody rom w kinds p seen (start_in kinds seen p go r)
-marks_in_lem rom w kinds go f p seen l (Refused why) e = λ g. absurd (subst T (sym g) tt)
-marks_in_lem rom w kinds go f p seen l (Good t) e =
+marks_in_lem rom w kinds go f p seen l (Err why) e = λ g. absurd (subst T (sym g) tt)
+marks_in_lem rom w kinds go f p seen l (Ok t) e =
     let b = next_ahead rom (length_of rom) w true p t e in
     when_is (λ m. m.good ≡ true → MarksBody rom w kinds p seen m) (astray t || unknown_of kinds t) _ _ (λ x g. absurd (subst T (sym g) tt))
     (λ x.
@@ -160,11 +160,11 @@ pub record Found (m : Marked) (c : ℕ) : Type 0 where
 -- no token of a body names an unknown number or branches to outside
 abbrev pub FineMarks : List ℕ → Bool → List ℕ → ℕ → Type 0
 FineMarks rom w kinds entry =
-    (p : ℕ) (t : Token) → Starts rom w entry p → token_at rom 1 w p ≡ Good t → (unknown_of kinds t ≡ false) × (astray t ≡ false)
+    (p : ℕ) (t : Token) → Starts rom w entry p → token_at rom 1 w p ≡ Ok t → (unknown_of kinds t ≡ false) × (astray t ≡ false)
 
 -- a token that is not refused
-found_in : (kinds seen : List ℕ) (p c : ℕ) (go : ℕ → List ℕ → Marked) (r : Read) (t : Token) → r ≡ Good t → (unknown_of kinds t ≡ false)
-    × (astray t ≡ false)
+found_in : (kinds seen : List ℕ) (p c : ℕ) (go : ℕ → List ℕ → Marked) (r : Result Token ℕ) (t : Token) → r ≡ Ok t
+    → (unknown_of kinds t ≡ false) × (astray t ≡ false)
     → (t.number ≡ 0xC2 → p ≡ c) → ((t.number ≡ 0xC2 → ⊥) → Found (go t.next (set seen p unmet)) c)
     → Found (start_in kinds seen p go r) c
 found_in kinds seen p c go r t e f last more =

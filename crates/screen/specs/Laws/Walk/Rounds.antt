@@ -1,13 +1,12 @@
 -- The rounds of the model: what each finds, how one leads to the next, and that every reachable token outside bodies belongs to one.
 -- Assumes nothing.
-use Rattle.std.specs.Prelude.{ℕ, suc, ◌-◌, ◌≤◌, ◌<◌, ◌≡◌, Bool, true, false, not, List, ◌≢◌, T, length, get_or}
+use Rattle.std.specs.Prelude.{ℕ, suc, ◌-◌, ◌≤◌, ◌<◌, ◌≡◌, Bool, true, false, not, List, ◌≢◌, T, length, get_or, Ok}
 use Rattle.std.proofs.Common.{arith, ◌∙◌, sym}
 use Rattle.cells.specs.Laws.Facts.{and_first, and_second}
 use Rattle.rom.specs.Header.{length_of}
 use Rattle.rom.specs.Sizes.{rom_most, data_most}
 use Rattle.tokens.specs.Place.{read_of}
 use Rattle.tokens.specs.declared.decoding.Token.{Token}
-use Rattle.tokens.specs.declared.read.Read.TheVariants.{Good}
 use Rattle.tokens.specs.Table.{programs_most}
 use Rattle.screen.specs.Effect.{fixes}
 use Rattle.screen.specs.Laws.Found.Model.{Path, Board, RoundEnd, outside_text, on_seen, round_of, round_good, advance_of, apart_of, room_of}
@@ -50,7 +49,7 @@ module _ (rom : List ℕ) where
     pub some : {p c : ℕ} → OutAt b p c → c ≢ 0
     pub apart : Apart rom (outside_text (length_of rom) b.stand) (ran b).seen b.stand.start (far_of b)
     pub token : Token
-    pub is : read_of rom (length_of rom) b.stand.wide false (far_of b) ≡ Good token
+    pub is : read_of rom (length_of rom) b.stand.wide false (far_of b) ≡ Ok token
 
   -- a round leaves as many cells as there were
   pub ran_size : {b : Board} → Ready b → Ran b → length (ran b).seen ≡ room_of (length_of rom)

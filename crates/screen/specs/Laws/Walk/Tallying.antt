@@ -1,5 +1,6 @@
 -- What is told along a walk of a body is the greatest of what its tokens ask for, and the height of its ends. Assumes nothing.
-use Rattle.std.specs.Prelude.{ℕ, suc, ◌+◌, ◌-◌, ◌≤◌, ◌<◌, max, ◌≡◌, ◌≢◌, Bool, true, false, not, ◌&&◌, ◌||◌, List, [], ◌∷◌, get_or, T, eqb}
+use Rattle.std.specs.Prelude.{ℕ, suc, ◌+◌, ◌-◌, ◌≤◌, ◌<◌, max, ◌≡◌, ◌≢◌, Bool, true, false, not, ◌&&◌, ◌||◌, List, [], ◌∷◌}
+use Rattle.std.specs.Prelude.{get_or, T, eqb, Ok}
 use Rattle.std.proofs.Math.Path.{refl}
 use Rattle.std.proofs.Common.{sym, subst, inl, inr, arith, ne_eqb, T_not, eqb→eq}
 use Rattle.std.proofs.Math.Bool.{and-true}
@@ -11,7 +12,6 @@ use Rattle.rom.specs.Header.{length_of}
 use Rattle.tokens.specs.Family.{leave}
 use Rattle.tokens.specs.Place.{read_of}
 use Rattle.tokens.specs.declared.decoding.Token.{Token}
-use Rattle.tokens.specs.declared.read.Read.TheVariants.{Good}
 use Rattle.screen.specs.Laws.Found.Model.{Tally}
 use Rattle.screen.specs.declared.walking.Text.{Text as Scope}
 use Rattle.screen.specs.Effect.{is_a, effect_of}
@@ -26,7 +26,7 @@ use Rattle.screen.specs.Laws.Found.Cell.{height_in, back_in, entered, unmet, is_
 -- a place of a body that was met, with its token
 pub record Visited (rom : List ℕ) (length : ℕ) (wide : Bool) (seen : List ℕ) (p : ℕ) (t : Token) : Type 0 where
   pub met : is_met (get_or seen p 0) ≡ true
-  pub is : read_of rom length wide true p ≡ Good t
+  pub is : read_of rom length wide true p ≡ Ok t
 
 -- the same, not below the first place, and below the other
 pub record Among (rom : List ℕ) (length : ℕ) (wide : Bool) (seen : List ℕ) (from to p : ℕ) (t : Token) : Type 0 where
@@ -129,7 +129,7 @@ module _ {rom : List ℕ} {wide : Bool} {kinds sums seen : List ℕ} {entry cell
   Here p t = Among rom (length_of rom) wide a.seen entry (suc m.end) p t
 
   -- ---- the places of the walk are those of the body that were met
-  come_here : {p c : ℕ} {t : Token} → BodyAt p c → read_of rom (length_of rom) wide true p ≡ Good t → Here p t
+  come_here : {p c : ℕ} {t : Token} → BodyAt p c → read_of rom (length_of rom) wide true p ≡ Ok t → Here p t
   come_here {p} {c} i e =
       let n = at_real rom text kinds sums entry cell given i in
       let f = w.inside i in

@@ -1,6 +1,6 @@
 -- What a visit says of the token at a place, and what it takes for it to be good; and where the walk goes on from there.
 -- Assumes nothing.
-use Rattle.std.specs.Prelude.{ℕ, ◌+◌, ◌-◌, ◌≤◌, ◌≡◌, Bool, false, not, ◌&&◌, ◌||◌, List, [], ◌∷◌, ◌≢◌, leb}
+use Rattle.std.specs.Prelude.{ℕ, ◌+◌, ◌-◌, ◌≤◌, ◌≡◌, Bool, false, not, ◌&&◌, ◌||◌, List, [], ◌∷◌, ◌≢◌, leb, Err, None, Ok, Result, Some}
 use Rattle.std.proofs.Math.Path.{refl}
 use Rattle.std.proofs.Common.{sym, ◌∙◌, ap, subst, le→leb, T_not, eq-eqb}
 use Rattle.std.proofs.Math.Bool.{true}
@@ -9,7 +9,6 @@ use Rattle.cells.specs.Laws.Tests.{when_is}
 use Rattle.cells.specs.Laws.Facts.{holds, fails, is_true, is_false, both_hold, join_hold, four_hold, join_four, follows, when_true}
 use Rattle.cells.specs.Laws.Facts.{either, or_second}
 use Rattle.rom.specs.Sizes.{return_most, frames_most}
-use Rattle.rom.specs.declared.branch.Aim.TheVariants.{Inside, Outside}
 use Rattle.tokens.specs.Family.{finish, always, choice, leave}
 use Rattle.tokens.specs.Code.{family_in}
 use Rattle.tokens.specs.Place.{read_of}
@@ -17,8 +16,6 @@ use Rattle.tokens.specs.Body.{unknown_of}
 use Rattle.tokens.specs.declared.decoding.Operand.{Operand}
 use Rattle.tokens.specs.declared.decoding.Operand.TheVariants.{Nothing, Literal, Text, Branch, Number, Definition}
 use Rattle.tokens.specs.declared.decoding.Token.{Token}
-use Rattle.tokens.specs.declared.read.Read.{Read}
-use Rattle.tokens.specs.declared.read.Read.TheVariants.{Refused, Good}
 use Rattle.screen.specs.Effect.{is_a, allowed, fixes, is_branch, aims, no_places, astray, both_ways, leads_of, effect_of}
 use Rattle.screen.specs.Reach.{In, here, there}
 use Rattle.screen.specs.Laws.Code.Codes.{fits_known}
@@ -48,8 +45,8 @@ pub aim_is : (o : Operand) (q : ℕ) → In q (aims o) → aim_on o ≡ q
 aim_is Nothing q i = none_in i
 aim_is (Literal n) q i = none_in i
 aim_is (Text start count) q i = none_in i
-aim_is (Branch bits (Inside to)) q i = sym (in_one i)
-aim_is (Branch bits Outside) q i = none_in i
+aim_is (Branch bits (Some to)) q i = sym (in_one i)
+aim_is (Branch bits None) q i = none_in i
 aim_is (Number n) q i = none_in i
 aim_is (Definition n k) q i = none_in i
 
@@ -58,8 +55,8 @@ pub is_aim : (o : Operand) (q : ℕ) → aim_on o ≡ q → q ≢ 0 → aims o �
 is_aim Nothing q e n = absurd (n (sym e))
 is_aim (Literal k) q e n = absurd (n (sym e))
 is_aim (Text start count) q e n = absurd (n (sym e))
-is_aim (Branch bits (Inside to)) q e n = rw e
-is_aim (Branch bits Outside) q e n = absurd (n (sym e))
+is_aim (Branch bits (Some to)) q e n = rw e
+is_aim (Branch bits None) q e n = absurd (n (sym e))
 is_aim (Number k) q e n = absurd (n (sym e))
 is_aim (Definition k m) q e n = absurd (n (sym e))
 
@@ -115,7 +112,7 @@ module _ (t : Token) where
       by (falling h c l) (by_next e) = let s = sym e ∙ (falls_walk h c).0 in rw (l, s) here
       by (falling h c l) (by_aim e) = absurd (z (sym e ∙ (falls_walk h c).1))
 
-module _ (rom : List ℕ) (len : ℕ) (wide within : Bool) (p : ℕ) (t : Token) (e : read_of rom len wide within p ≡ Good t) where
+module _ (rom : List ℕ) (len : ℕ) (wide within : Bool) (p : ℕ) (t : Token) (e : read_of rom len wide within p ≡ Ok t) where
   -- where the token leads, the walk goes on
   pub in_way : T (not (fixes t)) → (q : ℕ) → In q (leads_of t) → WayIn t q × (q ≢ 0)
   in_way f q i = (by (ways_of t), leads_ahead rom len wide within p t e q i)
@@ -135,7 +132,7 @@ module _ (rom : List ℕ) (len : ℕ) (wide within : Bool) (p : ℕ) (t : Token)
 -- ---- a visit
 -- what is asked of the token at a place that is come to with heights
 pub record Meets (rom : List ℕ) (x : Scope) (kinds sums : List ℕ) (p c : ℕ) (t : Token) : Type 0 where
-  pub is : read_of rom x.length x.wide x.within p ≡ Good t
+  pub is : read_of rom x.length x.wide x.within p ≡ Ok t
   pub allowed : T (allowed t)
   pub named : unknown_of kinds t ≡ false
   pub aimed : T (not (astray t))
@@ -183,7 +180,7 @@ join_seven a b c d e f g s t u v w y z =
 
 module _ (rom : List ℕ) (x : Scope) (kinds sums : List ℕ) (p c : ℕ) where
   -- the visit of a token that was read
-  visit_read : (t : Token) → read_of rom x.length x.wide x.within p ≡ Good t
+  visit_read : (t : Token) → read_of rom x.length x.wide x.within p ≡ Ok t
       → visit_of rom x kinds sums p c ≡ token_visit x kinds sums c t
   unfolding visit_of
   visit_read t e = rw e
@@ -208,7 +205,7 @@ module _ (rom : List ℕ) (x : Scope) (kinds sums : List ℕ) (p c : ℕ) where
         (λ h e. absurd (subst T (sym e) tt))
 
     -- the tests say what is asked
-    passed_meets : read_of rom x.length x.wide x.within p ≡ Good t → T passed → Meets rom x kinds sums p c t
+    passed_meets : read_of rom x.length x.wide x.within p ≡ Ok t → T passed → Meets rom x kinds sums p c t
     unfolding sound_of
     passed_meets e h =
         let b = both_hold (sound_of x kinds t c) (fits_of x.within effect c) h in
@@ -279,10 +276,10 @@ meets_fits {rom} {x} {kinds} {sums} {p} {c} {t} m =
 
 module _ (rom : List ℕ) (x : Scope) (kinds sums : List ℕ) (p c : ℕ) where
   -- by what was read
-  read_fits : (r : Read) → read_of rom x.length x.wide x.within p ≡ r → (read_visit x kinds sums c r).good ≡ true
+  read_fits : (r : Result Token ℕ) → read_of rom x.length x.wide x.within p ≡ r → (read_visit x kinds sums c r).good ≡ true
       → Fits rom x kinds sums p c
-  read_fits (Refused why) e g = absurd (subst T (sym g) tt)
-  read_fits (Good t) e g =
+  read_fits (Err why) e g = absurd (subst T (sym g) tt)
+  read_fits (Ok t) e g =
       meets_fits
       (passed_meets rom x kinds sums p c t e (holds (passed rom x kinds sums p c t) (good_passed rom x kinds sums p c t g)))
 

@@ -2,7 +2,7 @@
 -- rules and lies where the text may have a token; then these places have their cells, its tally was told of each of them and of nothing
 -- else, and no other place has changed. Assumes nothing.
 use Prim.Native.Nat.{ℕ, zero, suc, ◌+◌, ◌-◌, ◌≤◌, ◌<◌, max}
-use Rattle.std.specs.Prelude.{◌≡◌, Bool, false, not, ◌&&◌, ◌||◌, List, [], ◌∷◌, ◌≢◌, ◌⊎◌, ltb, eqb, length, get_or, set}
+use Rattle.std.specs.Prelude.{◌≡◌, Bool, false, not, ◌&&◌, ◌||◌, List, [], ◌∷◌, ◌≢◌, ◌⊎◌, ltb, eqb, length, get_or, set, Err, Ok, Result}
 use Rattle.std.proofs.Math.Path.{refl, subst}
 use Rattle.std.proofs.Common.{sym, ap, ◌∙◌, inl, inr, arith, T_not, ltb→lt, leb→le, length-set, get_or-set_same, get_or-set_other}
 use Rattle.std.proofs.Math.Bool.{true}
@@ -12,8 +12,6 @@ use Rattle.cells.specs.Laws.Facts.{holds, is_true, is_false, both_hold, neither,
 use Rattle.cells.specs.Laws.Tests.{when_is, neqb→ne}
 use Rattle.rom.specs.Sizes.{rom_most}
 use Rattle.tokens.specs.Place.{read_of}
-use Rattle.tokens.specs.declared.read.Read.{Read}
-use Rattle.tokens.specs.declared.read.Read.TheVariants.{Refused, Good}
 use Rattle.screen.specs.Effect.{effect_of}
 use Rattle.screen.specs.Reach.{In, here, there}
 use Rattle.screen.specs.Laws.Found.Model.{Tally}
@@ -25,6 +23,7 @@ use Rattle.screen.specs.Laws.Found.Model.{read_visit, visit_of, put_visit, puts_
 use Rattle.screen.specs.Laws.Found.Cell.{cell_with}
 use Rattle.screen.specs.Laws.Found.Cell.{TokenHeights, mark_in, body_most, cell_mark, mark_none, mark_unmet}
 use Rattle.screen.specs.Laws.Code.Codes.{fitting}
+use Rattle.tokens.specs.declared.decoding.Token.{Token}
 
 -- ---- tests and lists
 -- where some wait, the first does
@@ -96,11 +95,11 @@ cell_real : (h : TokenHeights) → h.height ≤ body_most → mark_in (cell_with
 cell_real h l z = let m = cell_mark h (omega arith) in omega arith
 
 -- so has the cell of a good visit, by what was read
-read_real : (x : Scope) (kinds sums : List ℕ) (cell : ℕ) (r : Read) → (read_visit x kinds sums cell r).good ≡ true
+read_real : (x : Scope) (kinds sums : List ℕ) (cell : ℕ) (r : Result Token ℕ) → (read_visit x kinds sums cell r).good ≡ true
     → mark_in (read_visit x kinds sums cell r).cell ≢ 0
 unfolding token_visit
-read_real x kinds sums cell (Refused why) g = absurd (holds false g)
-read_real x kinds sums cell (Good t) g =
+read_real x kinds sums cell (Err why) g = absurd (holds false g)
+read_real x kinds sums cell (Ok t) g =
     when_is (λ (v : Visit). v.good ≡ true → mark_in v.cell ≢ 0)
     (sound_of x kinds t cell && fits_of x.within (effect_of (sum_at sums) t) cell) _ _
     (λ h i.
