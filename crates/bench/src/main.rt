@@ -4,7 +4,7 @@
 #![tactic(auto)]
 
 use given::{SPACE, TEXT, bytes_from, each_line, read_text};
-use rom::{Aim, fcode_count, lay_fcode, program_length, spread_of};
+use rom::{fcode_count, lay_fcode, program_length, spread_of};
 use std::io;
 use tokens::{Body, Decoded, Operand, Token};
 
@@ -12,10 +12,10 @@ fn yes_or_no(said: bool) -> &'static str {
     if said { "yes" } else { "no" }
 }
 
-fn show_aim(rt: &impl Print, aim: Aim) -> io::Result<()> {
+fn show_aim(rt: &impl Print, aim: Option<u32>) -> io::Result<()> {
     match aim {
-        Aim::Inside(to) => print!(rt; " {to:x}"),
-        Aim::Outside => print!(rt; " outside"),
+        Some(to) => print!(rt; " {to:x}"),
+        None => print!(rt; " outside"),
     }
 }
 

@@ -1,18 +1,17 @@
 -- What the C host is handed back: numbers and bytes alone. 0 stands for a ROM that passes and for a run that finishes, 28 for a spent
 -- budget, and every other number for the refusal that document 01 gives it. Assumes nothing.
-use Rattle.std.specs.Prelude.{ℕ, ◌≡◌, List, eqb}
+use Rattle.std.specs.Prelude.{ℕ, ◌≡◌, List, eqb, Result}
 use Rattle.cells.specs.Choice.{pick}
 use Rattle.state.specs.Scene.{answer_number}
 use Rattle.state.specs.Open.{open_refusal, open_of}
 use Rattle.state.specs.Run.{RunResult}
 use Rattle.screen.specs.Promise.{Promised, verdict_number}
-use Rattle.screen.specs.declared.screening.Verdict.{Verdict}
 use Rattle.listing.specs.Listing.{started_of}
 
 -- a ROM screened, with a mark buffer that held `before`: the number of a verdict that the screen's promise allows, with what the
 -- buffer holds then
 abbrev pub HostScreened : List ℕ → List ℕ → ℕ → List ℕ → Type 0
-HostScreened rom before number after = (v : Verdict) × (number ≡ verdict_number v) × Promised rom before v after
+HostScreened rom before number after = (v : Result (Unit {0}) ℕ) × (number ≡ verdict_number v) × Promised rom before v after
 
 -- a run that the host asked for: its number, the tokens carried out, and the two memories then
 pub record HostRun : Type 0 where

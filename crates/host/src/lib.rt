@@ -9,15 +9,15 @@ ghost use Rattle.host.specs.Host.{HostScreened, host_run, host_run_of};
 
 use listing::list;
 use machine::run;
-use rom::check_header;
-use screen::{Verdict, screen};
+use rom::{check_header, refusal_in};
+use screen::screen;
 use state::{number_of, open};
 
 // The header test: 0, or 1 to 5.
 pub fn fcode_check(rom: &[u8]) -> u32
     ensures { result ≡ header_of (fcode_of rom.now) }
 {
-    check_header(rom)
+    refusal_in(check_header(rom))
 }
 
 // The screen: 0 for a ROM that passes, with its marks; else 6, 1 to 5, or 31.
@@ -25,8 +25,8 @@ pub fn fcode_screen(rom: &[u8], marks: &mut [u8]) -> u32
     ensures { HostScreened (fcode_of rom.now) marks.old result marks.new }
 {
     match screen(rom, marks) {
-        Verdict::Passes => 0,
-        Verdict::Refused(why) => why,
+        Ok(()) => 0,
+        Err(why) => why.number(),
     }
 }
 
@@ -36,18 +36,15 @@ pub fn fcode_run(rom: &[u8], work: &mut [u8], store: &mut [u8], budget: u32, ste
     ensures { host_run result steps.new work.new store.new
         ≡ host_run_of (fcode_of rom.now) work.old store.old budget }
 {
-    let opened = open(rom, &mut *work, &mut *store);
-    let answer = opened.answer;
-    let why = number_of(answer);
+    let opened = open(rom, work, store);
+    let why = number_of(opened.answer);
     if why != 0 {
         *steps = 0;
         return why;
     }
-    let st = opened.state;
-    let r = run(rom, work, store, st, budget);
+    let r = run(rom, work, store, opened.state, budget);
     *steps = r.count;
-    let end = r.answer;
-    number_of(end)
+    number_of(r.answer)
 }
 
 // The listing, written into `text` with one zero behind it, and its length; 0, and nothing written, where the text has the wrong size.

@@ -1,7 +1,7 @@
 // A ROM, screened, opened and run.
 use machine::run;
 use rom::sizes::{MARKS_SIZE, STORE_SIZE, WORK_SIZE};
-use screen::{Verdict, screen};
+use screen::screen;
 use state::{State, number_of, open};
 
 // How a run ended: its number, 0 for a finish, its steps, and the state then.
@@ -16,8 +16,8 @@ pub struct Ended {
 pub fn refusal_of(rom: &[u8]) -> Option<u32> {
     let mut marks = [0u8; MARKS_SIZE];
     match screen(rom, &mut marks) {
-        Verdict::Passes => None,
-        Verdict::Refused(why) => Some(why),
+        Ok(()) => None,
+        Err(why) => Some(why),
     }
 }
 

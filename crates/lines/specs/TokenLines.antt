@@ -2,13 +2,11 @@
 -- place, its number, its name, its operand in parts, and a remark for a person to read, `0008 12 b(") 05 7363616C65 "scale"`. Bytes that no
 -- token of the list covers: their place and they themselves, "001C raw 01FE". All but the names and the remarks are upper-case hexadecimal
 -- digits. Document 01 leaves the lines open. Assumes nothing.
-use Rattle.std.specs.Prelude.{ℕ, zero, suc, ◌+◌, ◌-◌, ◌/◌, ◌%◌, Bool, ◌||◌, List, [], ◌∷◌, ◌++◌, ◌≡◌, ltb, eqb, length}
+use Rattle.std.specs.Prelude.{ℕ, zero, suc, ◌+◌, ◌-◌, ◌/◌, ◌%◌, Bool, ◌||◌, List, [], ◌∷◌, ◌++◌, ◌≡◌, ltb, eqb, length, None, Option, Some}
 use Rattle.cells.specs.Choice.{pick}
 use Rattle.rom.specs.Words.{letters_of}
 use Rattle.rom.specs.Header.{header_of}
 use Rattle.rom.specs.Sizes.{rom_most}
-use Rattle.rom.specs.declared.branch.Aim.{Aim}
-use Rattle.rom.specs.declared.branch.Aim.TheVariants.{Inside, Outside}
 use Rattle.memory.specs.Window.{part_of}
 use Rattle.tokens.specs.Row.{string, head, named_head}
 use Rattle.tokens.specs.Code.{form_in}
@@ -67,9 +65,9 @@ all_shown (x ∷ xs) = shown x ++ all_shown xs
 
 -- ---- the remarks, each of them empty or behind a space
 -- where a branch leads
-abbrev pub aim_remark : Aim → List ℕ
-aim_remark (Inside to) = letters_of " to " ++ place_text to
-aim_remark Outside = letters_of " to no place of the program"
+abbrev pub aim_remark : Option ℕ → List ℕ
+aim_remark (Some to) = letters_of " to " ++ place_text to
+aim_remark None = letters_of " to no place of the program"
 
 abbrev pub branch_remark : Operand → List ℕ
 branch_remark Nothing = []

@@ -15,7 +15,7 @@ use crate::lines::shown;
 use crate::printed::quoted;
 use crate::words::{letter, say};
 use rom::sizes::ROM_MOST;
-use rom::{Aim, Spread, byte};
+use rom::{Spread, byte};
 use tokens::reader::{Piece, piece_in, program_end};
 use tokens::{Operand, Token, name_front, name_rest};
 
@@ -117,15 +117,15 @@ fn parts(text: &mut [u8], at: usize, fcode: &[u8], start: usize, meet: Cuts, nex
 }
 
 // Where a branch leads.
-fn aim_remark(text: &mut [u8], at: usize, aim: Aim) -> usize
+fn aim_remark(text: &mut [u8], at: usize, aim: Option<u32>) -> usize
     ensures { Wrote text.old text.new at result (aim_remark aim) }
 {
     match aim {
-        Aim::Inside(to) => {
+        Some(to) => {
             let at = say(text, at, b" to ");
             place_digits(text, at, to as usize)
         }
-        Aim::Outside => say(text, at, b" to no place of the program"),
+        None => say(text, at, b" to no place of the program"),
     }
 }
 

@@ -1,7 +1,7 @@
 -- The listing of a ROM: "A refused run ends with "refused" and its number in place of "done"; .. a refused ROM prints only that line, 31
 -- included." The sizes of the buffers are tested first, then the header and the height rules, and then the ROM is opened and run. Work
 -- memory and store are as they were wherever the ROM is not run. Assumes nothing.
-use Rattle.std.specs.Prelude.{ℕ, Bool, not, ◌||◌, List, ◌≡◌, length, eqb}
+use Rattle.std.specs.Prelude.{ℕ, Bool, not, ◌||◌, List, ◌≡◌, length, eqb, Err, Ok, Result}
 use Rattle.cells.specs.Choice.{pick}
 use Rattle.rom.specs.Sizes.{marks_size}
 use Rattle.state.specs.Scene.{scene, Turn, answer_number}
@@ -9,8 +9,6 @@ use Rattle.state.specs.Step.{wrong_sizes}
 use Rattle.state.specs.Open.{open_of}
 use Rattle.state.specs.Run.{RunResult, run_of}
 use Rattle.screen.specs.Promise.{Promised}
-use Rattle.screen.specs.declared.screening.Verdict.{Verdict}
-use Rattle.screen.specs.declared.screening.Verdict.TheVariants.{Passes, Refused}
 use Rattle.lines.specs.Lines.{refused_line, run_text}
 use Rattle.lines.specs.Told.{filled, wrong_text}
 
@@ -44,12 +42,12 @@ abbrev pub ran_as : List ℕ → RunResult → List ℕ → Listed
 ran_as marks o text = listed_as (run_words o) marks o.work o.store text
 
 -- by the screen's verdict, with the marks that it left
-abbrev pub judged_as : Verdict → List ℕ → List ℕ → List ℕ → List ℕ → ℕ → List ℕ → Listed
-judged_as (Refused why) marks rom work store budget text = listed_as (refused_line why) marks work store text
-judged_as Passes marks rom work store budget text = ran_as marks (started_of rom (open_of rom work store) budget) text
+abbrev pub judged_as : Result (Unit {0}) ℕ → List ℕ → List ℕ → List ℕ → List ℕ → ℕ → List ℕ → Listed
+judged_as (Err why) marks rom work store budget text = listed_as (refused_line why) marks work store text
+judged_as (Ok tt) marks rom work store budget text = ran_as marks (started_of rom (open_of rom work store) budget) text
 
 -- a text buffer of the wrong size gets nothing written, here and anywhere else
-unfoldable pub list_with : Verdict → List ℕ → List ℕ → List ℕ → List ℕ → List ℕ → ℕ → List ℕ → Listed
+unfoldable pub list_with : Result (Unit {0}) ℕ → List ℕ → List ℕ → List ℕ → List ℕ → List ℕ → ℕ → List ℕ → Listed
 list_with verdict after rom marks work store budget text =
     pick (wrong_text text) (listed_with 0 marks work store text)
     (pick (wrong_buffer marks work store) (listed_as (refused_line 6) marks work store text)
@@ -59,5 +57,5 @@ list_with verdict after rom marks work store budget text =
 -- so there is one listing (`one_listing`, Laws/Listing.antt).
 abbrev pub Lists : List ℕ → List ℕ → List ℕ → List ℕ → ℕ → List ℕ → Listed → Type 0
 Lists rom marks work store budget text l =
-    (verdict : Verdict) × (after : List ℕ) × Promised rom marks verdict after
+    (verdict : Result (Unit {0}) ℕ) × (after : List ℕ) × Promised rom marks verdict after
     × (l ≡ list_with verdict after rom marks work store budget text)

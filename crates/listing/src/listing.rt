@@ -10,7 +10,7 @@ ghost use Rattle.rom.specs.Sizes.{work_size, store_size, text_size};
 use lines::{refused_text, run_text};
 use machine::run;
 use rom::sizes::{MARKS_SIZE, STORE_SIZE, TEXT_SIZE, WORK_SIZE};
-use screen::{Verdict, screen};
+use screen::screen;
 use state::{number_of, open};
 
 // Opens a ROM that passed, runs it, and writes what it left. The states that it holds are in no frame while the ROM is screened.
@@ -22,13 +22,9 @@ fn list_run(rom: &[u8], work: &mut [u8], store: &mut [u8], budget: u32, text: &m
         (open_of (fcode_of rom.now) work.old store.old) budget)
         text.old result work.new store.new text.new }
 {
-    let opened = open(rom, &mut *work, &mut *store);
-    let st = opened.state;
-    let r = run(rom, &mut *work, &mut *store, st, budget);
-    let left = r.state;
-    let tree = left.tree;
-    let answer = r.answer;
-    run_text(text, &*store, tree, r.count, number_of(answer))
+    let opened = open(rom, work, store);
+    let r = run(rom, work, store, opened.state, budget);
+    run_text(text, store, r.state.tree, r.count, number_of(r.answer))
 }
 
 // Screens a ROM, runs it if it passes, and writes the listing into `text`: its length, one zero behind it, and what lies behind that as it
@@ -59,7 +55,7 @@ pub fn list(
         return refused_text(text, 6);
     }
     match screen(rom, marks) {
-        Verdict::Passes => list_run(rom, work, store, budget, text),
-        Verdict::Refused(why) => refused_text(text, why),
+        Ok(()) => list_run(rom, work, store, budget, text),
+        Err(why) => refused_text(text, why.number()),
     }
 }

@@ -1,5 +1,5 @@
 -- Demand 3 and what follows beside it, proved. Assumes nothing.
-use Rattle.std.specs.Prelude.{ℕ, ◌+◌, ◌≤◌, ◌≡◌, refl, List, [], length, replicate, eqb}
+use Rattle.std.specs.Prelude.{ℕ, ◌+◌, ◌≤◌, ◌≡◌, refl, List, [], length, replicate, eqb, Err, Ok}
 use Rattle.std.proofs.Common.{arith, sym, ap, subst, ◌∙◌}
 use Rattle.std.proofs.lemmas.List.{length-replicate}
 use Rattle.cells.specs.Laws.Tests.{when_is}
@@ -7,22 +7,21 @@ use Rattle.rom.specs.Sizes.{work_size, store_size}
 use Rattle.rom.specs.Header.{header_of}
 use Rattle.screen.specs.Rules.{Assignment}
 use Rattle.screen.specs.Promise.{Marks, Promised, wrong_size, bad_header, no_heights, passes}
-use Rattle.screen.specs.declared.screening.Verdict.TheVariants.{Passes, Refused as Rejects}
 use Rattle.state.specs.Scene.{Scene, scene, Turn, turn, handed_back}
 use Rattle.state.specs.Open.{fresh_state, open_refusal, open_of}
 use Rattle.state.specs.Step.{token_turn}
 use Rattle.state.specs.Run.{RunResult, told_ran, run_of}
 use Rattle.state.specs.Laws.Keeps.Whole.{not_going}
 use Rattle.state.specs.declared.state.State.{State}
-use Rattle.state.specs.declared.answer.Answer.{Answer}
-use Rattle.state.specs.declared.answer.Answer.TheVariants.{Going, Finished, Refused, Spent}
+use Rattle.state.specs.Answer.{Answer}
+use Rattle.state.specs.Answer.{Going, Finished, Refused, Spent}
 use Rattle.promise.specs.Trail.{Allowed, finished, spent, refused, start, RunEnds, finishes, stops, runs_out, OpenCall}
 use Rattle.promise.proofs.Steps.{Fine}
 use Rattle.promise.proofs.Running.{trail_arrived, trail_ends, ends_trail, stands_high, steps_so}
 use Rattle.promise.specs.Demand3.{Exactly, Opened, SeenRun, Demand3, TrailOf, Counted, HeightsByMarks, Came, Resumed, AllowedStep}
 use Rattle.promise.specs.Demand3.{Stepwise, first, again, goes, ends, refuses}
 
-refused_not_pass : {why : ℕ} → Rejects why ≡ Passes → ⊥
+refused_not_pass : {why : ℕ} → Err why ≡ (Ok tt) → ⊥
 refused_not_pass e = let z : ◌≡◌ {A = ℕ} 0 1 = cc in omega arith
 
 exactly : Exactly
@@ -37,7 +36,7 @@ pub record Passed (rom marks : List ℕ) : Type 0 where
   pub assignment : Assignment rom
   pub marked : Marks rom assignment marks
 
-pub passed : {rom before marks : List ℕ} → Promised rom before Passes marks → Passed rom marks
+pub passed : {rom before marks : List ℕ} → Promised rom before (Ok tt) marks → Passed rom marks
 passed (passes l h a m) = record { header = h; assignment = a; marked = m }
 
 -- what opening hands back with `Going` is the fresh state, and both memories zeroed

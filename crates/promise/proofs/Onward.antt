@@ -1,6 +1,6 @@
 -- A token that is carried out and does not finish leaves a state that stands as the assignment says: what all tokens have in common, and
 -- the two that change the call chain. Assumes nothing.
-use Rattle.std.specs.Prelude.{ℕ, suc, ◌+◌, ◌-◌, ◌≤◌, ◌<◌, ◌≡◌, refl, Bool, true, false, not, ◌||◌, List, [], ◌∷◌, T, get_or}
+use Rattle.std.specs.Prelude.{ℕ, suc, ◌+◌, ◌-◌, ◌≤◌, ◌<◌, ◌≡◌, refl, Bool, true, false, not, ◌||◌, List, [], ◌∷◌, T, get_or, Ok}
 use Rattle.std.proofs.Common.{arith, sym, ap, subst, ◌∙◌, T_not, eqb→eq, get_or-set_same, get_or-set_other}
 use Rattle.cells.specs.Laws.Facts.{holds, fails, is_true, neither, or_first, or_second}
 use Rattle.rom.specs.Header.{length_of}
@@ -8,7 +8,6 @@ use Rattle.tokens.specs.Family.{finish, always, choice, leave, define, assign, c
 use Rattle.tokens.specs.Code.{family_in, gives_in, return_takes_in, return_gives_in}
 use Rattle.tokens.specs.Definition.{takes_here}
 use Rattle.tokens.specs.declared.decoding.Token.{Token}
-use Rattle.tokens.specs.declared.read.Read.TheVariants.{Good}
 use Rattle.state.specs.Laws.Sized.{SizedCalls}
 use Rattle.state.specs.Effects.{framed_of, unframed_of, entered_of, left_body_of}
 use Rattle.state.specs.Numbers.{seek_of}
@@ -104,7 +103,7 @@ module _ {rom : List ℕ} (a : Assignment rom) where
   home_on (within c g y z w v) m f l h n = record { home = _; chain = within c g y z w v; at = tt; numbers = n }
 
   module _ (work store : List ℕ) (open_calls : List OpenCall) (st : State) (g : Standing a open_calls st) (t : Token)
-      (is : token_at rom g.text g.setting.wide st.place ≡ Good t) where
+      (is : token_at rom g.text g.setting.wide st.place ≡ Ok t) where
     abbrev met : Met rom g.text g.setting st.place t
     met = record { reach = g.reach; is = is }
 

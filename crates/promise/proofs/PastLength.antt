@@ -1,5 +1,5 @@
 -- Bytes past the length are ignored, proved. Assumes nothing.
-use Rattle.std.specs.Prelude.{ℕ, ◌≤◌, ◌≡◌, refl, List, eqb}
+use Rattle.std.specs.Prelude.{ℕ, ◌≤◌, ◌≡◌, refl, List, eqb, Err, Ok, Result}
 use Rattle.std.proofs.Common.{arith, sym, ap, ◌∙◌}
 use Rattle.cells.specs.Choice.{pick}
 use Rattle.cells.specs.Laws.Tests.{when_is}
@@ -13,8 +13,6 @@ use Rattle.state.specs.Run.{RunResult}
 use Rattle.state.specs.Laws.Past.{same_open_refusal, same_open, alike_read, alike_sees, same_step, same_run}
 use Rattle.screen.proofs.Exact.Exactly.{one_result}
 use Rattle.screen.specs.Laws.Rules.Past.{heights_there, same_heights, promised_there}
-use Rattle.screen.specs.declared.screening.Verdict.{Verdict}
-use Rattle.screen.specs.declared.screening.Verdict.TheVariants.{Passes, Refused}
 use Rattle.lines.specs.Lines.{refused_line}
 use Rattle.lines.specs.Told.{wrong_text}
 use Rattle.listing.specs.Listing.{Listed, listed_with, listed_as, wrong_buffer, started_of, ran_as, judged_as, list_with, Lists}
@@ -58,12 +56,12 @@ module _ {rom other : List ℕ} (a : Alike rom other) (work store : List ℕ) (b
       pick (eqb (same_open_refusal (alike_programs a) work store i) 0) (host_ran (same_started i))
       (host_run (same_open_refusal (alike_programs a) work store i) 0 work store)
 
-  same_judged : (v : Verdict) (after text : List ℕ)
+  same_judged : (v : Result (Unit {0}) ℕ) (after text : List ℕ)
       → judged_as v after rom work store budget text ≡ judged_as v after other work store budget text
-  same_judged Passes after text = ap (λ (o : RunResult). ran_as after o text) same_started
-  same_judged (Refused why) after text = refl
+  same_judged (Ok tt) after text = ap (λ (o : RunResult). ran_as after o text) same_started
+  same_judged (Err why) after text = refl
 
-  same_list : (v : Verdict) (after marks text : List ℕ)
+  same_list : (v : Result (Unit {0}) ℕ) (after marks text : List ℕ)
       → list_with v after rom marks work store budget text ≡ list_with v after other marks work store budget text
   unfolding list_with
   same_list v after marks text =

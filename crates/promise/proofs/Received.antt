@@ -1,5 +1,5 @@
 -- What C receives and with what a listing starts, proved. Assumes nothing.
-use Rattle.std.specs.Prelude.{ℕ, ◌≤◌, ◌≡◌, refl, Bool, true, false, not, List, length, get_or, take, T, eqb}
+use Rattle.std.specs.Prelude.{ℕ, ◌≤◌, ◌≡◌, refl, Bool, true, false, not, List, length, get_or, take, T, eqb, Err}
 use Rattle.std.proofs.Common.{arith, sym, ap, subst, ◌∙◌, inl, inr, eq-eqb}
 use Rattle.std.proofs.Math.Seq.{take-append_seam}
 use Rattle.cells.specs.Choice.{pick}
@@ -9,7 +9,6 @@ use Rattle.rom.specs.Sum.{sum_of}
 use Rattle.rom.specs.Header.{start_of, format_of, checksum_of, length_of, wrong_rom, wrong_length, header_of}
 use Rattle.state.specs.Run.{RunResult}
 use Rattle.screen.specs.Promise.{Promised, wrong_size, bad_header, no_heights, passes}
-use Rattle.screen.specs.declared.screening.Verdict.TheVariants.{Refused}
 use Rattle.lines.specs.Lines.{refused_line, pass_line, run_text}
 use Rattle.listing.specs.Listing.{wrong_buffer, run_words}
 use Rattle.promise.specs.Shown.{run_here, Shown, wrong_buffer_lem, refused_rom, screen_pass}
@@ -66,7 +65,7 @@ module _ (rom marks work store : List ℕ) where
           rw (eq-eqb (length marks) marks_size k.0, eq-eqb (length work) work_size k.1, eq-eqb (length store) store_size k.2)
   shown_judged budget (refused_rom {n} b p) = refused_judged n (λ k. not_refused p k)
     where
-      not_refused : {after : List ℕ} {n : ℕ} → Promised rom marks (Refused n) after → Listable rom marks work store → ⊥
+      not_refused : {after : List ℕ} {n : ℕ} → Promised rom marks (Err n) after → Listable rom marks work store → ⊥
       not_refused (wrong_size f) k = f k.0
       not_refused (bad_header m f) k = f k.3
       not_refused (no_heights m h f) k = f k.4

@@ -1,6 +1,6 @@
 -- A token that may stand where it stands meets, in a state that stands as the assignment says, no refusal but 21 to 27: 12 to 17, 19 and 20
 -- one by one, and those of a body that is read. Assumes nothing.
-use Rattle.std.specs.Prelude.{ℕ, suc, ◌+◌, ◌-◌, ◌≤◌, ◌<◌, ◌≡◌, refl, Bool, true, false, not, ◌&&◌, ◌||◌, List, [], ◌∷◌, get_or, ltb, leb}
+use Rattle.std.specs.Prelude.{ℕ, suc, ◌+◌, ◌-◌, ◌≤◌, ◌<◌, ◌≡◌, refl, Bool, true, false, not, ◌&&◌, ◌||◌, List, [], ◌∷◌, get_or, ltb, leb, None, Ok, Some}
 use Rattle.std.specs.Prelude.{eqb}
 use Rattle.std.proofs.Common.{arith, sym, ap, subst, ◌∙◌, T_not, eqb→eq, le-ltb, eq-eqb, ne_eqb}
 use Rattle.std.proofs.Math.Dec.{T}
@@ -9,7 +9,6 @@ use Rattle.cells.specs.Laws.Tests.{pick_is, when_is}
 use Rattle.cells.specs.Laws.Facts.{holds, fails, is_true, is_false, both_hold, neither}
 use Rattle.rom.specs.Sizes.{data_most, return_most, frames_most, numbers_most, nodes_most}
 use Rattle.rom.specs.Header.{length_of}
-use Rattle.rom.specs.declared.branch.Aim.TheVariants.{Inside, Outside}
 use Rattle.tokens.specs.Family.{plain, always, choice, pick_up, roll_up, maybe, leave, define, assign, call, new_device}
 use Rattle.tokens.specs.Family.{finish_device}
 use Rattle.tokens.specs.Code.{code_of, family_in, takes_in, gives_in, return_takes_in, return_gives_in}
@@ -18,8 +17,7 @@ use Rattle.tokens.specs.Definition.{colon, value, new_number, kind_in, of_kind, 
 use Rattle.tokens.specs.declared.decoding.Operand.{Operand}
 use Rattle.tokens.specs.declared.decoding.Operand.TheVariants.{Nothing, Literal, Text, Branch, Number, Definition}
 use Rattle.tokens.specs.declared.decoding.Token.{Token}
-use Rattle.tokens.specs.declared.read.Read.TheVariants.{Good}
-use Rattle.tokens.specs.declared.body.Body.TheVariants.{Ends}
+use Rattle.tokens.specs.Body.{Ends}
 use Rattle.tokens.specs.Laws.Stands.{stands}
 use Rattle.tree.specs.Node.{no_room, outermost}
 use Rattle.tree.specs.declared.tree.Tree.{Tree}
@@ -71,8 +69,8 @@ leads_in : (o : Operand) → T (not (no_places (aims o))) → T (not (leads_out 
 leads_in Nothing h = tt
 leads_in (Literal n) h = tt
 leads_in (Text start count) h = tt
-leads_in (Branch bits (Inside to)) h = tt
-leads_in (Branch bits Outside) h = absurd h
+leads_in (Branch bits (Some to)) h = tt
+leads_in (Branch bits None) h = absurd h
 leads_in (Number n) h = tt
 leads_in (Definition n k) h = tt
 
@@ -108,7 +106,7 @@ defined_here {rom} a {p} {s} {t} m d = by (is_colon t) refl
 -- ---- a token that is met where a state stands
 module _ {rom : List ℕ} (a : Assignment rom) (work store : List ℕ) (open_calls : List OpenCall) (st : State) (g : Standing a open_calls st)
     (t : Token)
-    (is : token_at rom g.text g.setting.wide st.place ≡ Good t) where
+    (is : token_at rom g.text g.setting.wide st.place ≡ Ok t) where
   abbrev s : Scene
   s = scene rom work store st
 

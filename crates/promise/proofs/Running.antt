@@ -2,7 +2,7 @@
 -- Assumes nothing.
 use Prim.Native.Nat.{ℕ, zero, suc, ◌+◌, ◌≤◌}
 use native.Mathlib.Omega.{arith}
-use Rattle.std.specs.Prelude.{◌≡◌, Bool, not, List, [], length, eqb}
+use Rattle.std.specs.Prelude.{◌≡◌, Bool, not, List, [], length, eqb, Ok, Result}
 use Rattle.std.proofs.Math.Path.{refl, subst}
 use Rattle.std.proofs.Common.{sym, ap, ◌∙◌}
 use Rattle.std.proofs.Math.Dec.{T}
@@ -11,8 +11,6 @@ use Rattle.rom.specs.Sizes.{work_size, store_size}
 use Rattle.rom.specs.Header.{header_of, wide_of}
 use Rattle.tokens.specs.Place.{read_of}
 use Rattle.tokens.specs.declared.decoding.Token.{Token}
-use Rattle.tokens.specs.declared.read.Read.{Read}
-use Rattle.tokens.specs.declared.read.Read.TheVariants.{Good}
 use Rattle.state.specs.Scene.{Scene, scene, refuse}
 use Rattle.state.specs.Refusals.{refusal_of}
 use Rattle.state.specs.Effects.{act_of}
@@ -25,8 +23,8 @@ use Rattle.state.specs.Laws.Sized.{Sized, fresh_sized}
 use Rattle.state.specs.Laws.Steps.{refused_keeps, keeps, run_tokens, step_going, tokens_from}
 use Rattle.state.specs.declared.state.State.{State}
 use Rattle.state.specs.declared.state.Calls.{Calls}
-use Rattle.state.specs.declared.answer.Answer.{Answer}
-use Rattle.state.specs.declared.answer.Answer.TheVariants.{Going, Finished, Refused, Spent}
+use Rattle.state.specs.Answer.{Answer}
+use Rattle.state.specs.Answer.{Going, Finished, Refused, Spent}
 use Rattle.screen.specs.Reach.{Setting, setting, token_at, Holds, Reach}
 use Rattle.screen.specs.Promise.{Marks}
 use Rattle.screen.specs.Laws.Rules.Ways.{effect_call}
@@ -47,7 +45,7 @@ pub record Steady {rom : List ℕ} (a : Assignment rom) (open_calls : List OpenC
   pub ready : ready_of (scene rom work store st) ≡ Going
 
 -- the same place read with the same length and width
-same_read : (rom : List ℕ) {m n : ℕ} {v w x y : Bool} (p : ℕ) (r : Read) → m ≡ n → v ≡ w → x ≡ y → read_of rom n w y p ≡ r
+same_read : (rom : List ℕ) {m n : ℕ} {v w x y : Bool} (p : ℕ) (r : Result Token ℕ) → m ≡ n → v ≡ w → x ≡ y → read_of rom n w y p ≡ r
     → read_of rom m v x p ≡ r
 same_read rom p r e f g h = rw (e, f, g) h
 
@@ -63,11 +61,11 @@ module _ {rom : List ℕ} (a : Assignment rom) where
     many = (whole_facts st (ready_facts s k.ready).1).0.tree.nodes_least
 
     -- 10, 18 and 11 are not met
-    reads_well : (t : Token) × (token_at rom g.text g.setting.wide st.place ≡ Good t)
+    reads_well : (t : Token) × (token_at rom g.text g.setting.wide st.place ≡ Ok t)
     reads_well = a.whole g.reach
 
     -- the token is refused by data alone, or carried out
-    done_fine : (t : Token) → token_at rom g.text g.setting.wide st.place ≡ Good t → FineTurn a open_calls st (done_of s t)
+    done_fine : (t : Token) → token_at rom g.text g.setting.wide st.place ≡ Ok t → FineTurn a open_calls st (done_of s t)
     unfolding done_of
     done_fine t is =
         when_is (FineTurn a open_calls st) (eqb (refusal_of s t) 0) (act_of s t) (refuse (refusal_of s t) s)
@@ -82,7 +80,7 @@ module _ {rom : List ℕ} (a : Assignment rom) where
     unfolding token_turn
     token_fine =
         let t = reads_well in
-        rw (same_read rom st.place (Good t.0) g.size g.wide (open_is a g.chain) t.1) (done_fine t.0 t.1)
+        rw (same_read rom st.place (Ok t.0) g.size g.wide (open_is a g.chain) t.1) (done_fine t.0 t.1)
 
     -- and the next token finds the state so
     pub next_steady : (token_turn s).answer ≡ Going

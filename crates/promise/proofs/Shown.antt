@@ -1,5 +1,5 @@
 -- What the lamp shows, proved. Assumes nothing.
-use Rattle.std.specs.Prelude.{ℕ, ◌≤◌, ◌≡◌, not, List, length, T, eqb}
+use Rattle.std.specs.Prelude.{ℕ, ◌≤◌, ◌≡◌, not, List, length, T, eqb, Err, Ok, Result}
 use Rattle.std.proofs.Common.{arith, sym, ap, subst, eq-eqb}
 use Rattle.std.proofs.Math.Path.{refl}
 use Rattle.cells.specs.Laws.Tests.{pick_is}
@@ -11,10 +11,8 @@ use Rattle.state.specs.Open.{open_of}
 use Rattle.state.specs.Run.{RunResult, ran_of}
 use Rattle.state.specs.Joints.Moves.{stepped}
 use Rattle.state.specs.Laws.Keeps.Open.{open_good}
-use Rattle.state.specs.declared.answer.Answer.{Answer}
+use Rattle.state.specs.Answer.{Answer}
 use Rattle.screen.specs.Promise.{Promised, wrong_size, bad_header, no_heights, verdict_number}
-use Rattle.screen.specs.declared.screening.Verdict.{Verdict}
-use Rattle.screen.specs.declared.screening.Verdict.TheVariants.{Passes, Refused}
 use Rattle.lines.specs.Lines.{refused_line}
 use Rattle.listing.specs.Listing.{wrong_buffer, run_words, judged_as, list_with}
 use Rattle.host.specs.Host.{host_run_of}
@@ -34,7 +32,7 @@ module _ (rom marks work store : List ℕ) (budget : ℕ) (w : length work ≡ w
   abbrev pub run : RunResult
   run = run_here rom work store budget
 
-  module _ {after : List ℕ} (p : Promised rom marks Passes after) where
+  module _ {after : List ℕ} (p : Promised rom marks (Ok tt) after) where
     pub opened : Opened
     opened =
         record {
@@ -76,10 +74,10 @@ module _ (rom marks work store : List ℕ) (budget : ℕ) (w : length work ≡ w
     closes = (closing (demand_3.1 seen), (counted seen).1)
 
   -- by the screen's verdict
-  shown_judged : T (not (wrong_buffer marks work store)) → (v : Verdict) (after text : List ℕ) → Promised rom marks v after
+  shown_judged : T (not (wrong_buffer marks work store)) → (v : Result (Unit {0}) ℕ) (after text : List ℕ) → Promised rom marks v after
       → ShownIn rom marks work store budget text (judged_as v after rom work store budget text)
-  shown_judged b (Refused n) after text p = (refused_line n, refused_rom b p, refl, refl)
-  shown_judged b Passes after text p = let c = closes p in (run_words run, screen_pass b p c.1 c.0, refl, refl)
+  shown_judged b (Err n) after text p = (refused_line n, refused_rom b p, refl, refl)
+  shown_judged b (Ok tt) after text p = let c = closes p in (run_words run, screen_pass b p c.1 c.0, refl, refl)
 
 -- the three buffers beside the text have their sizes
 pub right_buffers : (marks work store : List ℕ) → T (not (wrong_buffer marks work store))
@@ -101,14 +99,14 @@ person_sees rom marks work store text budget l e (v, after, p, q) = subst (Shown
         (λ b. let r = right_buffers marks work store b in shown_judged rom marks work store budget r.1 r.2 b v after text p))
 
 -- no verdict but a pass has the number 0
-zero_passes : {rom before after : List ℕ} (v : Verdict) → Promised rom before v after → verdict_number v ≡ 0 → v ≡ Passes
-zero_passes Passes p e = refl
-zero_passes (Refused n) (wrong_size h) e = absurd (omega arith)
-zero_passes (Refused n) (bad_header l h) e = absurd (h e)
-zero_passes (Refused n) (no_heights l h f) e = absurd (omega arith)
+zero_passes : {rom before after : List ℕ} (v : Result (Unit {0}) ℕ) → Promised rom before v after → verdict_number v ≡ 0 → v ≡ (Ok tt)
+zero_passes (Ok tt) p e = refl
+zero_passes (Err n) (wrong_size h) e = absurd (omega arith)
+zero_passes (Err n) (bad_header l h) e = absurd (h e)
+zero_passes (Err n) (no_heights l h f) e = absurd (omega arith)
 
 pub host_sees : HostSees
 unfolding host_run_of
 host_sees rom marks after work store budget (v, e, k) w s =
-    let p : Promised rom marks Passes after = subst (λ v. Promised rom marks v after) (zero_passes v k (sym e)) k in
+    let p : Promised rom marks (Ok tt) after = subst (λ v. Promised rom marks v after) (zero_passes v k (sym e)) k in
     rw (eq-eqb (length work) work_size w, eq-eqb (length store) store_size s, (passed p).header) (closes rom marks work store budget w s p)

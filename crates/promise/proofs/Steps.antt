@@ -1,6 +1,6 @@
 -- A token of a passed ROM, family by family: it is refused by 21 to 27, finishes the run, or leaves a state that stands as the assignment
 -- says. Assumes nothing.
-use Rattle.std.specs.Prelude.{ℕ, suc, ◌+◌, ◌-◌, ◌≤◌, ◌<◌, ◌≡◌, Bool, true, false, not, ◌&&◌, ◌||◌, leb, eqb, length}
+use Rattle.std.specs.Prelude.{ℕ, suc, ◌+◌, ◌-◌, ◌≤◌, ◌<◌, ◌≡◌, Bool, true, false, not, ◌&&◌, ◌||◌, leb, eqb, length, None, Ok, Some}
 use Rattle.std.proofs.Common.{arith, sym, ap, subst, ◌∙◌, eqb→eq, get_or-set_same, get_or-set_other, eq-eqb, ne_eqb, lt-ltb, le-ltb}
 use Rattle.std.proofs.Math.Path.{refl}
 use mathlib.Core.List.{List, [], ◌∷◌, ◌++◌}
@@ -9,7 +9,6 @@ use Rattle.cells.specs.Choice.{pick}
 use Rattle.cells.specs.Laws.Tests.{tests, pick_is, neqb→ne}
 use Rattle.cells.specs.Laws.Facts.{holds, fails, is_false, both_hold, neither}
 use Rattle.rom.specs.Header.{length_of}
-use Rattle.rom.specs.declared.branch.Aim.TheVariants.{Inside, Outside}
 use Rattle.tokens.specs.Family.{plain, finish, always, choice, text, widen, divide, pick_up, roll_up, maybe, leave, fetch, store, define}
 use Rattle.tokens.specs.Family.{kind, assign, call}
 use Rattle.tokens.specs.Family.{encode_int, encode_string, join, property, titled, new_device, finish_device}
@@ -20,7 +19,6 @@ use Rattle.tokens.specs.Definition.{colon, value, variable, new_number, kind_in,
 use Rattle.tokens.specs.declared.decoding.Operand.{Operand}
 use Rattle.tokens.specs.declared.decoding.Operand.TheVariants.{Nothing, Literal, Text, Branch, Number, Definition}
 use Rattle.tokens.specs.declared.decoding.Token.{Token}
-use Rattle.tokens.specs.declared.read.Read.TheVariants.{Good}
 use Rattle.tokens.specs.Laws.Stands.{stands}
 use Rattle.tree.specs.Whole.{parent_of}
 use Rattle.tree.specs.Property.{recorded_of, tree_put}
@@ -40,8 +38,8 @@ use Rattle.state.specs.Laws.Keeps.Tests.{◌▸◌}
 use Rattle.state.specs.Laws.Keeps.Tree.{put_nodes}
 use Rattle.state.specs.Laws.Keeps.Token.{takes_by, gives_by, shape, no_returns}
 use Rattle.state.specs.declared.state.State.{State}
-use Rattle.state.specs.declared.answer.Answer.{Answer}
-use Rattle.state.specs.declared.answer.Answer.TheVariants.{Going, Finished, Refused, Spent}
+use Rattle.state.specs.Answer.{Answer}
+use Rattle.state.specs.Answer.{Going, Finished, Refused, Spent}
 use Rattle.screen.specs.Effect.{is_a, fixes, is_colon, aims, no_places, is_branch, both_ways, leads_of, effect_of}
 use Rattle.screen.specs.Reach.{In, here, there, in_body, token_at, extends, leads, Holds}
 use Rattle.screen.specs.Rules.{Assignment}
@@ -96,8 +94,8 @@ to_aim : (o : Operand) → T (not (no_places (aims o))) → In (aimed o) (aims o
 to_aim Nothing h = absurd h
 to_aim (Literal n) h = absurd h
 to_aim (Text start count) h = absurd h
-to_aim (Branch bits (Inside to)) h = here
-to_aim (Branch bits Outside) h = absurd h
+to_aim (Branch bits (Some to)) h = here
+to_aim (Branch bits None) h = absurd h
 to_aim (Number n) h = absurd h
 to_aim (Definition n k) h = absurd h
 
@@ -107,8 +105,8 @@ either_way : (next : ℕ) (o : Operand) → T (not (no_places (aims o))) → In 
 either_way next Nothing h = absurd h
 either_way next (Literal n) h = absurd h
 either_way next (Text start count) h = absurd h
-either_way next (Branch bits (Inside to)) h = (here, there here)
-either_way next (Branch bits Outside) h = absurd h
+either_way next (Branch bits (Some to)) h = (here, there here)
+either_way next (Branch bits None) h = absurd h
 either_way next (Number n) h = absurd h
 either_way next (Definition n k) h = absurd h
 
@@ -181,7 +179,7 @@ same_calls {rom} {a} {open_calls} {then} st e g =
 
 module _ {rom : List ℕ} (a : Assignment rom) (work stored : List ℕ) (open_calls : List OpenCall) (st : State) (z : Sized st)
     (many : 2 ≤ st.tree.nodes)
-    (g : Standing a open_calls st) (t : Token) (is : token_at rom g.text g.setting.wide st.place ≡ Good t) where
+    (g : Standing a open_calls st) (t : Token) (is : token_at rom g.text g.setting.wide st.place ≡ Ok t) where
   abbrev s : Scene
   s = scene rom work stored st
 

@@ -1,18 +1,16 @@
 -- Demand 3 is not empty: every bench ROM of the table that passes is one of which it speaks, and the one that divides by zero is refused
 -- with 21. Assumes nothing.
-use Rattle.std.specs.Prelude.{ℕ, ◌≡◌, refl, Bool, true, List, ◌∷◌, T, eqb}
+use Rattle.std.specs.Prelude.{ℕ, ◌≡◌, refl, Bool, true, List, ◌∷◌, T, eqb, Err, Ok, Result}
 use Rattle.std.proofs.Common.{sym, ap, eqb→eq}
 use Rattle.std.proofs.Math.Path.{subst}
 use Rattle.cells.specs.Laws.Facts.{holds, and_first, and_second}
 use Rattle.screen.specs.Laws.Found.Screen.{screened_of}
 use Rattle.screen.specs.Promise.{Promised}
 use Rattle.screen.proofs.Exact.Exactly.{promise_kept}
-use Rattle.screen.specs.declared.screening.Verdict.{Verdict}
-use Rattle.screen.specs.declared.screening.Verdict.TheVariants.{Passes, Refused as Rejects}
 use Rattle.state.specs.Open.{open_of}
 use Rattle.listing.specs.Listing.{started_of}
-use Rattle.state.specs.declared.answer.Answer.{Answer}
-use Rattle.state.specs.declared.answer.Answer.TheVariants.{Going, Finished, Refused, Spent}
+use Rattle.state.specs.Answer.{Answer}
+use Rattle.state.specs.Answer.{Going, Finished, Refused, Spent}
 use Rattle.promise.specs.Laws.Table.{Case, cases, same_answer, same_verdict, ends_so, screens, runs, agrees, every}
 use Rattle.promise.specs.Laws.Table.{lent_marks, lent_work, lent_store}
 use Rattle.promise.proofs.Table.{claim}
@@ -29,17 +27,17 @@ among_holds : (f : Case → Bool) {c : Case} {cs : List Case} → every f cs ≡
 among_holds f {c} e (here {cs}) = and_first (f c) (every f cs) e
 among_holds f e (there {b} {cs} a) = among_holds f (and_second (f b) (every f cs) e) a
 
-same_passes : (v : Verdict) → same_verdict v Passes ≡ true → v ≡ Passes
+same_passes : (v : Result (Unit {0}) ℕ) → same_verdict v (Ok tt) ≡ true → v ≡ (Ok tt)
 unfolding same_verdict
-same_passes Passes e = refl
-same_passes (Rejects n) e = absurd (subst T (sym e) tt)
+same_passes (Ok tt) e = refl
+same_passes (Err n) e = absurd (subst T (sym e) tt)
 
 -- a case that passes was seen to
-module _ {c : Case} (a : AmongRows c cases) (p : c.verdict ≡ Passes) where
+module _ {c : Case} (a : AmongRows c cases) (p : c.verdict ≡ (Ok tt)) where
   agreed : agrees c ≡ true
   agreed = among_holds agrees claim a
 
-  pub passes_so : Promised c.rom lent_marks Passes (screened_of c.rom lent_marks).marks
+  pub passes_so : Promised c.rom lent_marks (Ok tt) (screened_of c.rom lent_marks).marks
   passes_so =
       let e = and_first (screens c) (runs c) agreed in
       let s = screened_of c.rom lent_marks in

@@ -12,28 +12,26 @@
 -- asks that the three are called with the same ROM, that opening was not refused, and that the run is lent memory of the sizes that opening
 -- had. How it is proved: Laws/Standing.antt says how the state stands before each token, and proofs/Running.antt that it always does.
 -- Assumes nothing.
-use Rattle.std.specs.Prelude.{ℕ, ◌+◌, ◌≤◌, ◌≡◌, ◌↔◌, List, length}
+use Rattle.std.specs.Prelude.{ℕ, ◌+◌, ◌≤◌, ◌≡◌, ◌↔◌, List, length, Ok, Result}
 use Rattle.rom.specs.Sizes.{marks_size}
 use Rattle.rom.specs.Header.{header_of}
 use Rattle.screen.specs.Rules.{Assignment}
 use Rattle.screen.specs.Promise.{Promised}
-use Rattle.screen.specs.declared.screening.Verdict.{Verdict}
-use Rattle.screen.specs.declared.screening.Verdict.TheVariants.{Passes}
 use Rattle.state.specs.Scene.{Scene, scene, handed_back}
 use Rattle.state.specs.Open.{open_of}
 use Rattle.state.specs.Step.{token_turn, step_of}
 use Rattle.state.specs.Run.{RunResult, told_ran, run_of}
-use Rattle.state.specs.declared.answer.Answer.{Answer}
-use Rattle.state.specs.declared.answer.Answer.TheVariants.{Going, Finished, Refused}
-use Rattle.state.specs.declared.answer.Stepped.{Stepped}
-use Rattle.state.specs.declared.answer.Ran.{Ran}
+use Rattle.state.specs.Answer.{Answer}
+use Rattle.state.specs.Answer.{Going, Finished, Refused}
+use Rattle.state.specs.Answer.{Stepped}
+use Rattle.state.specs.Answer.{Ran}
 use Rattle.promise.specs.Trail.{DependsOnData, Allowed, Trail, RunEnds, HeightIs, OpenCall}
 
 -- whatever `screen(rom, marks)` answers for a ROM with a good header and a mark buffer of its size: the contract in screen/src/screening.rt
 abbrev pub Exactly : Type 0
-Exactly = (rom before after : List ℕ) (verdict : Verdict) → length before ≡ marks_size → header_of rom ≡ 0
+Exactly = (rom before after : List ℕ) (verdict : Result (Unit {0}) ℕ) → length before ≡ marks_size → header_of rom ≡ 0
     → Promised rom before verdict after
-    → (verdict ≡ Passes) ↔ Assignment rom
+    → (verdict ≡ (Ok tt)) ↔ Assignment rom
 
 -- What a caller saw who screened a ROM and opened it: each call with what its contract says of it.
 pub record Opened : Type 0 where
@@ -41,7 +39,7 @@ pub record Opened : Type 0 where
   -- `screen(rom, marks)` answered that the ROM passes: the contract in screen/src/screening.rt
   pub before : List ℕ
   pub marks : List ℕ
-  pub screened : Promised rom before Passes marks
+  pub screened : Promised rom before (Ok tt) marks
   -- `open(rom, work, store)` handed back a fresh state: the contract in state/src/opening.rt
   pub work : List ℕ
   pub store : List ℕ

@@ -12,7 +12,7 @@
 -- It is said of what the contracts of `check_header`, `screen`, `open`, `step`, `run` and of the calls from C promise, and so it holds
 -- of whatever code meets them. `Alike` and `AlikeTo` are in rom/specs/Alike.antt. Every ROM with a good header is alike to what is
 -- left of it without the bytes past its length (`cut_alike`, rom/specs/Laws/Past.antt). Assumes nothing.
-use Rattle.std.specs.Prelude.{ℕ, ◌≡◌, List}
+use Rattle.std.specs.Prelude.{ℕ, ◌≡◌, List, Result}
 use Rattle.rom.specs.Header.{header_of}
 use Rattle.rom.specs.Alike.{AlikeTo, Alike}
 use Rattle.state.specs.Scene.{scene}
@@ -22,7 +22,6 @@ use Rattle.state.specs.Run.{run_of}
 use Rattle.state.specs.declared.state.State.{State}
 use Rattle.screen.specs.Rules.{Assignment}
 use Rattle.screen.specs.Promise.{Promised}
-use Rattle.screen.specs.declared.screening.Verdict.{Verdict}
 use Rattle.listing.specs.Listing.{Listed, Lists}
 use Rattle.host.specs.Host.{host_run_of}
 
@@ -38,7 +37,7 @@ HeightsAlike = (rom other : List ℕ) → Alike rom other → (h : Assignment ro
 
 -- whatever `screen(rom, marks)` answers for the two, with the same mark buffer
 abbrev pub Screens : Type 0
-Screens = (rom other before after after' : List ℕ) (v v' : Verdict) → Alike rom other → Promised rom before v after
+Screens = (rom other before after after' : List ℕ) (v v' : Result (Unit {0}) ℕ) → Alike rom other → Promised rom before v after
     → Promised other before v' after' → (v ≡ v') × (after ≡ after')
 
 -- a step, whatever the state

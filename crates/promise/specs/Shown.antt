@@ -4,13 +4,12 @@
 -- `fcode_run` with buffers of their sizes gives 0, 28, or a number from 21 to 27, and no more steps than the budget. Both are said of
 -- what the contracts of `list` (listing/src/listing.rt), `fcode_list`, `fcode_screen` and `fcode_run` (host/src/lib.rt) promise: of
 -- `fcode_run` the definition that it is an equation with, of the others any result that the screen's promise allows. Assumes nothing.
-use Rattle.std.specs.Prelude.{ℕ, ◌≤◌, ◌≡◌, not, List, length, T}
+use Rattle.std.specs.Prelude.{ℕ, ◌≤◌, ◌≡◌, not, List, length, T, Err, Ok}
 use Rattle.rom.specs.Sizes.{work_size, store_size, text_size}
 use Rattle.state.specs.Scene.{answer_number}
 use Rattle.state.specs.Open.{open_of}
 use Rattle.state.specs.Run.{RunResult}
 use Rattle.screen.specs.Promise.{Promised}
-use Rattle.screen.specs.declared.screening.Verdict.TheVariants.{Passes, Refused}
 use Rattle.lines.specs.Lines.{refused_line}
 use Rattle.lines.specs.Told.{filled}
 use Rattle.listing.specs.Listing.{Listed, wrong_buffer, started_of, run_words, Lists}
@@ -31,9 +30,9 @@ run_here rom work store budget = started_of rom (open_of rom work store) budget
 -- its count and its end
 pub data Shown (rom marks work store : List ℕ) (budget : ℕ) : List ℕ → Type 0 where
   wrong_buffer_lem : T (wrong_buffer marks work store) → Shown rom marks work store budget (refused_line 6)
-  refused_rom : {n : ℕ} {after : List ℕ} → T (not (wrong_buffer marks work store)) → Promised rom marks (Refused n) after
+  refused_rom : {n : ℕ} {after : List ℕ} → T (not (wrong_buffer marks work store)) → Promised rom marks (Err n) after
       → Shown rom marks work store budget (refused_line n)
-  screen_pass : {after : List ℕ} → T (not (wrong_buffer marks work store)) → Promised rom marks Passes after
+  screen_pass : {after : List ℕ} → T (not (wrong_buffer marks work store)) → Promised rom marks (Ok tt) after
       → (run_here rom work store budget).count ≤ budget → Closing (answer_number (run_here rom work store budget).answer)
       → Shown rom marks work store budget (run_words (run_here rom work store budget))
 

@@ -10,13 +10,12 @@
 --
 -- It is said of what the contracts of `screen`, `open`, `step` and `run` promise, which speak of `fcode_of` of the ROM that is lent;
 -- that of the other is its bytes as they are. Assumes nothing.
-use Rattle.std.specs.Prelude.{ℕ, zero, suc, ◌≤◌, ◌≡◌, Bool, true, false, ◌||◌, List, length, eqb}
+use Rattle.std.specs.Prelude.{ℕ, zero, suc, ◌≤◌, ◌≡◌, Bool, true, false, ◌||◌, List, length, eqb, Ok, Result}
 use Rattle.rom.specs.Spread.{is_spread, fcode_of, unspread_of}
 use Rattle.rom.specs.Header.{header_of, wrong_rom}
 use Rattle.tokens.specs.Family.{fetch, encode_string, property, titled}
 use Rattle.tokens.specs.Place.{read_of}
 use Rattle.tokens.specs.declared.decoding.Token.{Token}
-use Rattle.tokens.specs.declared.read.Read.TheVariants.{Good}
 use Rattle.memory.specs.Window.{rom_base, range_of}
 use Rattle.memory.specs.declared.window.Window.{Window}
 use Rattle.memory.specs.declared.window.Window.TheVariants.{Rom, Work, Nowhere}
@@ -27,9 +26,8 @@ use Rattle.state.specs.Step.{token_turn, step_of}
 use Rattle.state.specs.Run.{then, run_of}
 use Rattle.state.specs.Open.{open_of}
 use Rattle.state.specs.declared.state.State.{State}
-use Rattle.state.specs.declared.answer.Answer.TheVariants.{Going}
+use Rattle.state.specs.Answer.{Going}
 use Rattle.screen.specs.Promise.{Promised}
-use Rattle.screen.specs.declared.screening.Verdict.{Verdict}
 
 -- ---- what a token may not do
 -- a range that lies in the ROM's window, an empty one too
@@ -57,7 +55,7 @@ touches s t = fetches_start s t || resolves_rom s t
 
 -- the token at the state's place does neither
 abbrev pub Untouched : Scene → Type 0
-Untouched s = (t : Token) → read_of s.rom s.state.length s.state.wide (is_open s.state.calls) s.state.place ≡ Good t
+Untouched s = (t : Token) → read_of s.rom s.state.length s.state.wide (is_open s.state.calls) s.state.place ≡ Ok t
     → touches s t ≡ false
 
 -- nor do so many from there on, or fewer where the run ends before
@@ -80,7 +78,7 @@ OpensSo = (rom : List ℕ) → SpreadRom rom → (header_of (fcode_of rom) ≡ h
     × ((work store : List ℕ) → open_of (fcode_of rom) work store ≡ open_of (fcode_of (other_of rom)) work store)
 
 abbrev pub ScreensSo : Type 0
-ScreensSo = (rom before after after' : List ℕ) (v v' : Verdict) → SpreadRom rom → Promised (fcode_of rom) before v after
+ScreensSo = (rom before after after' : List ℕ) (v v' : Result (Unit {0}) ℕ) → SpreadRom rom → Promised (fcode_of rom) before v after
     → Promised (fcode_of (other_of rom)) before v' after' → (v ≡ v') × (after ≡ after')
 
 abbrev pub StepsSo : Type 0

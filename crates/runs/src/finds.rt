@@ -5,7 +5,7 @@ use given::bytes_from;
 use rom::sizes::NODES_MOST;
 use state::{State, find_node_in, find_property_in, node_table_in, property_value_in};
 use std::io;
-use tree::{NodeSought, Tree, ValueSought, find_node, find_property, node_table, property_value};
+use tree::{Tree, ValueSought, find_node, find_property, node_table, property_value};
 
 // What the rows hold before they are filled.
 const OLD: u32 = 0xA5A5_A5A5;
@@ -15,7 +15,7 @@ trait Searched: Copy {
     // The word that stands before what is said of it.
     const OF: &'static str;
 
-    fn node(self, store: &[u8], path: &[u8]) -> NodeSought;
+    fn node(self, store: &[u8], path: &[u8]) -> Result<u32, u32>;
 
     fn place(self, store: &[u8], path: &[u8], name: &[u8]) -> ValueSought;
 
@@ -27,7 +27,7 @@ trait Searched: Copy {
 impl Searched for State {
     const OF: &'static str = "state ";
 
-    fn node(self, store: &[u8], path: &[u8]) -> NodeSought {
+    fn node(self, store: &[u8], path: &[u8]) -> Result<u32, u32> {
         find_node_in(store, self, path)
     }
 
@@ -47,7 +47,7 @@ impl Searched for State {
 impl Searched for Tree {
     const OF: &'static str = "";
 
-    fn node(self, store: &[u8], path: &[u8]) -> NodeSought {
+    fn node(self, store: &[u8], path: &[u8]) -> Result<u32, u32> {
         find_node(store, self, path)
     }
 
@@ -66,8 +66,8 @@ impl Searched for Tree {
 
 fn show_node<S: Searched>(rt: &impl Print, store: &[u8], of: S, path: &[u8]) -> io::Result<()> {
     match of.node(store, path) {
-        NodeSought::Node(k) => print!(rt; " node {k}"),
-        NodeSought::Refused(why) => print!(rt; " {why}"),
+        Ok(k) => print!(rt; " node {k}"),
+        Err(why) => print!(rt; " {why}"),
     }
 }
 

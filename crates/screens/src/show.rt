@@ -1,5 +1,4 @@
 // A ROM screened, and what the mark buffer holds then.
-use screen::Verdict;
 use std::io;
 
 // What a mark buffer holds before it is screened with.
@@ -9,8 +8,8 @@ const OLD: u8 = 0xAA;
 fn number_of(rom: &[u8], marks: &mut [u8]) -> u32 {
     let verdict = screen::screen(rom, marks);
     match verdict {
-        Verdict::Passes => 0,
-        Verdict::Refused(why) => why,
+        Ok(()) => 0,
+        Err(why) => why,
     }
 }
 

@@ -1,9 +1,10 @@
-use Rattle.std.proofs.Common.{ap, sym}
+use Rattle.std.proofs.Common.{ap, sym, ◌∙◌}
+use Rattle.rom.specs.Refusal.{numbered}
 use Rattle.screen.specs.Promise.{verdict_number}
 use Rattle.host.proofs.fcode_screen.Goals as goal
 
-pub returns-in-Passes : goal.returns-in-Passes
-returns-in-Passes c = (c.screen.result, ap verdict_number (sym c.in-Passes.is), c.screen.ensures)
+pub returns-in-Ok : goal.returns-in-Ok
+returns-in-Ok c = (numbered c.screen.result, ap (λ r. verdict_number (numbered r)) (sym c.in-Ok.is), c.screen.ensures)
 
-pub returns-in-Refused : goal.returns-in-Refused
-returns-in-Refused c = (c.screen.result, ap verdict_number (sym c.in-Refused.is), c.screen.ensures)
+pub returns-in-Err : goal.returns-in-Err
+returns-in-Err c = (numbered c.screen.result, c.number.ensures ∙ ap (λ r. verdict_number (numbered r)) (sym c.in-Err.is), c.screen.ensures)

@@ -1,6 +1,6 @@
 -- Laws of the token list: the parts of an operand lie in order; the lines show the bytes of the program, every byte once and in order;
 -- written one by one they are the list; and none is longer than `line_most`. Assumes nothing.
-use Rattle.std.specs.Prelude.{ℕ, zero, suc, ◌+◌, ◌*◌, ◌-◌, ◌/◌, ◌%◌, ◌≤◌, ◌<◌, Bool, ◌||◌, ◌≡◌, length, drop, ltb, leb, eqb}
+use Rattle.std.specs.Prelude.{ℕ, zero, suc, ◌+◌, ◌*◌, ◌-◌, ◌/◌, ◌%◌, ◌≤◌, ◌<◌, Bool, ◌||◌, ◌≡◌, length, drop, ltb, leb, eqb, None, Option, Some}
 use Rattle.std.proofs.Math.Decide.{dec_lt}
 use native.Mathlib.Omega.{arith}
 use mathlib.Core.List.{List, [], ◌∷◌, ◌++◌, append-nil}
@@ -12,8 +12,6 @@ use Rattle.rom.specs.Words.{letters_of}
 use Rattle.rom.specs.Header.{header_of, length_of, wide_of}
 use Rattle.rom.specs.Laws.Header.{header_facts}
 use Rattle.rom.specs.Sizes.{rom_most}
-use Rattle.rom.specs.declared.branch.Aim.{Aim}
-use Rattle.rom.specs.declared.branch.Aim.TheVariants.{Inside, Outside}
 use Rattle.tree.specs.Laws.Layout.{part_join}
 use Rattle.tokens.specs.Row.{string, head, named_head}
 use Rattle.tokens.specs.Code.{code_of, form_in}
@@ -333,10 +331,10 @@ unfolding place_text hex_of
 length_place p = let a = length-append (high_digits p) (hex_of (p / 256 % 256 ∷ p % 256 ∷ [])) in let b = length_high p in omega arith
 
 -- the remarks
-length_aim : (aim : Aim) → length (aim_remark aim) ≤ 27
+length_aim : (aim : Option ℕ) → length (aim_remark aim) ≤ 27
 unfolding letters_of
-length_aim (Inside to) = let a = length_place to in omega arith
-length_aim Outside = omega arith
+length_aim (Some to) = let a = length_place to in omega arith
+length_aim None = omega arith
 
 length_branch : (o : Operand) → length (branch_remark o) ≤ 27
 length_branch Nothing = omega arith

@@ -1,5 +1,5 @@
 -- What the listing comes to, by its tests, and that it always fits its buffer, with the zero behind it. Assumes nothing.
-use Rattle.std.specs.Prelude.{ℕ, ◌+◌, ◌≤◌, ◌<◌, true, not, List, ◌∷◌, ◌≡◌, drop, eqb}
+use Rattle.std.specs.Prelude.{ℕ, ◌+◌, ◌≤◌, ◌<◌, true, not, List, ◌∷◌, ◌≡◌, drop, eqb, Err, Ok, Result}
 use Rattle.std.proofs.Common.{arith, ap, sym, subst, ◌∙◌, length-append}
 use Rattle.std.proofs.Math.ListN.{length}
 use borrow.Author.Tests.{eq-eqb, ne_eqb}
@@ -13,13 +13,11 @@ use Rattle.state.specs.Open.{open_of}
 use Rattle.state.specs.Run.{RunResult, told_ran}
 use Rattle.state.specs.Laws.Keeps.Open.{open_good}
 use Rattle.state.specs.Laws.Steps.{Left, run_left}
-use Rattle.state.specs.declared.answer.Ran.{Ran}
-use Rattle.state.specs.declared.answer.Stepped.{Stepped}
+use Rattle.state.specs.Answer.{Ran}
+use Rattle.state.specs.Answer.{Stepped}
 use Rattle.screen.specs.Laws.Found.Screen.{screened_of}
 use Rattle.screen.specs.Promise.{Promised, passes}
 use Rattle.screen.proofs.Exact.Exactly.{promise_kept, one_result}
-use Rattle.screen.specs.declared.screening.Verdict.{Verdict}
-use Rattle.screen.specs.declared.screening.Verdict.TheVariants.{Passes, Refused}
 use Rattle.lines.specs.Lines.{refused_line, run_text}
 use Rattle.lines.specs.Told.{Told, told, filled, told_as, wrong_text, refused_told, run_told}
 use Rattle.lines.specs.Laws.Fits.{fits, refused_fits}
@@ -43,7 +41,7 @@ module _ (rom marks work store : List ℕ) (budget : ℕ) (text : List ℕ) {l :
   pub one_listing : Lists rom marks work store budget text l → l ≡ list_of rom marks work store budget text
   one_listing (v, after, p, e) =
       let k = one_result p (promise_kept rom marks) in
-      e ∙ ap (λ (y : Verdict). list_with y after rom marks work store budget text) k.0
+      e ∙ ap (λ (y : Result (Unit {0}) ℕ). list_with y after rom marks work store budget text) k.0
       ∙ ap (λ (y : List ℕ). list_with (screened_of rom marks).verdict y rom marks work store budget text) k.1
 
 -- ---- a text in a buffer of the right size
@@ -112,20 +110,20 @@ module _ (rom marks work store : List ℕ) (budget : ℕ) (text : List ℕ) wher
       )
 
       -- by the screen's promise
-      by_verdict : (v : Verdict) (m : List ℕ) → Promised rom marks v m → whole ≡ judged_as v m rom work store budget text
+      by_verdict : (v : Result (Unit {0}) ℕ) (m : List ℕ) → Promised rom marks v m → whole ≡ judged_as v m rom work store budget text
       by_verdict v m p =
           let k = one_result (promise_kept rom marks) p in
-          judged ∙ ap (λ (y : Verdict). judged_as y (screened_of rom marks).marks rom work store budget text) k.0
+          judged ∙ ap (λ (y : Result (Unit {0}) ℕ). judged_as y (screened_of rom marks).marks rom work store budget text) k.0
           ∙ ap (λ (y : List ℕ). judged_as v y rom work store budget text) k.1
 
-      pub refused : (why : ℕ) (m : List ℕ) → Promised rom marks (Refused why) m → (then : List ℕ) (n : ℕ)
+      pub refused : (why : ℕ) (m : List ℕ) → Promised rom marks (Err why) m → (then : List ℕ) (n : ℕ)
           → told n then ≡ refused_told text why
           → listed_with n m work store then ≡ whole
-      refused why m p then n g = as_refused why m then n g ∙ sym (by_verdict (Refused why) m p)
+      refused why m p then n g = as_refused why m then n g ∙ sym (by_verdict (Err why) m p)
 
-      pub passed : (m : List ℕ) → Promised rom marks Passes m → (v u then : List ℕ) (n : ℕ)
+      pub passed : (m : List ℕ) → Promised rom marks (Ok tt) m → (v u then : List ℕ) (n : ℕ)
           → ListedRun (started_of rom (open_of rom work store) budget) text n v u then → listed_with n m v u then ≡ whole
-      passed m p v u then n l = rw (l.0, l.1, l.2, l.3) (sym (by_verdict Passes m p))
+      passed m p v u then n l = rw (l.0, l.1, l.2, l.3) (sym (by_verdict (Ok tt) m p))
 
 -- ---- which buffer is wrong
 module _ (marks work store : List ℕ) where
@@ -140,18 +138,18 @@ module _ (marks work store : List ℕ) where
   wrong_store a b n = rw (eq-eqb (length marks) marks_size a, eq-eqb (length work) work_size b, ne_eqb (length store) store_size n)
 
 -- ---- the promise at a verdict that is known; a ROM that passes has a good header
-pub judged_as_lem : (rom marks : List ℕ) {v w : Verdict} (m : List ℕ) → Promised rom marks v m → v ≡ w → Promised rom marks w m
-judged_as_lem rom marks m p e = subst (λ (v : Verdict). Promised rom marks v m) e p
+pub judged_as_lem : (rom marks : List ℕ) {v w : Result (Unit {0}) ℕ} (m : List ℕ) → Promised rom marks v m → v ≡ w → Promised rom marks w m
+judged_as_lem rom marks m p e = subst (λ (v : Result (Unit {0}) ℕ). Promised rom marks v m) e p
 
-pub passed_header : {rom marks m : List ℕ} → Promised rom marks Passes m → header_of rom ≡ 0
+pub passed_header : {rom marks m : List ℕ} → Promised rom marks (Ok tt) m → header_of rom ≡ 0
 passed_header (passes s h a k) = h
 
 -- ---- that it always fits: a whole tree is what the run of a passed ROM leaves
 module _ (rom marks work store : List ℕ) (budget : ℕ) (text : List ℕ) where
-  judged_fits : length work ≡ work_size → length store ≡ store_size → (v : Verdict) (m : List ℕ) → Promised rom marks v m
+  judged_fits : length work ≡ work_size → length store ≡ store_size → (v : Result (Unit {0}) ℕ) (m : List ℕ) → Promised rom marks v m
       → (judged_as v m rom work store budget text).size < text_size
-  judged_fits b c (Refused why) m p = refused_fits why
-  judged_fits b c Passes m p = fits _ _ _ _ (left rom work store budget (passed_header p) b c).tree
+  judged_fits b c (Err why) m p = refused_fits why
+  judged_fits b c (Ok tt) m p = fits _ _ _ _ (left rom work store budget (passed_header p) b c).tree
 
   pub listing_fits : (list_of rom marks work store budget text).size < text_size
   unfolding list_with
@@ -183,9 +181,9 @@ module _ (rom marks work store : List ℕ) (budget : ℕ) (text : List ℕ) wher
       filled_covers : (words : List ℕ) → length words ≤ length (filled text words)
       filled_covers words = let l = length-append words (0 ∷ drop (length words + 1) text) in omega arith
 
-      judged : (v : Verdict) → Inside (judged_as v (screened_of rom marks).marks rom work store budget text)
-      judged Passes = filled_covers (run_words (started_of rom (open_of rom work store) budget))
-      judged (Refused why) = filled_covers (refused_line why)
+      judged : (v : Result (Unit {0}) ℕ) → Inside (judged_as v (screened_of rom marks).marks rom work store budget text)
+      judged (Ok tt) = filled_covers (run_words (started_of rom (open_of rom work store) budget))
+      judged (Err why) = filled_covers (refused_line why)
 
   pub and_inside : {m w s t : List ℕ} {n : ℕ} → listed_with n m w s t ≡ list_of rom marks work store budget text
       → Lists rom marks work store budget text (listed_with n m w s t) × (n ≤ length t)

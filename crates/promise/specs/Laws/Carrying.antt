@@ -12,7 +12,7 @@ use Rattle.tokens.specs.Body.{kind_of, unknown_of, body_of}
 use Rattle.tokens.specs.Laws.Tokens.{next_ahead, body_ends, body_goes}
 use Rattle.tokens.specs.Definition.{colon, value, constant, new_number, kind_in}
 use Rattle.tokens.specs.declared.decoding.Token.{Token}
-use Rattle.tokens.specs.declared.body.Body.TheVariants.{Ends}
+use Rattle.tokens.specs.Body.{Ends}
 use Rattle.state.specs.Numbers.{seek_from, seek_of, is_held, kind_of_byte, kind_at, kind_held, kinds_of, defined_of, assigned_of}
 use Rattle.state.specs.Laws.Seeking.{program_bounds, kind_got}
 use Rattle.state.specs.Laws.Sized.{SizedNumbers}

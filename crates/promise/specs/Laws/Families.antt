@@ -1,5 +1,5 @@
 -- Every token that may stand where it stands has a family of which the evaluator knows what it does. Assumes nothing.
-use Rattle.std.specs.Prelude.{ℕ, ◌≡◌, refl, Bool, true, false, not, ◌||◌, List, [], ◌∷◌, T, eqb}
+use Rattle.std.specs.Prelude.{ℕ, ◌≡◌, refl, Bool, true, false, not, ◌||◌, List, [], ◌∷◌, T, eqb, Err, Ok, Result}
 use Rattle.std.proofs.Common.{subst, T_not, eqb-true}
 use Rattle.cells.specs.Choice.{pick, find}
 use Rattle.cells.specs.Laws.Tests.{pick_is}
@@ -14,8 +14,6 @@ use Rattle.tokens.specs.Laws.Tokens.{decoded_is}
 use Rattle.tokens.specs.declared.decoding.Token.{Token}
 use Rattle.tokens.specs.declared.decoding.Decoded.{Decoded}
 use Rattle.tokens.specs.declared.decoding.Decoded.TheVariants.{Cut, Unlisted, Whole}
-use Rattle.tokens.specs.declared.read.Read.{Read}
-use Rattle.tokens.specs.declared.read.Read.TheVariants.{Refused, Good}
 use Rattle.tokens.specs.Laws.Stands.{stands}
 use Rattle.state.specs.Effects.{effects}
 use Rattle.state.specs.Laws.Keeps.Tests.{EachAt}
@@ -46,14 +44,14 @@ module _ (rom : List ℕ) (len : ℕ) (wide within : Bool) (p : ℕ) where
       decoded_is ListedTo rom len wide p tt
       (λ h l. (both_hold (not (eqb (code_of (number_of rom p)) 0)) (formed o) l).0) (λ h. tt)
 
-  abbrev ListedAs : Read → Type 0
-  ListedAs (Refused why) = Unit {0}
-  ListedAs (Good t) = T (not (eqb t.code 0))
+  abbrev ListedAs : Result Token ℕ → Type 0
+  ListedAs (Err why) = Unit {0}
+  ListedAs (Ok t) = T (not (eqb t.code 0))
 
   judged_listed : (d : Decoded) → ListedTo d → ListedAs (judged within d)
   judged_listed Cut h = tt
   judged_listed (Unlisted code) h = tt
-  judged_listed (Whole t) h = pick_is ListedAs (misplaced_of t.code within) (Refused 18) (Good t) (λ m. tt) (λ m. h)
+  judged_listed (Whole t) h = pick_is ListedAs (misplaced_of t.code within) (Err 18) (Ok t) (λ m. tt) (λ m. h)
 
   read_listed : ListedAs (read_of rom len wide within p)
   unfolding read_of
@@ -71,7 +69,7 @@ always_out : (c : ℕ) (within : Bool) → out_of_place_in c ≡ everywhere → 
 unfolding misplaced_of
 always_out c within e h = rw e at h
 
-pub family_known : (rom : List ℕ) (len : ℕ) (wide within : Bool) (p : ℕ) (t : Token) → read_of rom len wide within p ≡ Good t
+pub family_known : (rom : List ℕ) (len : ℕ) (wide within : Bool) (p : ℕ) (t : Token) → read_of rom len wide within p ≡ Ok t
     → T (has_entry (family_in t.code) effects)
 family_known rom len wide within p t e =
     let s = stands rom len wide within p t e in

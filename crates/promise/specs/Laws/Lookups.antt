@@ -1,5 +1,5 @@
 -- Paths and lookups, run on cases. Assumes nothing.
-use Rattle.std.specs.Prelude.{ℕ, true, false, List, [], ◌∷◌, ◌++◌, ◌≡◌, refl, replicate}
+use Rattle.std.specs.Prelude.{ℕ, true, false, List, [], ◌∷◌, ◌++◌, ◌≡◌, refl, replicate, Err, Ok}
 use Rattle.rom.specs.Words.{letters_of}
 use Rattle.tree.specs.Held.{held_from, live_among, same_bytes, found_from}
 use Rattle.tree.specs.Whole.{every_below, whole_tree}
@@ -10,8 +10,7 @@ use Rattle.tree.specs.Path.{named_place}
 use Rattle.tree.specs.Path.{find_property_of, property_value_of}
 use Rattle.tree.specs.Rows.{count_from, column_from, parents_of, counts_of}
 use Rattle.tree.specs.declared.tree.Tree.{Tree}
-use Rattle.tree.specs.declared.lookup.NodeSought.TheVariants.{Node, Refused}
-use Rattle.tree.specs.declared.lookup.ValueSought.TheVariants.{Value, Refused as Unfound}
+use Rattle.tree.specs.Sought.{Value, Unfound}
 
 -- the forms of a path
 root_good : malformed (letters_of "/") ≡ false
@@ -56,45 +55,45 @@ store =
 tree : Tree
 tree = tree_of (0 ∷ 0 ∷ 0 ∷ 2 ∷ 1 ∷ 0 ∷ []) 6 (1 ∷ 2 ∷ 3 ∷ 4 ∷ 1 ∷ []) (4 ∷ 4 ∷ 4 ∷ 4 ∷ 1 ∷ []) (2 ∷ 1 ∷ 1 ∷ 1 ∷ 3 ∷ []) 5
 
-root_found : find_node_of tree store (letters_of "/") ≡ Node 0
+root_found : find_node_of tree store (letters_of "/") ≡ Ok 0
 unfolding find_node_of down_from child_from value_in held_from same_bytes less_null malformed split_of any_empty whole_tree every_below
     live_among
     letters_of store tree
 root_found = refl
 
 -- "the oldest match at each level"
-oldest_found : find_node_of tree store (letters_of "/a") ≡ Node 1
+oldest_found : find_node_of tree store (letters_of "/a") ≡ Ok 1
 unfolding find_node_of down_from child_from value_in held_from same_bytes less_null malformed split_of any_empty whole_tree every_below
     live_among
     letters_of store tree
 oldest_found = refl
 
-nullless_found : find_node_of tree store (letters_of "/a/d") ≡ Node 4
+nullless_found : find_node_of tree store (letters_of "/a/d") ≡ Ok 4
 unfolding find_node_of down_from child_from value_in held_from same_bytes less_null malformed split_of any_empty whole_tree every_below
     live_among
     letters_of store tree
 nullless_found = refl
 
 -- "no going back": node 2 has the child that is asked for
-younger_passed : find_node_of tree store (letters_of "/a/c") ≡ Refused 30
+younger_passed : find_node_of tree store (letters_of "/a/c") ≡ Err 30
 unfolding find_node_of down_from child_from value_in held_from same_bytes less_null malformed split_of any_empty whole_tree every_below
     live_among
     letters_of store tree
 younger_passed = refl
 
-form_refused : find_node_of tree store (letters_of "/a/") ≡ Refused 29
+form_refused : find_node_of tree store (letters_of "/a/") ≡ Err 29
 unfolding find_node_of down_from child_from value_in held_from same_bytes less_null malformed split_of any_empty whole_tree every_below
     live_among
     letters_of store tree
 form_refused = refl
 
-size_refused : find_node_of tree [] (letters_of "/") ≡ Refused 6
+size_refused : find_node_of tree [] (letters_of "/") ≡ Err 6
 unfolding find_node_of down_from child_from value_in held_from same_bytes less_null malformed split_of any_empty whole_tree every_below
     live_among
     letters_of store tree
 size_refused = refl
 
-damaged_refused : find_node_of no_tree store (letters_of "a") ≡ Refused 7
+damaged_refused : find_node_of no_tree store (letters_of "a") ≡ Err 7
 unfolding find_node_of down_from child_from value_in held_from same_bytes less_null malformed split_of any_empty whole_tree every_below
     live_among
     letters_of store tree
@@ -131,7 +130,7 @@ unfolding find_property_of named_place found_from find_node_of down_from child_f
     whole_tree every_below live_among letters_of store tree
 bad_name_missing = refl
 
-bad_part_missing : find_node_of tree store (letters_of "/A:[a]") ≡ Refused 30
+bad_part_missing : find_node_of tree store (letters_of "/A:[a]") ≡ Err 30
 unfolding find_node_of down_from child_from value_in held_from same_bytes less_null malformed split_of any_empty whole_tree every_below
     live_among
     letters_of store tree

@@ -1,6 +1,6 @@
 -- A step, as document 01 numbers it: it says the refusal that is computed for it, or 0, and nothing besides; and so does a token. No token
 -- that is read is refused but for what is computed of it. Assumes nothing.
-use Rattle.std.specs.Prelude.{ℕ, Bool, true, false, [], ◌∷◌, ◌≡◌, refl, T, eqb}
+use Rattle.std.specs.Prelude.{ℕ, Bool, true, false, [], ◌∷◌, ◌≡◌, refl, T, eqb, Err, Ok, Result}
 use Rattle.std.proofs.Common.{sym, ap, ◌∙◌, eqb-true}
 use Rattle.cells.specs.Choice.{pick}
 use Rattle.cells.specs.Numbered.{gives, refuses}
@@ -10,8 +10,6 @@ use Rattle.tokens.specs.Definition.{colon, value, variable, kind_in}
 use Rattle.tokens.specs.Place.{read_of}
 use Rattle.rom.specs.Header.{wrong_rom, wrong_length}
 use Rattle.tokens.specs.declared.decoding.Token.{Token}
-use Rattle.tokens.specs.declared.read.Read.{Read}
-use Rattle.tokens.specs.declared.read.Read.TheVariants.{Refused as Unread, Good}
 use Rattle.state.specs.Scene.{Scene}
 use Rattle.state.specs.State.{is_open}
 use Rattle.state.specs.Whole.{damaged_of}
@@ -24,7 +22,7 @@ use Rattle.state.specs.Laws.Steps.{step_going, finished_stays, step_refused}
 use Rattle.state.specs.Laws.Done.{carried, stopped}
 use Rattle.state.specs.Numbered.{answer_says}
 use Rattle.state.specs.Laws.Numbered.{ready_refusal, read_refusal, token_refusal, step_refusal}
-use Rattle.state.specs.declared.answer.Answer.TheVariants.{Going, Finished, Refused}
+use Rattle.state.specs.Answer.{Going, Finished, Refused}
 use Rattle.promise.specs.Laws.Families.{has_entry, find_in, family_known}
 
 -- a token that is carried out says 0
@@ -63,10 +61,10 @@ pub token_says : (s : Scene) → answer_says (token_turn s).answer ≡ refuses (
 unfolding token_turn
 token_says s = by (read_of s.rom s.state.length s.state.wide (is_open s.state.calls) s.state.place) refl
   where
-    by : (r : Read) → read_of s.rom s.state.length s.state.wide (is_open s.state.calls) s.state.place ≡ r
+    by : (r : Result Token ℕ) → read_of s.rom s.state.length s.state.wide (is_open s.state.calls) s.state.place ≡ r
         → answer_says (read_turn s r).answer ≡ refuses (read_refusal s r)
-    by (Unread why) e = refl
-    by (Good t) e =
+    by (Err why) e = refl
+    by (Ok t) e =
         done_says s t (family_known s.rom s.state.length s.state.wide (is_open s.state.calls) s.state.place t e)
 
 -- where nothing is known before it, the token's

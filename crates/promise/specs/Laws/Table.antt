@@ -1,6 +1,6 @@
 -- The bench ROMs of document 01 that are "proved of the definitions, as a single table under a single claim", and the one that
 -- document 02 adds: each is screened, opened and run, and the screen and the run end as they are said to. Assumes nothing.
-use Rattle.std.specs.Prelude.{ℕ, ◌≡◌, refl, Bool, true, false, ◌&&◌, List, [], ◌∷◌, length, replicate, take, eqb}
+use Rattle.std.specs.Prelude.{ℕ, ◌≡◌, refl, Bool, true, false, ◌&&◌, List, [], ◌∷◌, length, replicate, take, eqb, Err, Ok, Result}
 use Rattle.std.proofs.Common.{◌∙◌}
 use Rattle.std.proofs.lemmas.List.{length-replicate}
 use Rattle.cells.specs.Arithmetic.{ashift_of}
@@ -32,48 +32,46 @@ use Rattle.screen.specs.Laws.Found.Model.{visit_of}
 use Rattle.screen.specs.Laws.Found.Model.{token_visit, sound_of, fits_of, sum_at}
 use Rattle.screen.specs.Laws.Found.Screen.{verdict_on, judged_of, screened_of}
 use Rattle.screen.specs.Laws.Code.Screen.{screen_judged}
-use Rattle.screen.specs.declared.screening.Verdict.{Verdict}
-use Rattle.screen.specs.declared.screening.Verdict.TheVariants.{Passes, Refused as Rejects}
 use Rattle.screen.specs.Laws.Found.Cell.{cell_with, heights_in, mark_in, moved_cell}
 use Rattle.screen.specs.Laws.Found.Sums.{packed_sum, unpacked_sum}
-use Rattle.state.specs.declared.answer.Answer.{Answer}
-use Rattle.state.specs.declared.answer.Answer.TheVariants.{Going, Finished, Refused, Spent}
+use Rattle.state.specs.Answer.{Answer}
+use Rattle.state.specs.Answer.{Going, Finished, Refused, Spent}
 
 -- a ROM, what the screen says of it, a budget, and what the run says: its answer, how many tokens it carried out, and the cells that it
 -- leaves, the lowest first
 pub record Case : Type 0 where
   pub rom : List ℕ
-  pub verdict : Verdict
+  pub verdict : Result (Unit {0}) ℕ
   pub budget : ℕ
   pub answer : Answer
   pub steps : ℕ
   pub leaves : List ℕ
 
-abbrev pub case : List ℕ → Verdict → ℕ → Answer → ℕ → List ℕ → Case
+abbrev pub case : List ℕ → Result (Unit {0}) ℕ → ℕ → Answer → ℕ → List ℕ → Case
 case rom verdict budget answer steps leaves =
     record { rom = rom; verdict = verdict; budget = budget; answer = answer; steps = steps; leaves = leaves }
 
 abbrev pub cases : List Case
 cases =
-    case (0xFD ∷ 0x08 ∷ 0x00 ∷ 0x00 ∷ 0x00 ∷ 0x00 ∷ 0x00 ∷ 0x09 ∷ 0x00 ∷ []) Passes 1000 Finished 1 [] ∷
-    case (0xFD ∷ 0x08 ∷ 0x00 ∷ 0x46 ∷ 0x00 ∷ 0x00 ∷ 0x00 ∷ 0x0A ∷ 0x46 ∷ 0x00 ∷ []) (Rejects 31) 1000 (Refused 14) 0 [] ∷
-    case (0xFD ∷ 0x08 ∷ 0x01 ∷ 0x76 ∷ 0x00 ∷ 0x00 ∷ 0x00 ∷ 0x0C ∷ 0xA6 ∷ 0xA5 ∷ 0x2B ∷ 0x00 ∷ []) Passes 1000 (Refused 21) 2 (1 ∷ 0 ∷ []) ∷
-    case (0xFD ∷ 0x08 ∷ 0x01 ∷ 0x12 ∷ 0x00 ∷ 0x00 ∷ 0x00 ∷ 0x0B ∷ 0x13 ∷ 0xFF ∷ 0x00 ∷ []) Passes 1000 (Spent 1000) 1000 [] ∷
-    case (0xFD ∷ 0x08 ∷ 0x00 ∷ 0x13 ∷ 0x00 ∷ 0x00 ∷ 0x00 ∷ 0x0A ∷ 0x13 ∷ 0x00 ∷ []) (Rejects 31) 1000 Finished 2 [] ∷
-    case (0xFD ∷ 0x08 ∷ 0x00 ∷ 0xF6 ∷ 0x00 ∷ 0x00 ∷ 0x00 ∷ 0x0B ∷ 0xA6 ∷ 0x50 ∷ 0x00 ∷ []) (Rejects 31) 1000 Finished 3 (1 ∷ 1 ∷ []) ∷
+    case (0xFD ∷ 0x08 ∷ 0x00 ∷ 0x00 ∷ 0x00 ∷ 0x00 ∷ 0x00 ∷ 0x09 ∷ 0x00 ∷ []) (Ok tt) 1000 Finished 1 [] ∷
+    case (0xFD ∷ 0x08 ∷ 0x00 ∷ 0x46 ∷ 0x00 ∷ 0x00 ∷ 0x00 ∷ 0x0A ∷ 0x46 ∷ 0x00 ∷ []) (Err 31) 1000 (Refused 14) 0 [] ∷
+    case (0xFD ∷ 0x08 ∷ 0x01 ∷ 0x76 ∷ 0x00 ∷ 0x00 ∷ 0x00 ∷ 0x0C ∷ 0xA6 ∷ 0xA5 ∷ 0x2B ∷ 0x00 ∷ []) (Ok tt) 1000 (Refused 21) 2 (1 ∷ 0 ∷ []) ∷
+    case (0xFD ∷ 0x08 ∷ 0x01 ∷ 0x12 ∷ 0x00 ∷ 0x00 ∷ 0x00 ∷ 0x0B ∷ 0x13 ∷ 0xFF ∷ 0x00 ∷ []) (Ok tt) 1000 (Spent 1000) 1000 [] ∷
+    case (0xFD ∷ 0x08 ∷ 0x00 ∷ 0x13 ∷ 0x00 ∷ 0x00 ∷ 0x00 ∷ 0x0A ∷ 0x13 ∷ 0x00 ∷ []) (Err 31) 1000 Finished 2 [] ∷
+    case (0xFD ∷ 0x08 ∷ 0x00 ∷ 0xF6 ∷ 0x00 ∷ 0x00 ∷ 0x00 ∷ 0x0B ∷ 0xA6 ∷ 0x50 ∷ 0x00 ∷ []) (Err 31) 1000 Finished 3 (1 ∷ 1 ∷ []) ∷
     -- no token stands behind the last: 10
-    case (0xFD ∷ 0x08 ∷ 0x01 ∷ 0x73 ∷ 0x00 ∷ 0x00 ∷ 0x00 ∷ 0x0B ∷ 0xA4 ∷ 0xA6 ∷ 0x29 ∷ []) (Rejects 31) 1000 (Refused 10) 3
+    case (0xFD ∷ 0x08 ∷ 0x01 ∷ 0x73 ∷ 0x00 ∷ 0x00 ∷ 0x00 ∷ 0x0B ∷ 0xA4 ∷ 0xA6 ∷ 0x29 ∷ []) (Err 31) 1000 (Refused 10) 3
     (0xFFFF_FFFF ∷ []) ∷
     case (
     0xFD ∷ 0x08 ∷ 0x00 ∷ 0x84 ∷ 0x00 ∷ 0x00 ∷ 0x00 ∷ 0x18 ∷ 0x10 ∷ 0x00 ∷ 0x00 ∷ 0x00 ∷ 0x05 ∷ 0x10 ∷ 0x00 ∷ 0x00 ∷ 0x00 ∷ 0x05 ∷ 0x10 ∷
     0x00 ∷
     0x00 ∷ 0x00 ∷ 0x05 ∷ 0x45 ∷ []
-    ) (Rejects 31) 1000 (Refused 10) 4 (0 ∷ []) ∷
+    ) (Err 31) 1000 (Refused 10) 4 (0 ∷ []) ∷
     -- document 02, (iv): n=5, min=3, max=-3 is within
     case (
     0xFD ∷ 0x08 ∷ 0x04 ∷ 0x77 ∷ 0x00 ∷ 0x00 ∷ 0x00 ∷ 0x19 ∷ 0x10 ∷ 0x00 ∷ 0x00 ∷ 0x00 ∷ 0x05 ∷ 0x10 ∷ 0x00 ∷ 0x00 ∷ 0x00 ∷ 0x03 ∷
     0x10 ∷ 0xFF ∷ 0xFF ∷ 0xFF ∷ 0xFD ∷ 0x45 ∷ 0x00 ∷ []
-    ) Passes 1000 Finished 5 (0xFFFF_FFFF ∷ []) ∷
+    ) (Ok tt) 1000 Finished 5 (0xFFFF_FFFF ∷ []) ∷
     []
 
 unfoldable pub same_answer : Answer → Answer → Bool
@@ -82,9 +80,9 @@ same_answer Finished b = elim b [ Going ↦ false | Finished ↦ true | Refused 
 same_answer (Refused m) b = elim b [ Going ↦ false | Finished ↦ false | Refused n ↦ eqb m n | Spent n ↦ false ]
 same_answer (Spent m) b = elim b [ Going ↦ false | Finished ↦ false | Refused n ↦ false | Spent n ↦ eqb m n ]
 
-unfoldable pub same_verdict : Verdict → Verdict → Bool
-same_verdict Passes w = elim w [ Passes ↦ true | Rejects n ↦ false ]
-same_verdict (Rejects m) w = elim w [ Passes ↦ false | Rejects n ↦ eqb m n ]
+unfoldable pub same_verdict : Result (Unit {0}) ℕ → Result (Unit {0}) ℕ → Bool
+same_verdict (Ok tt) w = elim w [ (Ok tt) ↦ true | Err n ↦ false ]
+same_verdict (Err m) w = elim w [ (Ok tt) ↦ false | Err n ↦ eqb m n ]
 
 abbrev pub ends_so : Case → RunResult → Bool
 ends_so c o =

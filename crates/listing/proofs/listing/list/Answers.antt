@@ -1,4 +1,5 @@
-use Rattle.std.proofs.Common.{rules}
+use Rattle.std.proofs.Common.{ap, rules}
+use Rattle.rom.specs.Refusal.{numbered}
 use Rattle.rom.specs.Spread.{fcode_of}
 use Rattle.listing.specs.Laws.Listing.{wrong_text_lem, wrong_buffer_lem, wrong_marks, wrong_work, wrong_store, refused, passed}
 use Rattle.listing.specs.Laws.Listing.{judged_as_lem, passed_header, and_inside}
@@ -45,16 +46,16 @@ returns-then-store-ne-STORE_SIZE c =
 pub list_run-requires : goal.list_run-requires
 list_run-requires c =
     let a = c.args in (
-      passed_header (judged_as_lem (fcode_of a.rom.now) a.marks.now _ c.screen.ensures c.in-Passes.is),
+      passed_header (judged_as_lem (fcode_of a.rom.now) a.marks.now _ c.screen.ensures (ap numbered c.in-Ok.is)),
       search rules,
       search rules,
       search rules,
     )
 
-pub returns-in-Passes : goal.returns-in-Passes
-returns-in-Passes c =
+pub returns-in-Ok : goal.returns-in-Ok
+returns-in-Ok c =
     let a = c.args in
-    let p = judged_as_lem (fcode_of a.rom.now) a.marks.now _ c.screen.ensures c.in-Passes.is in
+    let p = judged_as_lem (fcode_of a.rom.now) a.marks.now _ c.screen.ensures (ap numbered c.in-Ok.is) in
     let told =
     and_inside (fcode_of a.rom.now) a.marks.now a.work.now a.store.now a.budget a.text.now
     (passed (fcode_of a.rom.now) a.marks.now a.work.now a.store.now a.budget a.text.now c.if-text-ne-TEXT_SIZE.false
@@ -62,13 +63,14 @@ returns-in-Passes c =
     c.if-work-ne-WORK_SIZE.false c.if-store-ne-STORE_SIZE.false _ p _ _ _ _ c.list_run.ensures) in
     record { lists = told.0; upper_bound = told.1 }
 
-pub returns-in-Refused : goal.returns-in-Refused
-returns-in-Refused c =
+pub returns-in-Err : goal.returns-in-Err
+returns-in-Err c =
     let a = c.args in
-    let p = judged_as_lem (fcode_of a.rom.now) a.marks.now _ c.screen.ensures c.in-Refused.is in
+    let p = judged_as_lem (fcode_of a.rom.now) a.marks.now _ c.screen.ensures (ap numbered c.in-Err.is) in
     let told =
     and_inside (fcode_of a.rom.now) a.marks.now a.work.now a.store.now a.budget a.text.now
     (refused (fcode_of a.rom.now) a.marks.now a.work.now a.store.now a.budget a.text.now c.if-text-ne-TEXT_SIZE.false
     c.if-marks-ne-MARKS_SIZE.false
-    c.if-work-ne-WORK_SIZE.false c.if-store-ne-STORE_SIZE.false _ _ p _ _ c.refused_text-in-Refused.ensures) in
+    c.if-work-ne-WORK_SIZE.false c.if-store-ne-STORE_SIZE.false _ _ p _ _
+    (rw c.number.ensures at c.refused_text-in-Err.ensures)) in
     record { lists = told.0; upper_bound = told.1 }
