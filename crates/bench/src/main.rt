@@ -4,9 +4,9 @@
 #![tactic(auto)]
 
 use given::{SPACE, TEXT, bytes_from, each_line, read_text};
-use rom::{fcode_count, lay_fcode, program_length, spread_of};
+use rom::{fcode_count, lay_fcode, program_length, refusal_in, spread_of};
 use std::io;
-use tokens::{Body, Decoded, Operand, Token};
+use tokens::{Decoded, Operand, Stop, Token};
 
 fn yes_or_no(said: bool) -> &'static str {
     if said { "yes" } else { "no" }
@@ -59,10 +59,10 @@ fn show_decoded(rt: &impl Print, found: Decoded) -> io::Result<()> {
     }
 }
 
-fn show_body(rt: &impl Print, body: Body) -> io::Result<()> {
+fn show_body(rt: &impl Print, body: Result<u32, Stop>) -> io::Result<()> {
     match body {
-        Body::Ends(at) => print!(rt; " ends {at:x}"),
-        Body::Stops { at, why } => print!(rt; " stops {at:x} {why:x}"),
+        Ok(at) => print!(rt; " ends {at:x}"),
+        Err(Stop { at, why }) => print!(rt; " stops {at:x} {:x}", why.number()),
     }
 }
 
@@ -116,8 +116,8 @@ fn show_program(rt: &impl Print, rom: &[u8]) -> io::Result<()> {
 
 fn show_rom(rt: &impl Print, rom: &[u8], whole: bool) -> io::Result<()> {
     let verdict = rom::check_header(rom);
-    println!(rt; "header {verdict:x}")?;
-    if whole && verdict == 0 {
+    println!(rt; "header {:x}", refusal_in(verdict))?;
+    if whole && verdict.is_ok() {
         show_program(rt, rom)?;
     }
     Ok(())

@@ -1,5 +1,6 @@
 // A ROM, screened, opened and run.
 use machine::run;
+use rom::Refusal;
 use rom::sizes::{MARKS_SIZE, STORE_SIZE, WORK_SIZE};
 use screen::screen;
 use state::{State, number_of, open};
@@ -13,12 +14,9 @@ pub struct Ended {
 }
 
 // Why a ROM does not pass; none where it passes.
-pub fn refusal_of(rom: &[u8]) -> Option<u32> {
+pub fn refusal_of(rom: &[u8]) -> Option<Refusal> {
     let mut marks = [0u8; MARKS_SIZE];
-    match screen(rom, &mut marks) {
-        Ok(()) => None,
-        Err(why) => Some(why),
-    }
+    screen(rom, &mut marks).err()
 }
 
 // A ROM with a good header, from its opening on, whether it passes or not: any ROM may be run.

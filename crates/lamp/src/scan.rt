@@ -97,7 +97,7 @@ fn lost_dump(text: &mut [u8], form: Form, file: &[u8]) -> usize {
 fn judged(rt: &HostRuntime, rom: &[u8], file: &[u8], wish: Wish) -> io::Result<Status> {
     let mut text = [0u8; TEXT_SIZE];
     if let Some(why) = refusal_of(rom) {
-        let end = refused_line(&mut text, wish.form, file, why);
+        let end = refused_line(&mut text, wish.form, file, why.number());
         print(rt, &text, end)?;
         return Ok(Status::Refused);
     }

@@ -74,9 +74,8 @@ fn print_pieces(rt: &HostRuntime, fcode: &[u8], text: &mut [u8]) -> io::Result<(
 
 fn print_tokens(rt: &HostRuntime, rom: &[u8], fcode: &[u8]) -> io::Result<Status> {
     let mut text = [0u8; TEXT_SIZE];
-    let why = check_header(rom);
-    if why != 0 {
-        let end = refused_text(&mut text, why);
+    if let Err(why) = check_header(rom) {
+        let end = refused_text(&mut text, why.number());
         print(rt, &text, end)?;
         return Ok(Status::Refused);
     }
@@ -133,7 +132,7 @@ fn print_head(
 ) -> io::Result<()> {
     let at = header_lines(&mut *text, 0, rom.len(), fcode);
     let at = verdict_line(&mut *text, at, number);
-    if check_header(rom) != 0 {
+    if check_header(rom).is_err() {
         return print(rt, &*text, at);
     }
     let at = program_lines(&mut *text, at, fcode);
@@ -159,7 +158,11 @@ fn show_run(rt: &HostRuntime, rom: &[u8], fcode: &[u8], budget: u32) -> io::Resu
     let mut store = [0u8; STORE_SIZE];
     let refusal = refusal_of(rom);
     let ended = ended_run(rom, &mut store, budget);
-    print_head(rt, &mut text, rom, fcode, refusal.unwrap_or(ended.number))?;
+    let number = match refusal {
+        Some(why) => why.number(),
+        None => ended.number,
+    };
+    print_head(rt, &mut text, rom, fcode, number)?;
     if refusal.is_some() {
         let end = anyway_line(&mut text, 0);
         print(rt, &text, end)?;
@@ -172,13 +175,12 @@ fn show_run(rt: &HostRuntime, rom: &[u8], fcode: &[u8], budget: u32) -> io::Resu
 }
 
 fn explain(rt: &HostRuntime, rom: &[u8], fcode: &[u8], budget: u32) -> io::Result<Status> {
-    let why = check_header(rom);
-    if why == 0 {
-        return show_run(rt, rom, fcode, budget);
+    if let Err(why) = check_header(rom) {
+        let mut text = [0u8; TEXT_SIZE];
+        print_head(rt, &mut text, rom, fcode, why.number())?;
+        return Ok(Status::Refused);
     }
-    let mut text = [0u8; TEXT_SIZE];
-    print_head(rt, &mut text, rom, fcode, why)?;
-    Ok(Status::Refused)
+    show_run(rt, rom, fcode, budget)
 }
 
 fn show_all(rt: &HostRuntime, rom: &[u8], budget: u32) -> io::Result<Status> {

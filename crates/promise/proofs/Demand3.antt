@@ -1,5 +1,5 @@
 -- Demand 3 and what follows beside it, proved. Assumes nothing.
-use Rattle.std.specs.Prelude.{ℕ, ◌+◌, ◌≤◌, ◌≡◌, refl, List, [], length, replicate, eqb, Err, Ok}
+use Rattle.std.specs.Prelude.{ℕ, ◌+◌, ◌≤◌, ◌≡◌, refl, List, [], length, replicate, eqb, Err, Ok, Result}
 use Rattle.std.proofs.Common.{arith, sym, ap, subst, ◌∙◌}
 use Rattle.std.proofs.lemmas.List.{length-replicate}
 use Rattle.cells.specs.Laws.Tests.{when_is}
@@ -21,7 +21,7 @@ use Rattle.promise.proofs.Running.{trail_arrived, trail_ends, ends_trail, stands
 use Rattle.promise.specs.Demand3.{Exactly, Opened, SeenRun, Demand3, TrailOf, Counted, HeightsByMarks, Came, Resumed, AllowedStep}
 use Rattle.promise.specs.Demand3.{Stepwise, first, again, goes, ends, refuses}
 
-refused_not_pass : {why : ℕ} → Err why ≡ (Ok tt) → ⊥
+refused_not_pass : {why : ℕ} → ◌≡◌ {A = Result (Unit {0}) ℕ} (Err why) (Ok tt) → ⊥
 refused_not_pass e = let z : ◌≡◌ {A = ℕ} 0 1 = cc in omega arith
 
 exactly : Exactly

@@ -3,9 +3,10 @@ use crate::damage::damaged;
 use crate::show::say_bytes;
 use given::bytes_from;
 use rom::sizes::NODES_MOST;
+use rom::{Refusal, refusal_in};
 use state::{State, find_node_in, find_property_in, node_table_in, property_value_in};
 use std::io;
-use tree::{Tree, ValueSought, find_node, find_property, node_table, property_value};
+use tree::{Tree, ValuePlace, find_node, find_property, node_table, property_value};
 
 // What the rows hold before they are filled.
 const OLD: u32 = 0xA5A5_A5A5;
@@ -15,23 +16,23 @@ trait Searched: Copy {
     // The word that stands before what is said of it.
     const OF: &'static str;
 
-    fn node(self, store: &[u8], path: &[u8]) -> Result<u32, u32>;
+    fn node(self, store: &[u8], path: &[u8]) -> Result<u32, Refusal>;
 
-    fn place(self, store: &[u8], path: &[u8], name: &[u8]) -> ValueSought;
+    fn place(self, store: &[u8], path: &[u8], name: &[u8]) -> Result<ValuePlace, Refusal>;
 
     fn value<'a>(self, store: &'a [u8], path: &[u8], name: &[u8]) -> &'a [u8];
 
-    fn table(self, parents: &mut [u32], counts: &mut [u32]) -> u32;
+    fn table(self, parents: &mut [u32], counts: &mut [u32]) -> Result<(), Refusal>;
 }
 
 impl Searched for State {
     const OF: &'static str = "state ";
 
-    fn node(self, store: &[u8], path: &[u8]) -> Result<u32, u32> {
+    fn node(self, store: &[u8], path: &[u8]) -> Result<u32, Refusal> {
         find_node_in(store, self, path)
     }
 
-    fn place(self, store: &[u8], path: &[u8], name: &[u8]) -> ValueSought {
+    fn place(self, store: &[u8], path: &[u8], name: &[u8]) -> Result<ValuePlace, Refusal> {
         find_property_in(store, self, path, name)
     }
 
@@ -39,7 +40,7 @@ impl Searched for State {
         property_value_in(store, self, path, name)
     }
 
-    fn table(self, parents: &mut [u32], counts: &mut [u32]) -> u32 {
+    fn table(self, parents: &mut [u32], counts: &mut [u32]) -> Result<(), Refusal> {
         node_table_in(self, parents, counts)
     }
 }
@@ -47,11 +48,11 @@ impl Searched for State {
 impl Searched for Tree {
     const OF: &'static str = "";
 
-    fn node(self, store: &[u8], path: &[u8]) -> Result<u32, u32> {
+    fn node(self, store: &[u8], path: &[u8]) -> Result<u32, Refusal> {
         find_node(store, self, path)
     }
 
-    fn place(self, store: &[u8], path: &[u8], name: &[u8]) -> ValueSought {
+    fn place(self, store: &[u8], path: &[u8], name: &[u8]) -> Result<ValuePlace, Refusal> {
         find_property(store, self, path, name)
     }
 
@@ -59,7 +60,7 @@ impl Searched for Tree {
         property_value(store, self, path, name)
     }
 
-    fn table(self, parents: &mut [u32], counts: &mut [u32]) -> u32 {
+    fn table(self, parents: &mut [u32], counts: &mut [u32]) -> Result<(), Refusal> {
         node_table(self, parents, counts)
     }
 }
@@ -67,7 +68,7 @@ impl Searched for Tree {
 fn show_node<S: Searched>(rt: &impl Print, store: &[u8], of: S, path: &[u8]) -> io::Result<()> {
     match of.node(store, path) {
         Ok(k) => print!(rt; " node {k}"),
-        Err(why) => print!(rt; " {why}"),
+        Err(why) => print!(rt; " {}", why.number()),
     }
 }
 
@@ -81,7 +82,7 @@ fn show_value<S: Searched>(
 ) -> io::Result<()> {
     let value = of.value(store, path, name);
     match of.place(store, path, name) {
-        ValueSought::Value(at, size) => {
+        Ok(ValuePlace { at, size }) => {
             print!(rt; " value")?;
             say_bytes(rt, value, 0, value.len())?;
             if size != value.len() {
@@ -92,7 +93,7 @@ fn show_value<S: Searched>(
             }
             Ok(())
         }
-        ValueSought::Refused(why) => print!(rt; " {why}"),
+        Err(why) => print!(rt; " {}", why.number()),
     }
 }
 
@@ -126,9 +127,9 @@ pub fn show_rows(rt: &impl Print, state: State) -> io::Result<()> {
     let nodes = state.tree.nodes;
     let mut parents = [OLD; NODES_MOST];
     let mut counts = [OLD; NODES_MOST];
-    let why = node_table_in(state, &mut parents, &mut counts);
+    let table = node_table_in(state, &mut parents, &mut counts);
     print!(rt; "rows")?;
-    if why != 0 {
+    if table.is_err() {
         print!(rt; " refused")?;
     }
     for (parent, count) in parents.iter().zip(counts.iter()).take(nodes) {
@@ -155,8 +156,8 @@ fn show_table<S: Searched>(
     parents: &mut [u32],
     counts: &mut [u32],
 ) -> io::Result<()> {
-    let why = of.table(&mut *parents, &mut *counts);
-    print!(rt; " {why}")?;
+    let table = of.table(&mut *parents, &mut *counts);
+    print!(rt; " {}", refusal_in(table))?;
     show_kept_column(rt, &*parents)?;
     show_kept_column(rt, &*counts)
 }

@@ -9,7 +9,7 @@ pub fn show_answer(rt: &impl Print, answer: Answer) -> io::Result<()> {
     match answer {
         Answer::Going => print!(rt; " going"),
         Answer::Finished => print!(rt; " finished"),
-        Answer::Refused(why) => print!(rt; " refused {why}"),
+        Answer::Refused(why) => print!(rt; " refused {}", why.number()),
         Answer::Spent(_) => print!(rt; " budget"),
     }
 }

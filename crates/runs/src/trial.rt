@@ -51,7 +51,7 @@ pub fn show_run(rt: &impl Print, rom: &[u8], budget: u32, words: &[u8]) -> io::R
     let state = opened.state;
     match answer {
         Answer::Going => show_opened(rt, rom, &mut work, &mut store, state, budget, words),
-        Answer::Refused(why) => println!(rt; "open {why}"),
+        Answer::Refused(why) => println!(rt; "open {}", why.number()),
         _ => println!(rt; "neither opened nor refused"),
     }
 }

@@ -1,4 +1,5 @@
 // A ROM screened, and what the mark buffer holds then.
+use rom::refusal_in;
 use std::io;
 
 // What a mark buffer holds before it is screened with.
@@ -6,11 +7,7 @@ const OLD: u8 = 0xAA;
 
 // The screen's answer as a number, without what it promises: nothing that is printed rests on a contract.
 fn number_of(rom: &[u8], marks: &mut [u8]) -> u32 {
-    let verdict = screen::screen(rom, marks);
-    match verdict {
-        Ok(()) => 0,
-        Err(why) => why,
-    }
+    refusal_in(screen::screen(rom, marks))
 }
 
 // Places from one to another that have the same mark: '8:1', or '8-9:1' where they are more than one.
