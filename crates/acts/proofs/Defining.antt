@@ -9,7 +9,7 @@ use Rattle.tokens.specs.Family.{assign, call, define}
 use Rattle.tokens.specs.Table.{is_program}
 use Rattle.tokens.specs.Decode.{token_of, decode_of, is_kind}
 use Rattle.tokens.specs.Place.{judged, misplaced_of, read_of}
-use Rattle.tokens.specs.Body.{Body, Ends, Stops, kind_of, number_in, unknown_of, body_onward, after_of, body_from, body_of}
+use Rattle.tokens.specs.Body.{BodyRead, Ends, Stops, kind_of, number_in, unknown_of, body_onward, after_of, body_from, body_of}
 use Rattle.tokens.specs.Laws.Tokens.{find_is}
 use Rattle.tokens.specs.declared.decoding.Operand.{Operand}
 use Rattle.tokens.specs.declared.decoding.Operand.TheVariants.{Definition}
@@ -193,7 +193,7 @@ module _ (st : State) (m next at : ℕ) (f : at ≡ seek_of st.numbers m) where
 
 -- ---- why a body's reading stops is never 0
 module _ (rom : List ℕ) (size : ℕ) (wide : Bool) (kinds : List ℕ) where
-  abbrev Why : Body → Type 0
+  abbrev Why : BodyRead → Type 0
   Why (Ends at) = Unit {0}
   Why (Stops at why) = eqb why 0 ≡ false
 
@@ -210,12 +210,12 @@ module _ (rom : List ℕ) (size : ℕ) (wide : Bool) (kinds : List ℕ) where
   unfolding read_of
   read_why within p = judged_why within (decode_of rom size wide p)
 
-  onward_why : (ends unknown : Bool) (p q : ℕ) (go : ℕ → Body) → Why (go q) → Why (body_onward ends unknown p go q)
+  onward_why : (ends unknown : Bool) (p q : ℕ) (go : ℕ → BodyRead) → Why (go q) → Why (body_onward ends unknown p go q)
   onward_why true unknown p q go h = tt
   onward_why false true p q go h = refl
   onward_why false false p q go h = h
 
-  after_why : (p : ℕ) (r : Result Token ℕ) (go : ℕ → Body) → WhyRead r → ((q : ℕ) → Why (go q)) → Why (after_of kinds p r go)
+  after_why : (p : ℕ) (r : Result Token ℕ) (go : ℕ → BodyRead) → WhyRead r → ((q : ℕ) → Why (go q)) → Why (after_of kinds p r go)
   after_why p (Err why) go a h = a
   after_why p (Ok t) go a h = onward_why (eqb t.number 0xC2) (unknown_of kinds t) p t.next go (h t.next)
 
@@ -229,12 +229,12 @@ module _ (rom : List ℕ) (size : ℕ) (wide : Bool) (kinds : List ℕ) where
   stops_why p at why e = subst Why e (from_why (size - p) p)
 
   pub ends_within : (p at : ℕ) → p ≤ size → body_of rom size wide kinds p ≡ Ends at → at + 1 ≤ size
-  ends_within p at l e = subst (λ (b : Body). behind_body b ≤ size) e (behind_body_lem rom size wide kinds p l).1
+  ends_within p at l e = subst (λ (b : BodyRead). behind_body b ≤ size) e (behind_body_lem rom size wide kinds p l).1
 
 -- ---- b(:)
-module _ (rom : List ℕ) (st : State) (m next : ℕ) (h : st.stack.height ≤ data_most) (e : Fresh st.numbers m) (kinds : List ℕ) (b : Body)
+module _ (rom : List ℕ) (st : State) (m next : ℕ) (h : st.stack.height ≤ data_most) (e : Fresh st.numbers m) (kinds : List ℕ) (b : BodyRead)
     (k : kinds ≡ kinds_of st.numbers) (f : b ≡ body_of rom st.length st.wide kinds next) where
-  body_is : (x : Body) → b ≡ x → body_of rom st.length st.wide (kinds_of st.numbers) next ≡ x
+  body_is : (x : BodyRead) → b ≡ x → body_of rom st.length st.wide (kinds_of st.numbers) next ≡ x
   body_is x g = ap (λ (l : List ℕ). body_of rom st.length st.wide l next) (sym k) ∙ sym f ∙ g
 
   pub colon_stops_told : (at why : ℕ) (r : Stepped) → b ≡ Stops at why → r ≡ stepped (Refused why) st → Colons m rom st next r

@@ -99,10 +99,12 @@ fn print_cell(rt: &impl Print, a: u32) -> io::Result<()> {
 fn print_divided(rt: &impl Print, divided: Option<Divided>) -> io::Result<()> {
     match divided {
         None => rt.write_all(b" zero"),
-        Some(Divided {
-            remainder,
-            quotient,
-        }) => {
+        Some(
+            Divided {
+                remainder,
+                quotient,
+            },
+        ) => {
             print_cell(rt, remainder)?;
             print_cell(rt, quotient)
         }

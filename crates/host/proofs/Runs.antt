@@ -10,8 +10,7 @@ use Rattle.state.specs.Open.{open_refusal, open_of}
 use Rattle.state.specs.Run.{run_of, told_ran}
 use Rattle.listing.specs.Listing.{started_of}
 use Rattle.host.specs.Host.{host_run, host_ran, host_run_of}
-use Rattle.state.specs.Answer.{Stepped}
-use Rattle.state.specs.Answer.{Ran}
+use Rattle.state.specs.Answer.{Stepped, Ran}
 
 module _ (rom work store : List ℕ) (budget : ℕ) (r : Stepped) (w s : List ℕ) (e : handed_back r w s ≡ open_of rom work store) where
   answer_is : answer_number r.answer ≡ answer_number (open_of rom work store).answer

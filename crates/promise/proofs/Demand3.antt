@@ -13,8 +13,7 @@ use Rattle.state.specs.Step.{token_turn}
 use Rattle.state.specs.Run.{RunResult, told_ran, run_of}
 use Rattle.state.specs.Laws.Keeps.Whole.{not_going}
 use Rattle.state.specs.declared.state.State.{State}
-use Rattle.state.specs.Answer.{Answer}
-use Rattle.state.specs.Answer.{Going, Finished, Refused, Spent}
+use Rattle.state.specs.Answer.{Answer, Going, Finished, Refused, Spent}
 use Rattle.promise.specs.Trail.{Allowed, finished, spent, refused, start, RunEnds, finishes, stops, runs_out, OpenCall}
 use Rattle.promise.proofs.Steps.{Fine}
 use Rattle.promise.proofs.Running.{trail_arrived, trail_ends, ends_trail, stands_high, steps_so}

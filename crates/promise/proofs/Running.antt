@@ -23,8 +23,7 @@ use Rattle.state.specs.Laws.Sized.{Sized, fresh_sized}
 use Rattle.state.specs.Laws.Steps.{refused_keeps, keeps, run_tokens, step_going, tokens_from}
 use Rattle.state.specs.declared.state.State.{State}
 use Rattle.state.specs.declared.state.Calls.{Calls}
-use Rattle.state.specs.Answer.{Answer}
-use Rattle.state.specs.Answer.{Going, Finished, Refused, Spent}
+use Rattle.state.specs.Answer.{Answer, Going, Finished, Refused, Spent}
 use Rattle.screen.specs.Reach.{Setting, setting, token_at, Holds, Reach}
 use Rattle.screen.specs.Promise.{Marks}
 use Rattle.screen.specs.Laws.Rules.Ways.{effect_call}

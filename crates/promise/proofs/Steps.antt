@@ -38,8 +38,7 @@ use Rattle.state.specs.Laws.Keeps.Tests.{◌▸◌}
 use Rattle.state.specs.Laws.Keeps.Tree.{put_nodes}
 use Rattle.state.specs.Laws.Keeps.Token.{takes_by, gives_by, shape, no_returns}
 use Rattle.state.specs.declared.state.State.{State}
-use Rattle.state.specs.Answer.{Answer}
-use Rattle.state.specs.Answer.{Going, Finished, Refused, Spent}
+use Rattle.state.specs.Answer.{Answer, Going, Finished, Refused, Spent}
 use Rattle.screen.specs.Effect.{is_a, fixes, is_colon, aims, no_places, is_branch, both_ways, leads_of, effect_of}
 use Rattle.screen.specs.Reach.{In, here, there, in_body, token_at, extends, leads, Holds}
 use Rattle.screen.specs.Rules.{Assignment}

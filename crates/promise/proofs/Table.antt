@@ -33,8 +33,7 @@ use Rattle.screen.specs.Laws.Found.Screen.{verdict_on, judged_of, screened_of}
 use Rattle.screen.specs.Laws.Code.Screen.{screen_judged}
 use Rattle.screen.specs.Laws.Found.Cell.{cell_with, heights_in, mark_in, moved_cell}
 use Rattle.screen.specs.Laws.Found.Sums.{packed_sum, unpacked_sum}
-use Rattle.state.specs.Answer.{Answer}
-use Rattle.state.specs.Answer.{Going, Finished, Refused, Spent}
+use Rattle.state.specs.Answer.{Answer, Going, Finished, Refused, Spent}
 use Rattle.promise.specs.Laws.Table.{Case, cases, same_answer, same_verdict, ends_so, lent_marks, lent_work, lent_store, screens, runs}
 use Rattle.promise.specs.Laws.Table.{agrees, every, lent}
 

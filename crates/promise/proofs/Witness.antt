@@ -9,8 +9,7 @@ use Rattle.screen.specs.Promise.{Promised}
 use Rattle.screen.proofs.Exact.Exactly.{promise_kept}
 use Rattle.state.specs.Open.{open_of}
 use Rattle.listing.specs.Listing.{started_of}
-use Rattle.state.specs.Answer.{Answer}
-use Rattle.state.specs.Answer.{Going, Finished, Refused, Spent}
+use Rattle.state.specs.Answer.{Answer, Going, Finished, Refused, Spent}
 use Rattle.promise.specs.Laws.Table.{Case, cases, same_answer, same_verdict, ends_so, screens, runs, agrees, every}
 use Rattle.promise.specs.Laws.Table.{lent_marks, lent_work, lent_store}
 use Rattle.promise.proofs.Table.{claim}

@@ -21,9 +21,7 @@ use Rattle.state.specs.Scene.{Scene, scene, handed_back}
 use Rattle.state.specs.Open.{open_of}
 use Rattle.state.specs.Step.{token_turn, step_of}
 use Rattle.state.specs.Run.{RunResult, told_ran, run_of}
-use Rattle.state.specs.Answer.{Answer}
-use Rattle.state.specs.Answer.{Going, Finished, Refused}
-use Rattle.state.specs.Answer.{Stepped}
+use Rattle.state.specs.Answer.{Answer, Going, Finished, Refused, Stepped}
 use Rattle.state.specs.Answer.{Ran}
 use Rattle.promise.specs.Trail.{DependsOnData, Allowed, Trail, RunEnds, HeightIs, OpenCall}
 

@@ -7,8 +7,7 @@ use Rattle.state.specs.Step.{token_turn}
 use Rattle.state.specs.Run.{RunResult, ended, then}
 use Rattle.state.specs.Open.{fresh_state}
 use Rattle.state.specs.declared.state.State.{State}
-use Rattle.state.specs.Answer.{Answer}
-use Rattle.state.specs.Answer.{Going, Finished, Refused, Spent}
+use Rattle.state.specs.Answer.{Answer, Going, Finished, Refused, Spent}
 
 -- an open call: the data height at which its body was entered, and the place of the body's first byte
 pub record OpenCall : Type 0 where

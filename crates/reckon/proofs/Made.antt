@@ -23,8 +23,7 @@ use Rattle.state.specs.Joints.Hot.{hot_family, Cold as IsCold}
 use Rattle.state.specs.declared.state.State.{State}
 use Rattle.state.specs.Answer.{Going, Refused}
 use Rattle.reckon.specs.Joints.Fast.{packed_fast, Goes, FitsFast, Fast, Here, OnBoth, OnData, Reads, turned, behind_branch}
-use Rattle.reckon.specs.Joints.Turned.{On, Cold, Not}
-use Rattle.reckon.specs.Joints.Turned.{Turned}
+use Rattle.reckon.specs.Joints.Turned.{On, Cold, Not, Turned}
 use Rattle.reckon.proofs.Hot.{double_cold, cut_off}
 use Rattle.reckon.proofs.HotDone.{behind_plain, operand_plain}
 use Rattle.reckon.proofs.HotAgrees.{turn_of, plain_cut, plain_turn, divide_turn, pick_turn, roll_turn, maybe_turn, always_cut}

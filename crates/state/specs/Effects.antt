@@ -11,8 +11,7 @@ use Rattle.tokens.specs.Body.{number_in}
 use Rattle.tokens.specs.declared.decoding.Operand.{Operand}
 use Rattle.tokens.specs.declared.decoding.Operand.TheVariants.{Nothing, Literal, Text, Branch, Number, Definition}
 use Rattle.tokens.specs.declared.decoding.Token.{Token}
-use Rattle.tokens.specs.Body.{Body}
-use Rattle.tokens.specs.Body.{Ends, Stops}
+use Rattle.tokens.specs.Body.{BodyRead, Ends, Stops}
 use Rattle.memory.specs.Window.{rom_base, work_base}
 use Rattle.memory.specs.Writing.{written_of, bytes_of}
 use Rattle.tree.specs.Property.{tree_put, store_put}
@@ -155,7 +154,7 @@ abbrev pub stores : Effect
 stores s t = turn Going (onward s t 2 []) (written_of s.work (cell_of s 0 - work_base) (stored_bytes s t)) s.store
 
 -- ---- definitions: "its number exists only after that C2"
-abbrev pub behind_body : Body → ℕ
+abbrev pub behind_body : BodyRead → ℕ
 behind_body (Ends at) = at + 1
 behind_body (Stops at why) = at
 

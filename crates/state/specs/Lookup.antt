@@ -6,8 +6,7 @@ use Rattle.cells.specs.Choice.{pick}
 use Rattle.rom.specs.Sizes.{nodes_most, store_size}
 use Rattle.tree.specs.Held.{held_of}
 use Rattle.tree.specs.Path.{parts_of, malformed, value_in, down_from, behind_slash, named_place, bytes_or}
-use Rattle.tree.specs.Sought.{ValueSought}
-use Rattle.tree.specs.Sought.{Unfound}
+use Rattle.tree.specs.Sought.{ValueSought, Unfound}
 use Rattle.state.specs.Whole.{damaged_of}
 use Rattle.state.specs.declared.state.State.{State}
 

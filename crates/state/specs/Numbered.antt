@@ -3,8 +3,7 @@
 use Rattle.std.specs.Prelude.{[], ◌∷◌}
 use Rattle.cells.specs.Numbered.{Numbered, gives, refuses}
 use Rattle.rom.specs.Refusal.{refusal_number}
-use Rattle.state.specs.Answer.{Answer}
-use Rattle.state.specs.Answer.{Going, Finished, Refused, Spent}
+use Rattle.state.specs.Answer.{Answer, Going, Finished, Refused, Spent}
 use Rattle.state.specs.declared.apart.Told.{Told}
 use Rattle.state.specs.declared.apart.Told.TheVariants.{On, Over, Not}
 

@@ -1,7 +1,8 @@
 -- Why a token is refused that may stand where it stands: document 01's "Numbers handed back" from 12 on, one condition a number, and the
 -- one order of them: "12, 13, 14, 19, 16, 15, 17, 20, and 21 to 27 by number"; a body is read after its head's own tests. 10, 18 and 11
 -- come before, as the token is read. Assumes nothing.
-use Rattle.std.specs.Prelude.{ℕ, ◌+◌, ◌-◌, ◌*◌, ◌/◌, ◌%◌, ◌^◌, Bool, true, false, not, ◌&&◌, ◌||◌, List, [], ◌∷◌, ltb, leb, eqb, None, Option, Some}
+use Rattle.std.specs.Prelude.{ℕ, ◌+◌, ◌-◌, ◌*◌, ◌/◌, ◌%◌, ◌^◌, Bool, true, false, not, ◌&&◌, ◌||◌, List, [], ◌∷◌, ltb, leb, eqb, None}
+use Rattle.std.specs.Prelude.{Option, Some}
 use Rattle.cells.specs.Choice.{pick, find}
 use Rattle.rom.specs.Sizes.{data_most, frames_most, numbers_most, work_size}
 use Rattle.tokens.specs.Family.{plain, always, choice, divide, pick_up, roll_up, maybe, leave, fetch, store, define, assign, call}
@@ -11,8 +12,7 @@ use Rattle.tokens.specs.Body.{unknown_of, body_of}
 use Rattle.tokens.specs.declared.decoding.Operand.{Operand}
 use Rattle.tokens.specs.declared.decoding.Operand.TheVariants.{Nothing, Literal, Text, Branch, Number, Definition}
 use Rattle.tokens.specs.declared.decoding.Token.{Token}
-use Rattle.tokens.specs.Body.{Body}
-use Rattle.tokens.specs.Body.{Ends, Stops}
+use Rattle.tokens.specs.Body.{BodyRead, Ends, Stops}
 use Rattle.memory.specs.Window.{bad_range, bad_string, resolve_of}
 use Rattle.memory.specs.Cells.{uneven, outside_work}
 use Rattle.tree.specs.Property.{value_of, bad_name, overfull, would_hold}
@@ -43,10 +43,10 @@ taken s t = asked define t defined_already s
 
 -- ---- "After its head's own tests b(:) reads on to the first C2 that starts a token, refusing at the first token that gives 10, 18, 11 or
 -- 12"
-abbrev pub body_here : Scene → Token → Body
+abbrev pub body_here : Scene → Token → BodyRead
 body_here s t = body_of s.rom s.state.length s.state.wide (kinds_of s.state.numbers) t.next
 
-abbrev pub why_stopped : Body → ℕ
+abbrev pub why_stopped : BodyRead → ℕ
 why_stopped (Ends at) = 0
 why_stopped (Stops at why) = why
 

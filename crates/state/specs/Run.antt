@@ -4,9 +4,7 @@ use Rattle.std.specs.Prelude.{ℕ, zero, suc, ◌+◌, List}
 use Rattle.state.specs.Scene.{Scene, scene, Turn}
 use Rattle.state.specs.Step.{ready_of, token_turn}
 use Rattle.state.specs.declared.state.State.{State}
-use Rattle.state.specs.Answer.{Answer}
-use Rattle.state.specs.Answer.{Going, Finished, Refused, Spent}
-use Rattle.state.specs.Answer.{Ran}
+use Rattle.state.specs.Answer.{Answer, Going, Finished, Refused, Spent, Ran}
 
 -- what a run leaves
 pub record RunResult : Type 0 where

@@ -2,9 +2,7 @@
 use Rattle.std.specs.Prelude.{ℕ, List}
 use Rattle.state.specs.Stacks.{top_of}
 use Rattle.state.specs.declared.state.State.{State}
-use Rattle.state.specs.Answer.{Answer}
-use Rattle.state.specs.Answer.{Going, Finished, Refused, Spent}
-use Rattle.state.specs.Answer.{Stepped}
+use Rattle.state.specs.Answer.{Answer, Going, Finished, Refused, Spent, Stepped}
 
 pub record Scene : Type 0 where
   pub rom : List ℕ

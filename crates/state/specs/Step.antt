@@ -13,8 +13,7 @@ use Rattle.state.specs.Whole.{damaged_of}
 use Rattle.state.specs.Scene.{Scene, Turn, turn, refuse}
 use Rattle.state.specs.Refusals.{refusal_of}
 use Rattle.state.specs.Effects.{act_of}
-use Rattle.state.specs.Answer.{Answer}
-use Rattle.state.specs.Answer.{Going, Finished, Refused, Spent}
+use Rattle.state.specs.Answer.{Answer, Going, Finished, Refused, Spent}
 
 -- 6: "a lent buffer has the wrong size"
 abbrev pub wrong_sizes : List ℕ → List ℕ → Bool

@@ -25,8 +25,7 @@ use Rattle.tokens.specs.Joints.Body.{beyond, passes, passed_of, ends_at, stopped
 use Rattle.tokens.specs.declared.decoding.Token.{Token}
 use Rattle.tokens.specs.declared.decoding.Decoded.{Decoded}
 use Rattle.tokens.specs.declared.decoding.Decoded.TheVariants.{Whole}
-use Rattle.tokens.specs.Body.{Body}
-use Rattle.tokens.specs.Body.{Ends, Stops}
+use Rattle.tokens.specs.Body.{BodyRead, Ends, Stops}
 
 -- ---- what the list says of every code
 -- what may stand in a body is no definition
@@ -86,7 +85,7 @@ module _ (rom : List ℕ) (length : ℕ) (wide : Bool) (p : ℕ) where
           absurd (omega arith)
       by false d = let w : number_of rom p ≡ byte_of rom p = rw d in sym w ∙ e
 
-  abbrev pub refused_at : Result Token ℕ → Body
+  abbrev pub refused_at : Result Token ℕ → BodyRead
   refused_at (Err why) = Stops p why
   refused_at (Ok t) = Stops p 12
 
@@ -154,7 +153,7 @@ module _ (rom : List ℕ) (length : ℕ) (wide : Bool) (p : ℕ) where
 
     -- one that it does not
     module _ (h : passing ≡ false) where
-      abbrev go : ℕ → Body
+      abbrev go : ℕ → BodyRead
       go x = body_of rom length wide kinds x
 
       abbrev Halts : Decoded → Type 0

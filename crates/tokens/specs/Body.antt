@@ -36,29 +36,29 @@ unfoldable pub unknown_of : List ℕ → Token → Bool
 unknown_of kinds t = unknown_by kinds t.code t.number (number_in t.operand)
 
 -- a body as it is read: the place of its b(;), or the place of the first token that is refused, and why
-pub data Body : Type 0 where
-  Ends : (at : ℕ) → Body
-  Stops : (at why : ℕ) → Body
+pub data BodyRead : Type 0 where
+  Ends : (at : ℕ) → BodyRead
+  Stops : (at why : ℕ) → BodyRead
 
 -- what is handed back of one
-abbrev pub body_in : Result ℕ Stop → Body
+abbrev pub body_in : Result ℕ Stop → BodyRead
 body_in (Ok at) = Ends at
 body_in (Err s) = Stops s.at (refusal_number s.why)
 
 -- what follows a whole token of a body at p: the body ends there, it is refused there, or reading goes on at q
-abbrev pub body_onward : Bool → Bool → ℕ → (ℕ → Body) → ℕ → Body
+abbrev pub body_onward : Bool → Bool → ℕ → (ℕ → BodyRead) → ℕ → BodyRead
 body_onward true unknown p go q = Ends p
 body_onward false true p go q = Stops p 12
 body_onward false false p go q = go q
 
-abbrev pub after_of : List ℕ → ℕ → Result Token ℕ → (ℕ → Body) → Body
+abbrev pub after_of : List ℕ → ℕ → Result Token ℕ → (ℕ → BodyRead) → BodyRead
 after_of kinds p (Err why) go = Stops p why
 after_of kinds p (Ok t) go = body_onward (eqb t.number 0xC2) (unknown_of kinds t) p go t.next
 
 -- reading on from p, of so many tokens at most: none is left where none can start before the length
-unfoldable pub body_from : List ℕ → ℕ → Bool → List ℕ → ℕ → ℕ → Body
+unfoldable pub body_from : List ℕ → ℕ → Bool → List ℕ → ℕ → ℕ → BodyRead
 body_from rom length wide kinds zero p = Stops p 10
 body_from rom length wide kinds (suc k) p = after_of kinds p (read_of rom length wide true p) (λ q. body_from rom length wide kinds k q)
 
-abbrev pub body_of : List ℕ → ℕ → Bool → List ℕ → ℕ → Body
+abbrev pub body_of : List ℕ → ℕ → Bool → List ℕ → ℕ → BodyRead
 body_of rom length wide kinds p = body_from rom length wide kinds (length - p) p

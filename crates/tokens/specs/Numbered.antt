@@ -9,8 +9,7 @@ use Rattle.tokens.specs.declared.decoding.Operand.{Operand}
 use Rattle.tokens.specs.declared.decoding.Token.{Token}
 use Rattle.tokens.specs.declared.decoding.Decoded.{Decoded}
 use Rattle.tokens.specs.declared.decoding.Decoded.TheVariants.{Cut, Unlisted, Whole}
-use Rattle.tokens.specs.Body.{Body}
-use Rattle.tokens.specs.Body.{Ends, Stops}
+use Rattle.tokens.specs.Body.{BodyRead, Ends, Stops}
 use Rattle.tokens.specs.declared.reader.Piece.{Piece}
 use Rattle.tokens.specs.declared.reader.Piece.TheVariants.{End, Raw, Listed}
 
@@ -39,7 +38,7 @@ read_says (Err why) = refuses why
 read_says (Ok t) = gives (token_values t)
 
 -- ---- a body: the place of its b(;), or the refusal with the place of the token that has it
-abbrev pub body_says : Body → Numbered
+abbrev pub body_says : BodyRead → Numbered
 body_says (Ends at) = gives (at ∷ [])
 body_says (Stops at why) = record { number = why; values = at ∷ [] }
 

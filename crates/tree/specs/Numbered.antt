@@ -2,8 +2,7 @@
 -- refusal. Assumes nothing.
 use Rattle.std.specs.Prelude.{[], ◌∷◌, Err, Ok, Result, ℕ}
 use Rattle.cells.specs.Numbered.{Numbered, gives, refuses}
-use Rattle.tree.specs.Sought.{ValueSought}
-use Rattle.tree.specs.Sought.{Value, Unfound}
+use Rattle.tree.specs.Sought.{ValueSought, Value, Unfound}
 
 -- ---- a write
 abbrev pub outcome_says : Result (Unit {0}) ℕ → Numbered

@@ -10,8 +10,7 @@ use Rattle.tree.specs.Held.{Property, name_size, value_size, held_of, matches, s
 use Rattle.tree.specs.Whole.{parent_of, whole_tree}
 use Rattle.tree.specs.declared.tree.Tree.{Tree}
 use Rattle.tree.specs.declared.property.Found.{Found}
-use Rattle.tree.specs.Sought.{ValueSought}
-use Rattle.tree.specs.Sought.{Value, Unfound}
+use Rattle.tree.specs.Sought.{ValueSought, Value, Unfound}
 
 abbrev pub slash : ℕ
 slash = 0x2F

@@ -1,4 +1,5 @@
--- Where the value of a property that is looked up lies, by its first place in the store and its size, or why there is none. Assumes nothing.
+-- Where the value of a property that is looked up lies, by its first place in the store and its size, or why there is none. Assumes
+-- nothing.
 use Rattle.std.specs.Prelude.{ℕ, Result, Ok, Err}
 use Rattle.rom.specs.Refusal.{refusal_number}
 use Rattle.rom.specs.declared.refusal.Refusal.{Refusal}

@@ -73,8 +73,8 @@ pub fn node_table(tree: Tree, parents: &mut [u32], counts: &mut [u32]) -> Result
     Ok(())
 }
 
-// The rows in a lent slice of structs; refused by 6 and then 7 all rows stay as they were. What a row holds is decided in `row_of`; this walk
-// only stores.
+// The rows in a lent slice of structs; refused by 6 and then 7 all rows stay as they were. What a row holds is decided in `row_of`; this
+// walk only stores.
 pub fn node_rows(tree: Tree, rows: &mut [Row]) -> Result<(), Refusal>
     ensures { (refusal_in result ≡ rows_refusal tree (length rows.old))
         × (rows.new ≡ rows_then (refusal_in result) rows.old (rows_of tree)) }

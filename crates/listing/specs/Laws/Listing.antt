@@ -13,8 +13,7 @@ use Rattle.state.specs.Open.{open_of}
 use Rattle.state.specs.Run.{RunResult, told_ran}
 use Rattle.state.specs.Laws.Keeps.Open.{open_good}
 use Rattle.state.specs.Laws.Steps.{Left, run_left}
-use Rattle.state.specs.Answer.{Ran}
-use Rattle.state.specs.Answer.{Stepped}
+use Rattle.state.specs.Answer.{Ran, Stepped}
 use Rattle.screen.specs.Laws.Found.Screen.{screened_of}
 use Rattle.screen.specs.Promise.{Promised, passes}
 use Rattle.screen.proofs.Exact.Exactly.{promise_kept, one_result}

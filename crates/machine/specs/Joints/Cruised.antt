@@ -6,9 +6,7 @@ use Rattle.state.specs.Joints.Apart.{Arrays, joined}
 use Rattle.state.specs.Joints.Moves.{stepped}
 use Rattle.state.specs.Answer.{Answer, answer_in}
 use Rattle.state.specs.declared.answer.Answer.{Answer as Said}
-use Rattle.state.specs.Answer.{Going, Finished, Refused, Spent}
-use Rattle.state.specs.Answer.{Ran}
-use Rattle.state.specs.Answer.{Stepped}
+use Rattle.state.specs.Answer.{Going, Finished, Refused, Spent, Ran, Stepped}
 use Rattle.state.specs.declared.apart.Core.{Core}
 use Rattle.machine.specs.declared.running.Cruised.{Cruised}
 

@@ -34,8 +34,7 @@ use Rattle.screen.specs.Laws.Found.Screen.{verdict_on, judged_of, screened_of}
 use Rattle.screen.specs.Laws.Code.Screen.{screen_judged}
 use Rattle.screen.specs.Laws.Found.Cell.{cell_with, heights_in, mark_in, moved_cell}
 use Rattle.screen.specs.Laws.Found.Sums.{packed_sum, unpacked_sum}
-use Rattle.state.specs.Answer.{Answer}
-use Rattle.state.specs.Answer.{Going, Finished, Refused, Spent}
+use Rattle.state.specs.Answer.{Answer, Going, Finished, Refused, Spent}
 
 -- a ROM, what the screen says of it, a budget, and what the run says: its answer, how many tokens it carried out, and the cells that it
 -- leaves, the lowest first

@@ -10,11 +10,8 @@ use Rattle.state.specs.Scene.{turn, scene}
 use Rattle.state.specs.Step.{token_turn}
 use Rattle.rom.specs.Sizes.{data_most, return_most}
 use Rattle.state.specs.declared.state.State.{State}
-use Rattle.state.specs.Answer.{Answer}
-use Rattle.state.specs.Answer.{Going, Refused}
-use Rattle.reckon.specs.Joints.Turned.{Fared}
-use Rattle.reckon.specs.Joints.Turned.{On, Cold, Not}
-use Rattle.reckon.specs.Joints.Turned.{Turned}
+use Rattle.state.specs.Answer.{Answer, Going, Refused}
+use Rattle.reckon.specs.Joints.Turned.{Fared, On, Cold, Not, Turned}
 
 -- a state with the cells, the heights and the place that are held apart from it
 abbrev pub packed_fast : State → List ℕ → ℕ → List ℕ → ℕ → ℕ → State

@@ -2,8 +2,7 @@
 -- another call. Assumes nothing.
 use Rattle.std.specs.Prelude.{[]}
 use Rattle.cells.specs.Numbered.{Numbered, gives, refuses}
-use Rattle.reckon.specs.Joints.Turned.{Fared}
-use Rattle.reckon.specs.Joints.Turned.{On, Cold, Not}
+use Rattle.reckon.specs.Joints.Turned.{Fared, On, Cold, Not}
 
 abbrev pub fared_says : Fared → Numbered
 fared_says On = gives []

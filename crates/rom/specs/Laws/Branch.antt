@@ -1,5 +1,6 @@
 -- An aim as a number loses nothing: no branch leads inside to 0. Assumes nothing.
-use Rattle.std.specs.Prelude.{◌≡◌, ℕ, ◌-◌, ◌/◌, ◌<◌, ◌≤◌, Bool, ◌&&◌, List, ℤ, pos, negsuc, ◌+ℤ◌, ◌≢◌, nat_le, nat_lt, refl, None, Option, Some}
+use Rattle.std.specs.Prelude.{◌≡◌, ℕ, ◌-◌, ◌/◌, ◌<◌, ◌≤◌, Bool, ◌&&◌, List, ℤ, pos, negsuc, ◌+ℤ◌, ◌≢◌, nat_le, nat_lt, refl, None, Option}
+use Rattle.std.specs.Prelude.{Some}
 use Rattle.std.proofs.Common.{sym, ap, arith}
 use Rattle.cells.specs.Laws.Tests.{tests, pick_is}
 use Rattle.cells.specs.Laws.Facts.{both_hold}

@@ -8,9 +8,7 @@ use Rattle.state.specs.Joints.Moves.{Popped, popped, stepped, pop_of}
 use Rattle.state.specs.State.{state_of, calls_on}
 use Rattle.state.specs.Numbers.{numbers_on}
 use Rattle.state.specs.declared.state.State.{State}
-use Rattle.state.specs.Answer.{Answer}
-use Rattle.state.specs.Answer.{Going, Finished, Refused}
-use Rattle.state.specs.Answer.{Stepped}
+use Rattle.state.specs.Answer.{Answer, Going, Finished, Refused, Stepped}
 use Rattle.state.specs.declared.apart.Core.{Core}
 use Rattle.state.specs.declared.apart.Told.{Told}
 use Rattle.state.specs.declared.apart.Told.TheVariants.{On, Over, Not}

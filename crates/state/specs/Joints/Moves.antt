@@ -6,9 +6,7 @@ use Rattle.state.specs.Stacks.{stacks, top_of}
 use Rattle.state.specs.State.{moved, base_of}
 use Rattle.state.specs.Effects.{entered_of, left_body_of}
 use Rattle.state.specs.declared.state.State.{State}
-use Rattle.state.specs.Answer.{Answer}
-use Rattle.state.specs.Answer.{Going, Refused}
-use Rattle.state.specs.Answer.{Stepped}
+use Rattle.state.specs.Answer.{Answer, Going, Refused, Stepped}
 
 abbrev pub stepped : Answer → State → Stepped
 stepped a st = record { answer = a; state = st }

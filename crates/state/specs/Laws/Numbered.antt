@@ -20,8 +20,7 @@ use Rattle.rom.specs.Header.{wrong_rom, wrong_length}
 use Rattle.state.specs.Step.{wrong_sizes, ready_of, done_of, read_turn, token_turn}
 use Rattle.state.specs.Run.{RunResult, ended, then, run_on, unless, run_from, run_of}
 use Rattle.state.specs.Laws.Keeps.Tests.{◌▸◌, find_at}
-use Rattle.state.specs.Answer.{Answer}
-use Rattle.state.specs.Answer.{Going, Finished, Refused, Spent}
+use Rattle.state.specs.Answer.{Answer, Going, Finished, Refused, Spent}
 use Rattle.state.specs.Numbered.{answer_says}
 use Rattle.rom.specs.Sizes.{store_size}
 use Rattle.tree.specs.Path.{parts_of, malformed, behind_slash}

@@ -54,8 +54,7 @@ use Rattle.state.specs.Run.{RunResult, ended, then, run_on, unless, run_from}
 use Rattle.state.specs.Laws.Keeps.Tests.{find_at, ◌▸◌}
 use Rattle.state.specs.Stacks.{top_of}
 use Rattle.state.specs.declared.state.State.{State}
-use Rattle.state.specs.Answer.{Answer}
-use Rattle.state.specs.Answer.{Going, Finished, Refused, Spent}
+use Rattle.state.specs.Answer.{Answer, Going, Finished, Refused, Spent}
 
 -- ---- a token keeps the state's length
 module _ (s : Scene) (t : Token) where

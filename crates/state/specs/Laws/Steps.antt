@@ -26,8 +26,7 @@ use Rattle.state.specs.Run.{RunResult, ended, then, run_on, unless, run_from, ru
 use Rattle.tree.specs.Whole.{whole_tree}
 use Rattle.cells.specs.Choice.{pick}
 use Rattle.state.specs.declared.state.State.{State}
-use Rattle.state.specs.Answer.{Answer}
-use Rattle.state.specs.Answer.{Going, Finished, Refused, Spent}
+use Rattle.state.specs.Answer.{Answer, Going, Finished, Refused, Spent}
 
 -- the same of tokens alone, where nothing is asked beforehand: what a run does from an opened state on (`run_opened`)
 unfoldable pub tokens_from : ℕ → ℕ → Scene → RunResult

@@ -5,9 +5,7 @@ use Rattle.rom.specs.Bytes.{byte_of}
 use Rattle.tokens.specs.Code.{code_of, form_in}
 use Rattle.tokens.specs.Decode.{number_of, behind_number, behind_of}
 use Rattle.tokens.specs.Place.{misplaced_of}
-use Rattle.tokens.specs.Body.{Body}
-use Rattle.tokens.specs.Body.{Ends, Stops}
-use Rattle.tokens.specs.Body.{unknown_by}
+use Rattle.tokens.specs.Body.{BodyRead, Ends, Stops, unknown_by}
 use Rattle.tokens.specs.declared.decoding.Token.{Token}
 
 -- further than any program reaches
@@ -34,6 +32,6 @@ abbrev pub ends_at : List ℕ → ℕ → ℕ → Bool
 ends_at rom length p = ltb p length && eqb (byte_of rom p) 0xC2
 
 -- how a body ends where it does not go on, by what was read there
-abbrev pub stopped_of : ℕ → Result Token ℕ → Body
+abbrev pub stopped_of : ℕ → Result Token ℕ → BodyRead
 stopped_of p (Err why) = Stops p why
 stopped_of p (Ok t) = pick (eqb t.number 0xC2) (Ends p) (Stops p 12)

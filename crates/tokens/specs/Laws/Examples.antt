@@ -12,8 +12,7 @@ use Rattle.tokens.specs.declared.decoding.Operand.TheVariants.{Nothing, Literal,
 use Rattle.tokens.specs.declared.decoding.Decoded.{Decoded}
 use Rattle.tokens.specs.declared.decoding.Decoded.TheVariants.{Cut, Unlisted, Whole}
 use Rattle.tokens.specs.declared.glance.Glance.{Glance}
-use Rattle.tokens.specs.Body.{Body}
-use Rattle.tokens.specs.Body.{Ends, Stops}
+use Rattle.tokens.specs.Body.{BodyRead, Ends, Stops}
 use Rattle.tokens.specs.declared.decoding.Token.{Token}
 
 abbrev behind_header : List ℕ → List ℕ
@@ -129,7 +128,7 @@ all_judged = refl
 abbrev some_kinds : List ℕ
 some_kinds = 0xB8 ∷ 0xB9 ∷ []
 
-abbrev bodies : List Body
+abbrev bodies : List BodyRead
 bodies =
     body_of (behind_header (0x10 ∷ 0 ∷ 0 ∷ 0 ∷ 0xC2 ∷ 0x08 ∷ 0x00 ∷ 0xC2 ∷ [])) 16 false some_kinds 8 ∷
     body_of (behind_header (0xA6 ∷ 0x08 ∷ 0x02 ∷ 0xC2 ∷ [])) 12 false some_kinds 8 ∷

@@ -17,8 +17,7 @@ use Rattle.tokens.specs.Body.{unknown_of, body_onward, after_of, body_from, body
 use Rattle.tokens.specs.declared.decoding.Token.{Token}
 use Rattle.tokens.specs.declared.decoding.Decoded.{Decoded}
 use Rattle.tokens.specs.declared.decoding.Decoded.TheVariants.{Cut, Unlisted, Whole}
-use Rattle.tokens.specs.Body.{Body}
-use Rattle.tokens.specs.Body.{Ends, Stops}
+use Rattle.tokens.specs.Body.{BodyRead, Ends, Stops}
 
 -- ---- a table's entries
 -- what holds of each entry of a table and of its default holds of what is found
@@ -115,13 +114,13 @@ none_starts rom length wide within p h =
 
 -- ---- reading a body
 module _ (rom : List ℕ) (length : ℕ) (wide : Bool) (kinds : List ℕ) where
-  same_onward : (p : ℕ) (f g : ℕ → Body) (ends unknown : Bool) (q : ℕ) → f q ≡ g q
+  same_onward : (p : ℕ) (f g : ℕ → BodyRead) (ends unknown : Bool) (q : ℕ) → f q ≡ g q
       → body_onward ends unknown p f q ≡ body_onward ends unknown p g q
   same_onward p f g true unknown q e = refl
   same_onward p f g false true q e = refl
   same_onward p f g false false q e = e
 
-  same_after : (p : ℕ) (f g : ℕ → Body) (r : Result Token ℕ) → AheadRead length p r → ((q : ℕ) → p < q → f q ≡ g q)
+  same_after : (p : ℕ) (f g : ℕ → BodyRead) (r : Result Token ℕ) → AheadRead length p r → ((q : ℕ) → p < q → f q ≡ g q)
       → after_of kinds p r f ≡ after_of kinds p r g
   same_after p f g (Err why) a e = refl
   same_after p f g (Ok t) a e = same_onward p f g (eqb t.number 0xC2) (unknown_of kinds t) t.next (e t.next a.0)

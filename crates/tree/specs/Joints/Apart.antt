@@ -68,9 +68,11 @@ Puts node name value store owners name_sizes value_sizes held r store' owners' n
 -- a node is opened, and the active one is closed
 abbrev pub Opens : List ℕ → ℕ → ℕ → Opened → List ℕ → Type 0
 Opens parents nodes active r parents' =
-    (t : Tree) → activated (numbered r.outcome) (tree_on_nodes t parents' r.nodes) r.active ≡ new_device_of (tree_on_nodes t parents nodes) active
+    (t : Tree)
+    → activated (numbered r.outcome) (tree_on_nodes t parents' r.nodes) r.active ≡ new_device_of (tree_on_nodes t parents nodes) active
 
 abbrev pub Closes : List ℕ → ℕ → ℕ → Closed → Type 0
 Closes parents first active r =
     (t : Tree) (nodes : ℕ)
-    → activated (numbered r.outcome) (tree_on_nodes t parents nodes) r.active ≡ finish_device_of (tree_on_nodes t parents nodes) first active
+    → activated (numbered r.outcome) (tree_on_nodes t parents nodes) r.active
+    ≡ finish_device_of (tree_on_nodes t parents nodes) first active

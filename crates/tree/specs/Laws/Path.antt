@@ -1,6 +1,7 @@
 -- Paths and lookups by numbers, as the code goes, and what the code's steps come to. Assumes nothing.
 use Prim.Native.Nat.{ℕ, zero, suc, ◌+◌, ◌-◌, ◌≤◌, ◌<◌}
-use Rattle.std.proofs.Common.{zero-add, add-one, true≢false, sym, ◌∙◌, length-drop, drop_of_length-le, drop-cons, drop-drop, lt-ltb, le-ltb, Err, Ok, Result}
+use Rattle.std.proofs.Common.{zero-add, add-one, true≢false, sym, ◌∙◌, length-drop, drop_of_length-le, drop-cons, drop-drop, lt-ltb}
+use Rattle.std.proofs.Common.{le-ltb, Err, Ok, Result}
 use Rattle.std.proofs.Common.{eq-eqb, ne_eqb, eqb-true}
 use native.Mathlib.Omega.{arith}
 use Rattle.std.proofs.Math.Decide.{dec_le}
@@ -23,8 +24,7 @@ use Rattle.tree.specs.Path.{down_from, behind_slash, find_node_of, named_place, 
 use Rattle.tree.specs.Path.{own_value_of}
 use Rattle.tree.specs.declared.tree.Tree.{Tree}
 use Rattle.tree.specs.declared.property.Found.{Found}
-use Rattle.tree.specs.Sought.{ValueSought}
-use Rattle.tree.specs.Sought.{Value, Unfound}
+use Rattle.tree.specs.Sought.{ValueSought, Value, Unfound}
 
 -- ---- parts
 -- how many bytes stand before the first slash

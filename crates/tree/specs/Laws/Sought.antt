@@ -18,8 +18,7 @@ use Rattle.tree.specs.Laws.Layout.{either}
 use Rattle.tree.specs.Laws.Trees.{whole_facts}
 use Rattle.tree.specs.Laws.Path.{place_value, place_why, place_empty, path_unjudged, property_there, property_none}
 use Rattle.tree.specs.declared.tree.Tree.{Tree}
-use Rattle.tree.specs.Sought.{ValueSought}
-use Rattle.tree.specs.Sought.{Value, Unfound}
+use Rattle.tree.specs.Sought.{ValueSought, Value, Unfound}
 
 -- a property is one of these
 abbrev pub OneOf : Property → List Property → Type 0

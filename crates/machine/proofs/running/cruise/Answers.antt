@@ -90,7 +90,8 @@ loop-n-preserved-in-On c =
           hot_goes x.budget c.loop-n.n _ (scene x.rom.now c.loop-n.work c.loop-n.store
           (joined (arrays c.loop-n.cells c.loop-n.back c.loop-n.places c.loop-n.wides c.loop-n.bases c.loop-n.names c.loop-n.kinds
           c.loop-n.values c.loop-n.ways c.loop-n.parents
-          c.loop-n.owners c.loop-n.titles c.loop-n.sizes) c.loop-n.core)) c.loop-n.invariant.1 c.loop-n-test.true (turned_in c.fast-t.result) _ _
+          c.loop-n.owners c.loop-n.titles c.loop-n.sizes) c.loop-n.core)) c.loop-n.invariant.1 c.loop-n-test.true
+          (turned_in c.fast-t.result) _ _
           c.fast-t.ensures
           (ap fared_in c.in-On.is)),
       c.loop-n.invariant.2,
@@ -143,7 +144,8 @@ returns-then-core-eq0 c =
     c.fast-t.ensures (ap fared_in c.in-Cold.is)
     in let i = h.0 in
     rw c.halted-then-core-eq0.ensures (turn_rooted _ _ _ _ i c.loop-n-test.true _
-    (came _ (turned_to c.loop-n.core (turned_in c.fast-t.result)) _ _ _ _ _ _ _ _ _ _ _ _ _ _ _ _ i.0 c.cold_token-r.ensures.0 refl refl refl refl refl
+    (came _ (turned_to c.loop-n.core (turned_in c.fast-t.result)) _ _ _ _ _ _ _ _ _ _ _ _ _ _ _ _
+    i.0 c.cold_token-r.ensures.0 refl refl refl refl refl
     refl refl
     refl refl refl refl refl refl) (ap answer_of c.in-On-told.is) c.if-core-eq0.true)
 
@@ -156,11 +158,13 @@ loop-n-preserved c =
           let h = hot_left x.budget c.loop-n.n _ (scene x.rom.now c.loop-n.work c.loop-n.store
           (joined (arrays c.loop-n.cells c.loop-n.back c.loop-n.places c.loop-n.wides c.loop-n.bases c.loop-n.names c.loop-n.kinds
           c.loop-n.values c.loop-n.ways c.loop-n.parents
-          c.loop-n.owners c.loop-n.titles c.loop-n.sizes) c.loop-n.core)) c.loop-n.invariant.1 c.loop-n-test.true (turned_in c.fast-t.result) _ _
+          c.loop-n.owners c.loop-n.titles c.loop-n.sizes) c.loop-n.core)) c.loop-n.invariant.1 c.loop-n-test.true
+          (turned_in c.fast-t.result) _ _
           c.fast-t.ensures
           (ap fared_in c.in-Cold.is) in let i = h.0 in
           turn_goes _ _ _ _ i c.loop-n-test.true _
-          (came _ (turned_to c.loop-n.core (turned_in c.fast-t.result)) _ _ _ _ _ _ _ _ _ _ _ _ _ _ _ _ i.0 c.cold_token-r.ensures.0 refl refl refl refl
+          (came _ (turned_to c.loop-n.core (turned_in c.fast-t.result)) _ _ _ _ _ _ _ _ _ _ _ _ _ _ _ _
+          i.0 c.cold_token-r.ensures.0 refl refl refl refl
           refl refl
           refl refl refl refl refl refl refl) (ap answer_of c.in-On-told.is) c.if-core-eq0.false),
       c.cold_token-r.ensures.1,
@@ -188,7 +192,8 @@ returns-in-Over c =
     c.fast-t.ensures (ap fared_in c.in-Cold.is)
     in let i = h.0 in
     rw c.halted-in-Over.ensures (turn_ends _ _ _ _ i c.loop-n-test.true _
-    (came _ (turned_to c.loop-n.core (turned_in c.fast-t.result)) _ _ _ _ _ _ _ _ _ _ _ _ _ _ _ _ i.0 c.cold_token-r.ensures.0 refl refl refl refl refl
+    (came _ (turned_to c.loop-n.core (turned_in c.fast-t.result)) _ _ _ _ _ _ _ _ _ _ _ _ _ _ _ _
+    i.0 c.cold_token-r.ensures.0 refl refl refl refl refl
     refl refl
     refl refl refl refl refl refl) Finished (ap answer_of c.in-Over.is))
 
@@ -209,7 +214,8 @@ returns-in-Not-told c =
     c.fast-t.ensures (ap fared_in c.in-Cold.is)
     in let i = h.0 in
     rw c.halted-in-Not-told.ensures (turn_ends _ _ _ _ i c.loop-n-test.true _
-    (came _ (turned_to c.loop-n.core (turned_in c.fast-t.result)) _ _ _ _ _ _ _ _ _ _ _ _ _ _ _ _ i.0 c.cold_token-r.ensures.0 refl refl refl refl refl
+    (came _ (turned_to c.loop-n.core (turned_in c.fast-t.result)) _ _ _ _ _ _ _ _ _ _ _ _ _ _ _ _
+    i.0 c.cold_token-r.ensures.0 refl refl refl refl refl
     refl refl
     refl refl refl refl refl refl) (Refused _) (ap answer_of c.in-Not-told.is))
 

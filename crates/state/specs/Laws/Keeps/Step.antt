@@ -1,6 +1,7 @@
 -- A token that is carried out keeps everything that refusals 6, 1, 7 and 4 ask: family by family. Assumes nothing.
 use Prim.Native.Nat.{ℕ, suc, ◌+◌, ◌-◌, ◌%◌, ◌^◌, ◌<◌, ◌≤◌}
-use Rattle.std.proofs.Common.{arith, ◌∙◌, length-set, length-append, length-take, eqb→eq, nltb→le, ltb→lt, eq-eqb, ltb-true, Err, Ok, Result}
+use Rattle.std.proofs.Common.{arith, ◌∙◌, length-set, length-append, length-take, eqb→eq, nltb→le, ltb→lt, eq-eqb, ltb-true, Err, Ok}
+use Rattle.std.proofs.Common.{Result}
 use Rattle.std.specs.Prelude.{◌≡◌, Bool, true, false, not, ◌&&◌, ◌||◌, List, [], ◌∷◌, ◌++◌, length, get_or, set, ltb, leb, eqb}
 use Rattle.std.proofs.Math.Path.{refl, ap, subst}
 use Rattle.std.proofs.Math.Dec.{T, nleb→lt}

@@ -24,7 +24,7 @@ use Rattle.tokens.specs.Laws.Stands.{Stands}
 use Rattle.tokens.specs.declared.decoding.Operand.{Operand}
 use Rattle.tokens.specs.declared.decoding.Operand.TheVariants.{Definition}
 use Rattle.tokens.specs.declared.decoding.Token.{Token}
-use Rattle.tokens.specs.Body.{Body}
+use Rattle.tokens.specs.Body.{BodyRead}
 use Rattle.tokens.specs.Definition.{new_number}
 use Rattle.state.specs.Refusals.{outside_program, leads_out}
 use Rattle.state.specs.Effects.{aimed, behind_body}
@@ -161,16 +161,16 @@ module _ (rom : List ℕ) (size : ℕ) (wide within : Bool) (p : ℕ) (t : Token
 
 -- ---- reading a body ends at a place
 module _ (rom : List ℕ) (size : ℕ) (wide : Bool) (kinds : List ℕ) where
-  abbrev Behind : ℕ → Body → Type 0
+  abbrev Behind : ℕ → BodyRead → Type 0
   Behind p b = (p ≤ behind_body b) × (behind_body b ≤ size)
 
-  onward_behind : (ends unknown : Bool) (p q : ℕ) (go : ℕ → Body) → p < q → q ≤ size → Behind q (go q)
+  onward_behind : (ends unknown : Bool) (p q : ℕ) (go : ℕ → BodyRead) → p < q → q ≤ size → Behind q (go q)
       → Behind p (body_onward ends unknown p go q)
   onward_behind true unknown p q go l m h = (omega arith, omega arith)
   onward_behind false true p q go l m h = (omega arith, omega arith)
   onward_behind false false p q go l m h = (omega arith, h.1)
 
-  after_behind : (p : ℕ) (r : Result Token ℕ) (go : ℕ → Body) → AheadRead size p r → p ≤ size → ((q : ℕ) → q ≤ size → Behind q (go q))
+  after_behind : (p : ℕ) (r : Result Token ℕ) (go : ℕ → BodyRead) → AheadRead size p r → p ≤ size → ((q : ℕ) → q ≤ size → Behind q (go q))
       → Behind p (after_of kinds p r go)
   after_behind p (Err why) go a l h = (omega arith, omega arith)
   after_behind p (Ok t) go a l h = onward_behind (eqb t.number 0xC2) (unknown_of kinds t) p t.next go a.0 a.1

@@ -26,8 +26,7 @@ use Rattle.state.specs.Step.{wrong_sizes, ready_of}
 use Rattle.state.specs.declared.state.State.{State}
 use Rattle.state.specs.declared.state.Calls.{Calls}
 use Rattle.state.specs.declared.state.Numbers.{Numbers}
-use Rattle.state.specs.Answer.{Answer}
-use Rattle.state.specs.Answer.{Going, Finished, Refused}
+use Rattle.state.specs.Answer.{Answer, Going, Finished, Refused}
 
 -- ---- a place
 pub record Place (size place : ℕ) : Type 0 where

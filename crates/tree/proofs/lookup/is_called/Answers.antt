@@ -21,7 +21,8 @@ pub overflow_add-at : goal.overflow_add-at
 unfolding letters_of
 overflow_add-at c =
     let named : let a = c.args in (c.in-Ok.field-0.at + c.in-Ok.field-0.size ≤ live_of a.tree)
-    × (value_in (held_of a.tree a.store.now) a.node (letters_of "name") ≡ some (part_of a.store.now c.in-Ok.field-0.at c.in-Ok.field-0.size)) =
+    × (value_in (held_of a.tree a.store.now) a.node (letters_of "name")
+    ≡ some (part_of a.store.now c.in-Ok.field-0.at c.in-Ok.field-0.size)) =
     let a = c.args in place_value a.tree a.store.now a.node (letters_of "name") c.in-Ok.field-0.at c.in-Ok.field-0.size
     (sym c.place_of.ensures ∙ ap sought_in c.in-Ok.is) in
     let h = named.0 in search rules
@@ -38,7 +39,8 @@ pub slice_bounds-less_null-end : goal.slice_bounds-less_null-end
 unfolding letters_of
 slice_bounds-less_null-end c =
     let named : let a = c.args in (c.in-Ok.field-0.at + c.in-Ok.field-0.size ≤ live_of a.tree)
-    × (value_in (held_of a.tree a.store.now) a.node (letters_of "name") ≡ some (part_of a.store.now c.in-Ok.field-0.at c.in-Ok.field-0.size)) =
+    × (value_in (held_of a.tree a.store.now) a.node (letters_of "name")
+    ≡ some (part_of a.store.now c.in-Ok.field-0.at c.in-Ok.field-0.size)) =
     let a = c.args in place_value a.tree a.store.now a.node (letters_of "name") c.in-Ok.field-0.at c.in-Ok.field-0.size
     (sym c.place_of.ensures ∙ ap sought_in c.in-Ok.is) in
     let h = named.0 in search rules
@@ -59,7 +61,8 @@ pub returns-in-Ok : goal.returns-in-Ok
 unfolding letters_of
 returns-in-Ok c =
     let named : let a = c.args in (c.in-Ok.field-0.at + c.in-Ok.field-0.size ≤ live_of a.tree)
-    × (value_in (held_of a.tree a.store.now) a.node (letters_of "name") ≡ some (part_of a.store.now c.in-Ok.field-0.at c.in-Ok.field-0.size)) =
+    × (value_in (held_of a.tree a.store.now) a.node (letters_of "name")
+    ≡ some (part_of a.store.now c.in-Ok.field-0.at c.in-Ok.field-0.size)) =
     let a = c.args in place_value a.tree a.store.now a.node (letters_of "name") c.in-Ok.field-0.at c.in-Ok.field-0.size
     (sym c.place_of.ensures ∙ ap sought_in c.in-Ok.is) in
     let e = rw (add-sub_cancel_left c.in-Ok.field-0.at c.in-Ok.field-0.size) at c.less_null.ensures in

@@ -9,7 +9,8 @@ use Rattle.tree.proofs.lookup.property_value.Goals as goal
 pub overflow_add-result : goal.overflow_add-result
 overflow_add-result c =
     let held : let a = c.args in (c.in-Ok.field-0.at + c.in-Ok.field-0.size ≤ length a.store.now)
-    × (property_value_of a.tree a.store.now a.path.now a.name.now ≡ part_of a.store.now c.in-Ok.field-0.at c.in-Ok.field-0.size) = let a = c.args
+    × (property_value_of a.tree a.store.now a.path.now a.name.now
+    ≡ part_of a.store.now c.in-Ok.field-0.at c.in-Ok.field-0.size) = let a = c.args
     in property_holds a.tree a.store.now a.path.now a.name.now (Value c.in-Ok.field-0.at c.in-Ok.field-0.size)
     (sym c.find_property.ensures ∙ ap sought_in c.in-Ok.is) in
     let h = held.0 in search rules
@@ -17,7 +18,8 @@ overflow_add-result c =
 pub slice_bounds-result-end : goal.slice_bounds-result-end
 slice_bounds-result-end c =
     let held : let a = c.args in (c.in-Ok.field-0.at + c.in-Ok.field-0.size ≤ length a.store.now)
-    × (property_value_of a.tree a.store.now a.path.now a.name.now ≡ part_of a.store.now c.in-Ok.field-0.at c.in-Ok.field-0.size) = let a = c.args
+    × (property_value_of a.tree a.store.now a.path.now a.name.now
+    ≡ part_of a.store.now c.in-Ok.field-0.at c.in-Ok.field-0.size) = let a = c.args
     in property_holds a.tree a.store.now a.path.now a.name.now (Value c.in-Ok.field-0.at c.in-Ok.field-0.size)
     (sym c.find_property.ensures ∙ ap sought_in c.in-Ok.is) in
     let h = held.0 in search rules
@@ -25,7 +27,8 @@ slice_bounds-result-end c =
 pub returns-in-Ok : goal.returns-in-Ok
 returns-in-Ok c =
     let held : let a = c.args in (c.in-Ok.field-0.at + c.in-Ok.field-0.size ≤ length a.store.now)
-    × (property_value_of a.tree a.store.now a.path.now a.name.now ≡ part_of a.store.now c.in-Ok.field-0.at c.in-Ok.field-0.size) = let a = c.args
+    × (property_value_of a.tree a.store.now a.path.now a.name.now
+    ≡ part_of a.store.now c.in-Ok.field-0.at c.in-Ok.field-0.size) = let a = c.args
     in property_holds a.tree a.store.now a.path.now a.name.now (Value c.in-Ok.field-0.at c.in-Ok.field-0.size)
     (sym c.find_property.ensures ∙ ap sought_in c.in-Ok.is) in
     rw (add-sub_cancel_left c.in-Ok.field-0.at c.in-Ok.field-0.size) (sym held.1)
