@@ -115,7 +115,8 @@ fn why_at(rom: &[u8], core: Core) -> Refusal
 {
     match read_at(rom, core.length, core.wide, 0 < core.frames, core.place) {
         Err(why) => why,
-        Ok(_) => unreachable!(),
+        // no token is read here
+        Ok(_) => Refusal::Unlisted,
     }
 }
 

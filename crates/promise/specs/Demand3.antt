@@ -11,7 +11,8 @@
 -- It is said of what the contracts of `screen`, `open` and `run` promise, and so it holds of whatever code meets them. Of the caller it
 -- asks that the three are called with the same ROM, that opening was not refused, and that the run is lent memory of the sizes that opening
 -- had. How it is proved: Laws/Standing.antt says how the state stands before each token, and proofs/Running.antt that it always does.
--- Assumes nothing.
+-- An answer is taken by document 01's number: `numbered`, `stepped_in` and `ran_in` in those contracts give it for a refusal's name, and no
+-- two names have one number (`same_refusal`, rom/specs/Laws/Refusal.antt). Assumes nothing.
 use Rattle.std.specs.Prelude.{ℕ, ◌+◌, ◌≤◌, ◌≡◌, ◌↔◌, List, length, Ok, Result}
 use Rattle.rom.specs.Sizes.{marks_size}
 use Rattle.rom.specs.Header.{header_of}

@@ -56,7 +56,8 @@ pub fn aim_at(rom: &[u8], spread: Spread, length: u32, wide: bool, at: u32) -> O
     }
 }
 
-// The same as a number: 0, which is no place of a branch, for outside. For a loop that goes by numbers, over FCode bytes that are laid out.
+// The same as a number: 0, which is no place of a branch, for outside. It is a name of its own in docs/PROMISES.md, for a loop that goes
+// by numbers, over FCode bytes that are laid out.
 pub fn destination(fcode: &[u8], length: u32, wide: bool, at: u32) -> u32
     ensures { result ≡ place_in (aim_of fcode.now length wide at) }
 {

