@@ -7,12 +7,13 @@ cd "$(dirname "$0")/.."
 room=$(mktemp -d)
 trap 'rm -rf "$room"' EXIT
 tar -cf - --exclude='crates/*/out' crates crates.txt | tar -xf - -C "$room"
-echo 'rows: tree' >>"$room/crates.txt"
+echo 'rows: rom tree' >>"$room/crates.txt"
 mkdir -p "$room/crates/rows/src"
 
 cat >"$room/crates/rows/src/main.rt" <<'END'
 #![tactic(auto)]
 
+use rom::refusal_in;
 use std::io;
 use tree::Row;
 use tree::Tree;
@@ -26,7 +27,7 @@ use tree::tail_of;
 // A tree's name, how many rows are lent, the answer, and the 33 rows.
 fn show(rt: &impl Print, name: &str, tree: Tree, size: usize) -> io::Result<()> {
     let mut rows = [Row { parent: 9, count: 9 }; 33];
-    let answer = node_rows(tree, &mut rows[..size]);
+    let answer = refusal_in(node_rows(tree, &mut rows[..size]));
     print!(rt; "{name} {size}: {answer}")?;
     for row in rows {
         print!(rt; " {}:{}", row.parent, row.count)?;

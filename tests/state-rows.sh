@@ -7,13 +7,14 @@ cd "$(dirname "$0")/.."
 room=$(mktemp -d)
 trap 'rm -rf "$room"' EXIT
 tar -cf - --exclude='crates/*/out' crates crates.txt | tar -xf - -C "$room"
-echo 'rows: tree state' >>"$room/crates.txt"
+echo 'rows: rom tree state' >>"$room/crates.txt"
 mkdir -p "$room/crates/rows/src"
 
 cat >"$room/crates/rows/src/main.rt" <<'END'
 #![tactic(auto)]
 
 use std::io;
+use rom::refusal_in;
 use state::State;
 use state::node_rows_in;
 use state::open;
@@ -22,7 +23,7 @@ use tree::Row;
 // A state's name, how many rows are lent, the answer, and the 33 rows.
 fn show(rt: &impl Print, name: &str, state: State, size: usize) -> io::Result<()> {
     let mut rows = [Row { parent: 9, count: 9 }; 33];
-    let answer = node_rows_in(state, &mut rows[..size]);
+    let answer = refusal_in(node_rows_in(state, &mut rows[..size]));
     print!(rt; "{name} {size}: {answer}")?;
     for row in rows {
         print!(rt; " {}:{}", row.parent, row.count)?;

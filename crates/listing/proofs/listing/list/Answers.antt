@@ -72,5 +72,5 @@ returns-in-Err c =
     (refused (fcode_of a.rom.now) a.marks.now a.work.now a.store.now a.budget a.text.now c.if-text-ne-TEXT_SIZE.false
     c.if-marks-ne-MARKS_SIZE.false
     c.if-work-ne-WORK_SIZE.false c.if-store-ne-STORE_SIZE.false _ _ p _ _
-    (rw c.number.ensures at c.refused_text-in-Err.ensures)) in
+    (search rules)) in
     record { lists = told.0; upper_bound = told.1 }
