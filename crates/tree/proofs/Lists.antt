@@ -2,6 +2,7 @@
 use Prim.Native.Nat.{ℕ, zero, suc, ◌+◌, ◌-◌, ◌≤◌, ◌<◌}
 use Rattle.std.proofs.Common.{add-one, zero-add, sym, ap, ◌∙◌, arith, drop-cons, lt-ltb, le-ltb}
 use Rattle.std.specs.Prelude.{Bool, true, false, not, ◌&&◌, cond, List, [], ◌∷◌, ◌≡◌, refl, length, get_or, take, drop, replicate, eqb}
+use Rattle.std.specs.Prelude.{Option, None, Some, option_copied, unwrap_or}
 use Rattle.std.specs.Bool.{MatchBool}
 use Rattle.std.specs.List.{range_with_len, list_all, count_by, slice_split, onto_first, AllWithin, HoldsAt}
 use Rattle.std.proofs.lemmas.List.FromFn.{get_or-range_with_len, length-range_with_len}
@@ -23,6 +24,10 @@ use Rattle.memory.specs.Laws.Memory.{part_written}
 use Rattle.std.proofs.Math.Decide.{dec_le}
 use borrow.Rule.Slice.PartMut.{put_mid}
 use Rattle.tree.specs.Laws.Trees.{every_all, every_fails}
+use Rattle.tree.specs.Laws.Sought.{same_is}
+use Rattle.std.specs.Option.{option_eq, is_some}
+use Rattle.std.specs.Borrow.{Bor}
+use Rattle.std.proofs.lemmas.Bool.{false≢true, false_from_ne_true, eq-eqb}
 
 abbrev numbers : ℕ → List ℕ
 numbers n = range_with_len 0 n
@@ -155,3 +160,16 @@ same_listed [] [] = refl
 same_listed [] (y ∷ ys) = refl
 same_listed (x ∷ xs) [] = refl
 same_listed (x ∷ xs) (y ∷ ys) = ap (λ (r : Bool). eqb x y && r) (same_listed xs ys)
+
+-- bytes that may be missing, compared, where they are the same
+ends_same : (p q : Option (Bor ℕ)) → option_copied p ≡ option_copied q → option_eq (λ x y. eqb x.now y.now) p q ≡ true
+ends_same None None e = refl
+ends_same None (Some y) e = absurd (false≢true (ap is_some e))
+ends_same (Some x) None e = absurd (false≢true (sym (ap is_some e)))
+ends_same (Some x) (Some y) e = eq-eqb x.now y.now (ap (λ o. unwrap_or o 0) e)
+
+-- names are not the same where a byte that one rule picks from each is not
+pub ends_differ : (g : List ℕ → Option ℕ) (a b : List ℕ) (p q : Option (Bor ℕ)) → option_copied p ≡ g a → option_copied q ≡ g b
+    → option_eq (λ x y. eqb x.now y.now) p q ≡ false → false ≡ same_bytes a b
+ends_differ g a b p q l m e =
+    sym (false_from_ne_true (same_bytes a b) (λ s. false≢true (sym e ∙ ends_same p q (l ∙ ap g (same_is a b s) ∙ sym m))))

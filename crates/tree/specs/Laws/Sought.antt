@@ -30,7 +30,7 @@ abbrev pub Has : List Property → ℕ → List ℕ → Property → Type 0
 Has ps node name p = OneOf p ps × (p.node ≡ node) × (p.name ≡ name)
 
 -- ---- two names are the same where their bytes are
-same_is : (a b : List ℕ) → same_bytes a b ≡ true → a ≡ b
+pub same_is : (a b : List ℕ) → same_bytes a b ≡ true → a ≡ b
 unfolding same_bytes
 same_is [] [] e = refl
 same_is [] (y ∷ ys) e = absurd (true≢false (sym e))
