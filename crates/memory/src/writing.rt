@@ -1,5 +1,5 @@
 // Bytes written into memory. What lies past the end is left out, so that every call is total.
-ghost use Rattle.std.specs.Prelude.{◌≡◌, set};
+ghost use Rattle.std.specs.Prelude.{◌≡◌, ◌+◌, ◌≤◌, length, set};
 ghost use Rattle.memory.specs.Writing.{written_of, bytes_of, moved_of, cleared_of};
 
 use std::cmp::{max, min};
@@ -24,6 +24,17 @@ pub fn write_cell(memory: &mut [u8], at: u32, cell: u32)
     put(memory, k + 3, d);
 }
 
+// Bytes that have room, by a loop: the slice's copy_from_slice calls memmove, and a C program that brings memcpy and memset alone could not
+// link it.
+fn lay(memory: &mut [u8], at: usize, bytes: &[u8])
+    requires { at + length bytes.now ≤ length memory.old }
+    ensures { memory.new ≡ written_of memory.old at bytes.now }
+{
+    for i in 0..bytes.len() {
+        memory[at + i] = bytes[i];
+    }
+}
+
 // Another memory's bytes.
 pub fn copy_in(memory: &mut [u8], at: u32, bytes: &[u8])
     ensures { memory.new ≡ written_of memory.old at bytes.now }
@@ -33,10 +44,31 @@ pub fn copy_in(memory: &mut [u8], at: u32, bytes: &[u8])
         return;
     }
     let n = min(bytes.len(), memory.len() - k);
-    memory[k..k + n].copy_from_slice(&bytes[..n]);
+    lay(memory, k, &bytes[..n]);
 }
 
-// A memory's own bytes, as they were before, also where the two parts overlap.
+// Towards the start, the first byte first, so that none is written over before it is read.
+fn move_down(memory: &mut [u8], start: usize, to: usize, count: usize)
+    requires { (to ≤ start) × (start + count ≤ length memory.old) }
+    ensures { memory.new ≡ moved_of memory.old start to count }
+{
+    for i in 0..count {
+        memory[to + i] = memory[start + i];
+    }
+}
+
+// Towards the end, the last byte first.
+fn move_up(memory: &mut [u8], start: usize, to: usize, count: usize)
+    requires { (start ≤ to) × (to + count ≤ length memory.old) }
+    ensures { memory.new ≡ moved_of memory.old start to count }
+{
+    for i in (0..count).rev() {
+        memory[to + i] = memory[start + i];
+    }
+}
+
+// A memory's own bytes, as they were before, also where the two parts overlap. Each way is a function by itself, so that to take the wrong
+// one is a slip that the contract is seen to refuse (must-fail/always_down).
 pub fn copy_within(memory: &mut [u8], start: u32, to: u32, count: u32)
     ensures { memory.new ≡ moved_of memory.old start to count }
 {
@@ -46,7 +78,11 @@ pub fn copy_within(memory: &mut [u8], start: u32, to: u32, count: u32)
     if n == 0 {
         return;
     }
-    memory.copy_within(from..from + n, goal);
+    if goal <= from {
+        move_down(memory, from, goal, n);
+    } else {
+        move_up(memory, from, goal, n);
+    }
 }
 
 // Zeros from a place on to the end.
