@@ -6,6 +6,8 @@ ghost use Rattle.tree.specs.Held.{same_bytes, live_among};
 ghost use Rattle.tree.specs.Property.{value_of, name_byte, bad_name};
 ghost use Rattle.tree.specs.Joints.Steps.{size_of};
 ghost use Rattle.tree.specs.Joints.Apart.{Finds, Missing};
+ghost use Rattle.tree.specs.Laws.Same.{alike_from};
+ghost use Rattle.tree.specs.Whole.{every_below};
 ghost use Rattle.rom.specs.Sizes.{properties_most, store_size};
 
 use crate::tree::{NAME_MOST, wide};
@@ -19,11 +21,67 @@ pub struct Found {
     pub at: usize,
 }
 
-// The last bytes first: names in a series differ there, and the library is called for what stands behind the first four.
+// Bytes one by one.
+fn same_few(a: &[u8], b: &[u8]) -> bool
+    requires { length a.now ≡ length b.now }
+    ensures { result ≡ same_bytes a.now b.now }
+{
+    for k in 0..a.len() {
+        if a[k] != b[k] {
+            return false;
+        }
+    }
+    true
+}
+
+// Whether eight bytes from a place on are the same. All of them are compared, with no way out between, so that they are read as one word.
+fn same_eight(a: &[u8], b: &[u8], k: usize) -> bool
+    requires { (k + 8 ≤ length a.now) × (k + 8 ≤ length b.now) }
+    ensures { result ≡ every_below 8 (alike_from a.now b.now k) }
+{
+    (a[k] == b[k])
+        & (a[k + 1] == b[k + 1])
+        & (a[k + 2] == b[k + 2])
+        & (a[k + 3] == b[k + 3])
+        & (a[k + 4] == b[k + 4])
+        & (a[k + 5] == b[k + 5])
+        & (a[k + 6] == b[k + 6])
+        & (a[k + 7] == b[k + 7])
+}
+
+// Eight bytes at a time. The last eight may begin among bytes that were compared already: none is left to be compared alone. By chunks of
+// eight, split off both slices, names that differ in their middle took half as much time again.
+fn same_words(a: &[u8], b: &[u8]) -> bool
+    requires { (8 ≤ length a.now) × (length a.now ≡ length b.now) }
+    ensures { result ≡ same_bytes a.now b.now }
+{
+    let last = a.len() - 8;
+    let mut k = 0;
+    // a while: by eight
+    while k < last {
+        if !same_eight(a, b, k) {
+            return false;
+        }
+        k += 8;
+    }
+    same_eight(a, b, last)
+}
+
+// Where there are more than eight the last byte comes before all others, since names in a series differ there. Not by the slices' own ==:
+// it is called out of line for what stands behind the first four bytes, and reads on where names have differed.
 pub fn same_bytes(a: &[u8], b: &[u8]) -> bool
     ensures { result ≡ same_bytes a.now b.now }
 {
-    a.last() == b.last() && a == b
+    if a.len() != b.len() {
+        return false;
+    }
+    if a.len() < 8 {
+        return same_few(a, b);
+    }
+    if 8 < a.len() && a.last() != b.last() {
+        return false;
+    }
+    same_words(a, b)
 }
 
 // Whether a byte may stand in a name: printed, no upper-case letter, and none of / \ : [ ] @.
