@@ -65,7 +65,7 @@ fn value(c: u8) -> Option<u8>
 // The decimal number at a place, the last eight digits of it; 0 where there is none.
 pub fn digits_at(text: &[u8], from: usize) -> u32 {
     let mut n: u32 = 0;
-    for c in text.iter().skip(from) {
+    for c in &text[from.min(text.len())..] {
         if !c.is_ascii_digit() {
             return n;
         }
@@ -76,10 +76,10 @@ pub fn digits_at(text: &[u8], from: usize) -> u32 {
 
 // A byte of a ROM, how often it stands, and where the text goes on.
 #[derive(Clone, Copy)]
-struct Item {
-    byte: u8,
-    times: u32,
-    next: usize,
+pub struct Item {
+    pub byte: u8,
+    pub times: u32,
+    pub next: usize,
 }
 
 // The item at a place. None is one that stands no times.

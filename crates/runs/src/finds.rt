@@ -104,12 +104,11 @@ fn show_find(rt: &impl Print, store: &[u8], state: State, word: &[u8]) -> io::Re
     let n = bytes_from(word, 0, &mut path);
     print!(rt; "find ")?;
     rt.write_all(word)?;
-    match word.iter().position(|c| *c == b':') {
-        Some(colon) => {
-            let m = bytes_from(word, colon + 1, &mut name);
-            show_value(rt, store, state, &path[..n], &name[..m])?;
-        }
-        None => show_node(rt, store, state, &path[..n])?,
+    if word.get(n + n) == Some(&b':') {
+        let m = bytes_from(word, n + n + 1, &mut name);
+        show_value(rt, store, state, &path[..n], &name[..m])?;
+    } else {
+        show_node(rt, store, state, &path[..n])?;
     }
     println!(rt)
 }

@@ -22,15 +22,18 @@ fn show_mark(rt: &impl Print, first: usize, last: usize, mark: u8) -> io::Result
     }
 }
 
-// A place is the last with its mark where the next has another, or there is none.
+// A place starts a stretch where the one before it has another mark.
 fn show_marks(rt: &impl Print, marks: &[u8]) -> io::Result<()> {
     print!(rt; "marks")?;
     let mut first = 0;
-    for (place, mark) in marks.iter().enumerate() {
-        if marks.get(place + 1) != Some(mark) {
-            show_mark(rt, first, place, *mark)?;
-            first = place + 1;
+    for place in 1..marks.len() {
+        if marks[place] != marks[place - 1] {
+            show_mark(rt, first, place - 1, marks[place - 1])?;
+            first = place;
         }
+    }
+    if let Some(mark) = marks.last() {
+        show_mark(rt, first, marks.len() - 1, *mark)?;
     }
     println!(rt)
 }
