@@ -140,7 +140,7 @@ pub fn header_lines(text: &mut [u8], at: usize, size: usize, fcode: &[u8]) -> us
 fn is_title(value: &[u8]) -> bool
     ensures { result ≡ is_title value.now }
 {
-    (2 <= value.len()) & (value.len() <= 32) & is_text(value)
+    2 <= value.len() && value.len() <= 32 && is_text(value)
 }
 
 fn title(text: &mut [u8], at: usize, store: &[u8], tree: Tree, node: u32) -> usize

@@ -44,7 +44,7 @@ pub fn is_text(value: &[u8]) -> bool
     ensures { result ≡ is_text value.now }
 {
     match value.split_last() {
-        Some((last, text)) => (*last == 0) & all_printed(text),
+        Some((last, text)) => *last == 0 && all_printed(text),
         None => false,
     }
 }

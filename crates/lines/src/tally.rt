@@ -23,7 +23,7 @@ fn raw_more(so: Tally, place: u32, next: u32) -> Tally
     if so.raws == 0 {
         return Tally {
             pieces: so.pieces + 1,
-            raws: 1,
+            raws: so.raws + 1,
             place,
             next,
         };

@@ -10,8 +10,15 @@ ends_with text last =
     let e : length (text ++ (last ∷ [])) - 1 ≡ length text = omega arith in
     rw (ne_eqb (length (text ++ (last ∷ []))) 0 (λ z. omega arith), e, get_or-append_seam text last [] 0, take-append_seam text (last ∷ []))
 
-pub returns-in-Some : goal.returns-in-Some
-returns-in-Some c = rw (c.in-Some.ensures.cases.0, ends_with c.in-Some.text.now c.in-Some.last.now, c.all_printed.ensures)
+pub returns-then-last-eq0 : goal.returns-then-last-eq0
+returns-then-last-eq0 c =
+    let e = eq-eqb c.in-Some.last.now 0 c.if-last-eq0.true in
+    rw (c.in-Some.ensures.cases.0, ends_with c.in-Some.text.now c.in-Some.last.now, e) c.all_printed.ensures
+
+pub returns-else-last-eq0 : goal.returns-else-last-eq0
+returns-else-last-eq0 c =
+    let n = ne_eqb c.in-Some.last.now 0 c.if-last-eq0.false in
+    rw (c.in-Some.ensures.cases.0, ends_with c.in-Some.text.now c.in-Some.last.now, n)
 
 pub returns-in-None : goal.returns-in-None
 unfolding is_text
