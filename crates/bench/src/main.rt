@@ -3,6 +3,8 @@
 // bytes: a token is decoded of the ROM as it is given, spread or not, and a body is read of its FCode bytes, laid one behind the other.
 #![tactic(auto)]
 
+ghost use Rattle.std.specs.Prelude.{◌≤◌, length};
+
 use given::{SPACE, TEXT, bytes_from, each_line, read_text};
 use rom::{fcode_count, lay_fcode, program_length, refusal_in, spread_of};
 use std::io;
@@ -102,7 +104,9 @@ fn show_places(rt: &impl Print, rom: &[u8], fcode: &[u8]) -> io::Result<()> {
 }
 
 // The FCode bytes of a ROM, laid into a room, as many as have room there.
-fn laid<'a>(rom: &[u8], room: &'a mut [u8]) -> &'a [u8] {
+fn laid<'a>(rom: &[u8], room: &'a mut [u8]) -> &'a [u8]
+    ensures { length result.now ≤ length room.old }
+{
     let spread = spread_of(rom);
     lay_fcode(rom, spread, &mut *room);
     let n = fcode_count(rom, spread).min(room.len());

@@ -1,5 +1,5 @@
 // Reading a dump: the bytes of a file, or of standard input where its name is a dash; and its FCode bytes, which lines are made of.
-ghost use Rattle.std.specs.Prelude.{◌≤◌, IfOk, length};
+ghost use Rattle.std.specs.Prelude.{◌≡◌, ◌≤◌, IfOk, IfSome, IsSome, MatchOption, MatchResult, length, take};
 
 use crate::print::{complain, fail, up_to};
 use rom::sizes::ROM_MOST;
@@ -60,28 +60,43 @@ fn remark(rt: &HostRuntime, name: &[u8], size: usize) {
     }
 }
 
+// Of a space so many bytes as were read; none where they could not be read, and a sentence says why.
+fn dump_read<'a>(
+    rt: &HostRuntime,
+    name: &[u8],
+    read: io::Result<usize>,
+    space: &'a [u8],
+) -> Option<&'a [u8]>
+    ensures { MatchResult read (λ n. MatchOption result ⊥ (λ dump. dump.now ≡ take n space.now)) (λ _. ¬ IsSome result) }
+{
+    match read {
+        Ok(size) => {
+            remark(rt, name, size);
+            Some(up_to(space, size))
+        }
+        Err(why) => {
+            fail(rt, name, why);
+            None
+        }
+    }
+}
+
 // The bytes of a dump, put at the start of a space; none where they cannot be read, and a sentence says why.
 pub fn read_dump<'a>(
     rt: &HostRuntime,
     name: &[u8],
     link: &[u8],
     space: &'a mut [u8],
-) -> Option<&'a [u8]> {
+) -> Option<&'a [u8]>
+    ensures { IfSome result (λ dump. length dump.now ≤ length space.old) }
+{
     let said = if is_dash(name) {
         b"standard input"
     } else {
         name
     };
-    match read_file(rt, name, link, &mut *space) {
-        Ok(size) => {
-            remark(rt, said, size);
-            Some(&space[..size])
-        }
-        Err(why) => {
-            fail(rt, said, why);
-            None
-        }
-    }
+    let read = read_file(rt, name, link, &mut *space);
+    dump_read(rt, said, read, space)
 }
 
 // The FCode bytes of a ROM: of a spread one laid in a room one behind the other, else its own, with nothing copied.

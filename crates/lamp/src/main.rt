@@ -10,6 +10,8 @@ mod print;
 mod scan;
 mod show;
 
+ghost use Rattle.std.specs.Prelude.{◌≤◌, length};
+
 use budget::budget_of;
 use lines::number_line;
 use print::{Status, complain, print, unprinted};
@@ -23,7 +25,9 @@ use std::process::ExitCode;
 const WORD_MOST: usize = 4096;
 
 // A word of the command line, put at the start of a room: no bytes where there is no such word, or no room for it.
-fn word_of<'a>(rt: &HostRuntime, number: usize, room: &'a mut [u8]) -> &'a [u8] {
+fn word_of<'a>(rt: &HostRuntime, number: usize, room: &'a mut [u8]) -> &'a [u8]
+    ensures { length result.now ≤ length room.old }
+{
     match rt.arg(number, &mut *room) {
         Ok(n) => &room[..n],
         Err(_) => b"",

@@ -1,4 +1,6 @@
 // What the program prints: lines that were written into a text, and sentences on standard error.
+ghost use Rattle.std.specs.Prelude.{◌≡◌, take};
+
 use std::io;
 
 // The exit statuses: all is well; a ROM was refused; something could not be read, or was asked wrongly; the worst is a spent budget; and
@@ -13,7 +15,9 @@ pub enum Status {
 }
 
 // What of a text lies before a place.
-pub fn up_to(text: &[u8], end: usize) -> &[u8] {
+pub fn up_to(text: &[u8], end: usize) -> &[u8]
+    ensures { result.now ≡ take end text.now }
+{
     text.get(..end).unwrap_or(text)
 }
 

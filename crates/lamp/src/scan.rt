@@ -1,5 +1,7 @@
 // Many dumps, a line for each, and how many of each kind there were. They come in a file of their own, so that any number of them goes: of
 // each dump its name, and the path of a link to it where the name is no text, both with a null behind them.
+ghost use Rattle.std.specs.Prelude.{◌≤◌, length};
+
 use crate::dump::{SPACE, path_of, read_dump};
 use crate::judge::{Ended, ended_run, refusal_of};
 use crate::print::{Status, fail, print, say_aside, up_to};
@@ -191,7 +193,9 @@ impl Progress<'_> {
 const READS: u64 = 0xFFFF_FFFF_FFFF;
 
 // The bytes that come next; none where there are no more, or where they cannot be read.
-fn next_bytes<'a>(names: &mut File, bytes: &'a mut [u8]) -> &'a [u8] {
+fn next_bytes<'a>(names: &mut File, bytes: &'a mut [u8]) -> &'a [u8]
+    ensures { length result.now ≤ length bytes.old }
+{
     match names.read(&mut *bytes) {
         Ok(n) => &bytes[..n],
         Err(_) => b"",
