@@ -35,6 +35,8 @@ PROVED = re.compile(r"^(?:pub )?([^\s:({]+)(?: \{[^}]*\})? :", re.M)
 # pub use FILE::NAME; or pub use FILE::{NAME, NAME};
 EXPORTED = re.compile(r"^pub use (\w+)::(?:\{([^}]*)\}|(\w+));", re.M)
 FUNCTION = re.compile(r'^pub (?:extern "C" )?fn (\w+)(.*?)^\{', re.M | re.S)
+# in an impl
+METHOD = re.compile(r"^    pub fn (\w+)(.*?)^    \{", re.M | re.S)
 CONTENTS = {"Lib", "Laws", "Joints"}
 # in proofs/, what answers the goals of a function: no lemmas
 ANSWERS = {"Answers", "Invariants", "Lib"}
@@ -76,6 +78,10 @@ def public(crate):
         text = path.read_text()
         for name, contract in FUNCTION.findall(text):
             if path.stem in opened or (path.stem, name) in named:
+                yield name, contract, text
+        # those of a type that is named
+        if path.stem in opened or any(file == path.stem and name[:1].isupper() for file, name in named):
+            for name, contract in METHOD.findall(text):
                 yield name, contract, text
 
 

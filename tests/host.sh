@@ -17,6 +17,14 @@ mkdir -p target
 tools/archive host >target/host.log 2>&1 || { tail -n 5 target/host.log >&2; echo 'tests/host.sh: crate host_c is not proved' >&2; exit 1; }
 "$compiler" -std=c99 -O2 -Wall -Wextra -Werror -Iinclude -static -o target/host tests/host.c target/staticlib/libhost.a
 
+# fcode.h says what a C program has to bring: memcpy and memset, and nothing else
+for name in $(nm -u target/staticlib/libhost.a | sed -n 's/^ *U //p' | sort -u); do
+    case $name in
+        memcpy | memset) ;;
+        *) echo "tests/host.sh: the library calls $name" >&2; exit 1 ;;
+    esac
+done
+
 python3 tests/listings.py >target/listings.txt
 
 # a static program needs no loader, so that the emulator runs it as it is
