@@ -18,7 +18,8 @@ tools/archive host >target/host.log 2>&1 || { tail -n 5 target/host.log >&2; ech
 "$compiler" -std=c99 -O2 -Wall -Wextra -Werror -Iinclude -static -o target/host tests/host.c target/staticlib/libhost.a
 
 # fcode.h says what a C program has to bring: memcpy and memset, and nothing else
-for name in $(nm -u target/staticlib/libhost.a | sed -n 's/^ *U //p' | sort -u); do
+needed=$("${compiler%gcc}nm" -u target/staticlib/libhost.a)
+for name in $(printf '%s\n' "$needed" | sed -n 's/^ *[Uwv] //p' | sort -u); do
     case $name in
         memcpy | memset) ;;
         *) echo "tests/host.sh: the library calls $name" >&2; exit 1 ;;
