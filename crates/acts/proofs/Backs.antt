@@ -1,5 +1,6 @@
 -- From what a call in place hands back to what is said of the whole state. Assumes nothing.
 use Rattle.std.proofs.Common.{◌≡◌, ℕ, ◌≤◌, Bool, true, false, eqb, List, [], sym, refl, ap, ◌∙◌, arith, ne_eqb}
+use Rattle.rom.specs.declared.refusal.Refusal.{Refusal}
 use Rattle.tokens.specs.Family.{leave}
 use Rattle.tokens.specs.Decode.{token_of}
 use Rattle.state.specs.State.{base_of, moved, moved_to}
@@ -10,8 +11,8 @@ use Rattle.state.specs.Joints.Apart.{Arrays, arrays, joined, back_on, taken_on, 
 use Rattle.state.specs.Laws.Done.{carried, stopped}
 use Rattle.state.specs.declared.state.State.{State}
 use Rattle.state.specs.declared.apart.Core.{Core}
-use Rattle.state.specs.declared.apart.Told.{Told}
-use Rattle.state.specs.declared.apart.Handed.{Handed}
+use Rattle.state.specs.declared.apart.ToldBy.{ToldBy}
+use Rattle.state.specs.declared.apart.HandedBy.{HandedBy}
 use Rattle.state.specs.declared.apart.Taken.{Taken}
 use Rattle.state.specs.Answer.{Stepped, Going}
 use Rattle.acts.specs.Joints.Acts.{Quiet}
@@ -27,8 +28,9 @@ no_arrays = arrays [] [] [] [] [] [] [] [] [] [] [] [] []
 pub via : (a b : Stepped) (work store : List ℕ) (t : Turn) → a ≡ b → handed_back b work store ≡ t → handed_back a work store ≡ t
 via a b work store t e f = ap (λ (x : Stepped). handed_back x work store) e ∙ f
 
-pub back : (a : Arrays) (r : Handed) (t : Told) (k : Core) → r ≡ handed t k → back_on a r ≡ stepped (answer_of t) (joined a k)
-back a r t k e = ap (λ (h : Handed). back_on a h) e
+pub back : (a : Arrays) (r : HandedBy Refusal) (t : ToldBy Refusal) (k : Core) → r ≡ handed t k
+    → back_on a r ≡ stepped (answer_of t) (joined a k)
+back a r t k e = ap (λ (h : HandedBy Refusal). back_on a h) e
 
 -- so many cells gone, and on to the next token
 pub lowered_on : (s x : State) (k next : ℕ) (work store : List ℕ) (t : Turn) → x ≡ popped_by s k

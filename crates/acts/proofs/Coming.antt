@@ -12,6 +12,7 @@ use Rattle.tokens.specs.Joints.Glance.{seen_as, nothing_seen, glance_of}
 use Rattle.tokens.specs.Laws.GlanceForms.{seen_one, seen_cut, seen_program}
 use Rattle.tokens.specs.declared.decoding.Operand.TheVariants.{Nothing}
 use Rattle.tokens.specs.declared.glance.Glance.{Glance}
+use Rattle.rom.specs.declared.refusal.Refusal.{Refusal}
 use Rattle.tree.specs.declared.in_place.Tail.{Tail}
 use Rattle.tree.specs.Joints.Apart.{Tallied}
 use Rattle.state.specs.Scene.{scene, turn}
@@ -19,7 +20,7 @@ use Rattle.state.specs.Step.{done_of}
 use Rattle.state.specs.Step.{token_turn as turn_of}
 use Rattle.state.specs.Joints.Apart.{Arrays, joined, answer_of}
 use Rattle.state.specs.declared.apart.Core.{Core}
-use Rattle.state.specs.declared.apart.Handed.{Handed}
+use Rattle.state.specs.declared.apart.HandedBy.{HandedBy}
 use Rattle.acts.specs.Joints.Acts.{code_for, acted_of, Tables, GlanceSeen, Comes, ActsKept}
 use Rattle.acts.proofs.Acting.{cold, plain_turn, count_still, records_still}
 use Rattle.acts.proofs.Backs.{no_arrays}
@@ -29,7 +30,7 @@ abbrev pub Lean : ℕ → Type 0
 Lean f = T (cold f) × T (not (eqb f define)) × T (not (eqb f property)) × T (not (eqb f titled)) × (form_in (code_for f) ≡ none)
 
 module _ (rom : List ℕ) (k : Core) (g : Glance) (s : GlanceSeen rom k g) (f : ℕ) (i : family_in g.code ≡ f) (on then : Arrays → Arrays)
-    (work work' : List ℕ) (r : Handed) where
+    (work work' : List ℕ) (r : HandedBy Refusal) where
   -- by the turn that it is, whatever its operand
   pub quiet_comes : T (not (eqb f define)) → T (not (eqb f property)) → T (not (eqb f titled))
       → ((a : Arrays) (store : List ℕ)

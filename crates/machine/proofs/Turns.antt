@@ -22,9 +22,10 @@ use Rattle.state.specs.Joints.Apart.{Arrays, arrays_of, core_of, joined}
 use Rattle.state.specs.declared.apart.Core.{Core}
 use Rattle.state.specs.declared.state.State.{State}
 use Rattle.rom.specs.Refusal.{refusal_number}
+use Rattle.rom.specs.declared.refusal.Refusal.{Refusal}
 use Rattle.state.specs.Answer.{Answer, Going, Finished, Refused, Spent, Ran, answer_in}
-use Rattle.state.specs.declared.answer.Answer.{Answer as Said}
-use Rattle.state.specs.declared.answer.Answer.TheVariants.{Going as OnIt, Finished as Over, Refused as Stopped, Spent as Used}
+use Rattle.state.specs.declared.answer.AnswerBy.{AnswerBy as SaidBy}
+use Rattle.state.specs.declared.answer.AnswerBy.TheVariants.{Going as OnIt, Finished as Over, Refused as Stopped, Spent as Used}
 use Rattle.acts.specs.Joints.Acts.{Fit, every_on}
 use Rattle.state.specs.Joints.Hot.{Cold as IsCold}
 use Rattle.reckon.specs.Joints.Fast.{packed_fast, Goes, HoldsFast, Fares, Fast}
@@ -228,7 +229,7 @@ pub not_spent : (n : ℕ) → Spent n ≡ Going → ⊥
 not_spent n e = let z : ◌≡◌ {A = ℕ} 0 1 = cc in omega arith
 
 -- what the code says goes on where it does
-pub still_going : (a : Said) → answer_in a ≡ Going → a ≡ OnIt
+pub still_going : (a : SaidBy Refusal) → answer_in a ≡ Going → a ≡ OnIt
 still_going OnIt e = refl
 still_going Over e = absurd (not_finished e)
 still_going (Stopped why) e = absurd (not_going (refusal_number why) e)

@@ -3,9 +3,10 @@
 use Rattle.std.specs.Prelude.{[], ◌∷◌}
 use Rattle.cells.specs.Numbered.{Numbered, gives, refuses}
 use Rattle.rom.specs.Refusal.{refusal_number}
+use Rattle.rom.specs.declared.refusal.Refusal.{Refusal}
 use Rattle.state.specs.Answer.{Answer, Going, Finished, Refused, Spent}
-use Rattle.state.specs.declared.apart.Told.{Told}
-use Rattle.state.specs.declared.apart.Told.TheVariants.{On, Over, Not}
+use Rattle.state.specs.declared.apart.ToldBy.{ToldBy}
+use Rattle.state.specs.declared.apart.ToldBy.TheVariants.{On, Over, Not}
 
 abbrev pub answer_says : Answer → Numbered
 answer_says Going = gives []
@@ -14,7 +15,7 @@ answer_says (Refused why) = refuses why
 answer_says (Spent count) = record { number = 28; values = count ∷ [] }
 
 -- the same of a token alone, which has no budget
-abbrev pub told_says : Told → Numbered
+abbrev pub told_says : ToldBy Refusal → Numbered
 told_says On = gives []
 told_says Over = gives []
 told_says (Not why) = refuses (refusal_number why)

@@ -2,8 +2,9 @@
 // takes the numbers and hands them back with an answer; what it does not change it is not lent.
 ghost use Rattle.std.specs.Prelude.{◌≡◌};
 ghost use Rattle.state.specs.Joints.Apart.{core_of, handed};
-ghost use Rattle.state.specs.declared.apart.Told.TheVariants.{On, Not};
+ghost use Rattle.state.specs.declared.apart.ToldBy.TheVariants.{On, Not};
 
+use crate::answer::Why;
 use crate::state::State;
 use rom::Refusal;
 
@@ -27,17 +28,22 @@ pub struct Core {
 
 // How a token ended: carried out, the program's last one, or refused and why. A budget is the run's, so there is no case for it.
 #[derive(Clone, Copy)]
-pub enum Told {
+pub enum ToldBy<W> {
     On,
     Over,
-    Not(Refusal),
+    Not(W),
 }
 
 #[derive(Clone, Copy)]
-pub struct Handed {
-    pub told: Told,
+pub struct HandedBy<W> {
+    pub told: ToldBy<W>,
     pub core: Core,
 }
+
+// Every token says why by a refusal's name.
+pub type Told = ToldBy<Refusal>;
+
+pub type Handed = HandedBy<Refusal>;
 
 // A cell taken from the data stack, with the numbers then.
 #[derive(Clone, Copy)]
@@ -47,12 +53,12 @@ pub struct Taken {
     pub core: Core,
 }
 
-// The numbers as they are, with why a token is refused.
-pub fn stop(core: Core, why: Refusal) -> Handed
+// The numbers as they are, with why a token is refused: a refusal's name, or a number.
+pub fn stop<W: Why>(core: Core, why: W) -> HandedBy<W>
     ensures { result ≡ handed (Not why) core }
 {
-    Handed {
-        told: Told::Not(why),
+    HandedBy {
+        told: ToldBy::Not(why),
         core,
     }
 }

@@ -9,10 +9,12 @@ mod lookup;
 mod moves;
 mod opening;
 mod state;
+#[cfg(test)]
+mod tests;
 mod whole;
 
-pub use answer::{Answer, Ran, Stepped, number_of};
-pub use apart::{Core, Handed, Taken, Told, core_of, go, stop};
+pub use answer::{Answer, AnswerBy, Ran, Stepped, SteppedBy, Why, number_of};
+pub use apart::{Core, Handed, HandedBy, Taken, Told, ToldBy, core_of, go, stop};
 pub use entries::{entry, kind_byte, wide_at};
 pub use lookup::{find_node_in, find_property_in, node_rows_in, node_table_in, property_value_in};
 pub use moves::{base, call, going, leave, pop, push, refused};

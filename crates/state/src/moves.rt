@@ -2,24 +2,23 @@
 // lent the arrays that it changes or looks at. Each writes a copy of the numbers: by `..core` a run over memory took 1.35
 // times the instructions, and one of calls 1.25 times.
 ghost use Rattle.std.specs.Prelude.{◌≡◌};
-ghost use Rattle.state.specs.Joints.Moves.{push_of, call_of, leave_of, stepped};
+ghost use Rattle.state.specs.Joints.Moves.{push_of, call_of, leave_of, stepped, refused_on};
 ghost use Rattle.state.specs.Joints.Apart.{on_stack, on_calls, Moves, Looks, Takes, base_in};
-ghost use Rattle.state.specs.Answer.{Refused, Going, stepped_in};
-ghost use Rattle.rom.specs.Refusal.{refusal_number};
+ghost use Rattle.state.specs.Answer.{Going, stepped_in};
 
-use crate::answer::{Answer, Stepped};
+use crate::answer::{Answer, AnswerBy, Stepped, SteppedBy, Why};
 use crate::apart::{Core, Handed, Taken, Told, go, stop};
 use crate::entries::entry_or;
 use crate::state::State;
 use rom::Refusal;
 use rom::sizes::{DATA_MOST, FRAMES_MOST};
 
-// The state as it is, with why a step is refused.
-pub fn refused(st: State, why: Refusal) -> Stepped
-    ensures { stepped_in result ≡ stepped (Refused (refusal_number why)) st }
+// The state as it is, with why a step is refused: a refusal's name, or a number.
+pub fn refused<W: Why>(st: State, why: W) -> SteppedBy<W>
+    ensures { result ≡ refused_on st why }
 {
-    Stepped {
-        answer: Answer::Refused(why),
+    SteppedBy {
+        answer: AnswerBy::Refused(why),
         state: st,
     }
 }

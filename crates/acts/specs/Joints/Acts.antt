@@ -36,8 +36,8 @@ use Rattle.state.specs.declared.state.State.{State}
 use Rattle.state.specs.declared.state.Numbers.{Numbers}
 use Rattle.state.specs.Answer.{Stepped, Going, Refused}
 use Rattle.state.specs.declared.apart.Core.{Core}
-use Rattle.state.specs.declared.apart.Handed.{Handed}
-use Rattle.state.specs.declared.apart.Told.TheVariants.{On, Not}
+use Rattle.state.specs.declared.apart.HandedBy.{HandedBy}
+use Rattle.state.specs.declared.apart.ToldBy.TheVariants.{On, Not}
 use Rattle.acts.specs.declared.acted.Acted.{Acted}
 
 -- ---- the families whose tokens are done here, and their codes; a definition whose name is passed over has another besides
@@ -136,14 +136,13 @@ abbrev pub slot_in : List ℕ → ℕ → ℕ
 slot_in slots n = pick (is_program n) (slice_index slots (n - 0x800)) 0
 
 -- a program number, and b(to), on the arrays that they are lent
-abbrev pub Enters : ℕ → List ℕ → List ℕ → List Bool → List ℕ → List ℕ → List ℕ → List ℕ → List Bool → Core → ℕ → Handed → List ℕ → List ℕ
-    → List Bool
-    → List ℕ → Type 0
+abbrev pub Enters : ℕ → List ℕ → List ℕ → List Bool → List ℕ → List ℕ → List ℕ → List ℕ → List Bool → Core → ℕ → HandedBy Refusal
+    → List ℕ → List ℕ → List Bool → List ℕ → Type 0
 Enters number c p w b names kinds values ways k next r d q x e =
     Moves (on_program c p w b names kinds values ways) k r (on_program d q x e names kinds values ways)
     (λ s t. QuietBy number call s next t)
 
-abbrev pub Assigns : ℕ → List ℕ → List ℕ → List ℕ → List ℕ → Core → ℕ → Handed → List ℕ → Type 0
+abbrev pub Assigns : ℕ → List ℕ → List ℕ → List ℕ → List ℕ → Core → ℕ → HandedBy Refusal → List ℕ → Type 0
 Assigns number c names kinds values k next r then =
     (ways : List Bool) → Moves (λ a. on_numbers names kinds values ways (on_stack c a)) k r
     (λ a. on_numbers names kinds then ways (on_stack c a))
@@ -161,14 +160,14 @@ Definable slots known ns = Tables slots known ns.programs ns.kinds ns.count × (
     × (length ns.kinds ≡ numbers_most)
 
 -- and what it leaves, of the arrays and of the tables
-abbrev pub Adds : Numbers → Core → Handed → Numbers → List ℕ → List ℕ → (State → Stepped → Type 0) → Type 0
+abbrev pub Adds : Numbers → Core → HandedBy Refusal → Numbers → List ℕ → List ℕ → (State → Stepped → Type 0) → Type 0
 Adds ns k r then slots known P =
     Moves (on_numbers ns.programs ns.kinds ns.values ns.wides) k r
     (on_numbers then.programs then.kinds then.values then.wides) P
     × Tables slots known then.programs then.kinds then.count
 
 -- the same where the data stack is looked at
-abbrev pub AddsFrom : List ℕ → Numbers → Core → Handed → Numbers → List ℕ → List ℕ → (State → Stepped → Type 0) → Type 0
+abbrev pub AddsFrom : List ℕ → Numbers → Core → HandedBy Refusal → Numbers → List ℕ → List ℕ → (State → Stepped → Type 0) → Type 0
 AddsFrom cells ns k r then slots known P =
     Moves (λ a. on_numbers ns.programs ns.kinds ns.values ns.wides (on_stack cells a)) k r
     (λ a. on_numbers then.programs then.kinds then.values then.wides (on_stack cells a)) P
@@ -182,7 +181,7 @@ as_they_are a = a
 abbrev pub refused_of : Core → Tail → Refusal → Acted
 refused_of k tail why = record { told = Not why; core = k; tail = tail }
 
-abbrev pub acted_of : Handed → Tail → Acted
+abbrev pub acted_of : HandedBy Refusal → Tail → Acted
 acted_of r tail = record { told = r.told; core = r.core; tail = tail }
 
 abbrev pub filed_core : Core → ℕ → ℕ → ℕ → Core

@@ -3,6 +3,7 @@
 use Rattle.std.specs.Prelude.{ℕ, ◌-◌, ◌≡◌, refl, Bool, List, ltb, get_or}
 use Rattle.cells.specs.Choice.{pick}
 use Rattle.rom.specs.Refusal.{refusal_number}
+use Rattle.rom.specs.declared.refusal.Refusal.{Refusal}
 use Rattle.tree.specs.Tree.{tree_of}
 use Rattle.state.specs.Joints.Moves.{Popped, popped, stepped, pop_of}
 use Rattle.state.specs.State.{state_of, calls_on}
@@ -10,9 +11,9 @@ use Rattle.state.specs.Numbers.{numbers_on}
 use Rattle.state.specs.declared.state.State.{State}
 use Rattle.state.specs.Answer.{Answer, Going, Finished, Refused, Stepped}
 use Rattle.state.specs.declared.apart.Core.{Core}
-use Rattle.state.specs.declared.apart.Told.{Told}
-use Rattle.state.specs.declared.apart.Told.TheVariants.{On, Over, Not}
-use Rattle.state.specs.declared.apart.Handed.{Handed}
+use Rattle.state.specs.declared.apart.ToldBy.{ToldBy}
+use Rattle.state.specs.declared.apart.ToldBy.TheVariants.{On, Over, Not}
+use Rattle.state.specs.declared.apart.HandedBy.{HandedBy}
 use Rattle.state.specs.declared.apart.Taken.{Taken}
 
 -- ---- a state's arrays, and its numbers
@@ -113,16 +114,16 @@ on_records owners name_sizes value_sizes a =
     name_sizes value_sizes
 
 -- ---- what is handed back
-abbrev pub handed : Told → Core → Handed
+abbrev pub handed : {W : Type 0} → ToldBy W → Core → HandedBy W
 handed t k = record { told = t; core = k }
 
-abbrev pub answer_of : Told → Answer
+abbrev pub answer_of : ToldBy Refusal → Answer
 answer_of On = Going
 answer_of Over = Finished
 answer_of (Not why) = Refused (refusal_number why)
 
 -- and the same of the state that is put together
-abbrev pub back_on : Arrays → Handed → Stepped
+abbrev pub back_on : Arrays → HandedBy Refusal → Stepped
 back_on a r = stepped (answer_of r.told) (joined a r.core)
 
 abbrev pub taken_on : Arrays → Taken → Popped
@@ -130,11 +131,11 @@ taken_on a r = popped (answer_of r.told) r.cell (joined a r.core)
 
 -- ---- what a function in place promises: what it hands back is what is said of the whole state, before and then, whatever the arrays are
 -- that it is not lent
-abbrev pub Moves : (Arrays → Arrays) → Core → Handed → (Arrays → Arrays) → (State → Stepped → Type 0) → Type 0
+abbrev pub Moves : (Arrays → Arrays) → Core → HandedBy Refusal → (Arrays → Arrays) → (State → Stepped → Type 0) → Type 0
 Moves on k r then P = (a : Arrays) → P (joined (on a) k) (back_on (then a) r)
 
 -- one that changes no array
-abbrev pub Looks : (Arrays → Arrays) → Core → Handed → (State → Stepped → Type 0) → Type 0
+abbrev pub Looks : (Arrays → Arrays) → Core → HandedBy Refusal → (State → Stepped → Type 0) → Type 0
 Looks on k r P = Moves on k r on P
 
 abbrev pub Takes : (Arrays → Arrays) → Core → Taken → Type 0

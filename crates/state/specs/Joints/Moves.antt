@@ -1,15 +1,27 @@
 -- One cell pushed or popped, a body entered or left: the state handed back with an answer. Assumes nothing.
-use Rattle.std.specs.Prelude.{ℕ, ◌+◌, ◌-◌, Bool, List, set, ltb, eqb}
+use Rattle.std.specs.Prelude.{ℕ, ◌+◌, ◌-◌, ◌≡◌, refl, Bool, List, set, ltb, eqb}
 use Rattle.cells.specs.Choice.{pick}
+use Rattle.rom.specs.Refusal.{refusal_number}
 use Rattle.rom.specs.Sizes.{data_most, frames_most}
+use Rattle.rom.specs.declared.refusal.Refusal.{Refusal}
 use Rattle.state.specs.Stacks.{stacks, top_of}
 use Rattle.state.specs.State.{moved, base_of}
 use Rattle.state.specs.Effects.{entered_of, left_body_of}
 use Rattle.state.specs.declared.state.State.{State}
-use Rattle.state.specs.Answer.{Answer, Going, Refused, Stepped}
+use Rattle.state.specs.Answer.{Answer, Going, Refused, Stepped, stepped_in}
+use Rattle.state.specs.declared.answer.AnswerBy.TheVariants.{Refused as Stopped}
+use Rattle.state.specs.declared.answer.SteppedBy.{SteppedBy as StepSaidBy}
 
 abbrev pub stepped : Answer → State → Stepped
 stepped a st = record { answer = a; state = st }
+
+-- the state as it is, with why a step is refused, whatever says why
+abbrev pub refused_on : {W : Type 0} → State → W → StepSaidBy W
+refused_on st why = record { answer = Stopped why; state = st }
+
+-- with a refusal's name it is a step refused with its number
+pub refused_by_name : (st : State) (why : Refusal) → stepped_in (refused_on st why) ≡ stepped (Refused (refusal_number why)) st
+refused_by_name st why = refl
 
 -- a cell taken from the data stack, with the state then
 pub record Popped : Type 0 where
