@@ -10,6 +10,7 @@ is only proved, as are the lemmas of proofs/.
 It fails where
 - the `ensures` of a public function cites a module of Laws or of proofs/;
 - that of a call (JOINTS lists the public functions that are none) cites a module of Joints, or JOINTS lists what is no public function;
+- a ghost member of a trait, or an `ensures` of who has the trait, cites a module of Joints, Laws or proofs/;
 - a module that has to be believed names one of Laws, Joints or proofs/, or one of Joints names one of Laws or proofs/;
 - a theorem stands among what has to be believed;
 - two definitions of the house have one name;
@@ -37,6 +38,11 @@ EXPORTED = re.compile(r"^pub use (\w+)::(?:\{([^}]*)\}|(\w+));", re.M)
 FUNCTION = re.compile(r'^pub (?:extern "C" )?fn (\w+)(.*?)^\{', re.M | re.S)
 # in an impl
 METHOD = re.compile(r"^    pub fn (\w+)(.*?)^    \{", re.M | re.S)
+# a trait; who has it; in either, a function with its contract, and a ghost member with its type and what it is
+TRAIT = re.compile(r"^pub trait (\w+)(.*?)^\}", re.M | re.S)
+IMPL = re.compile(r"^impl(?:<[^\n]*>)? (\w+)(?:<[^\n]*>)? for ([^\n]*) \{$(.*?)^\}", re.M | re.S)
+ASKED = re.compile(r"^    fn (\w+)(.*?)(?:;$|\{$)", re.M | re.S)
+SAID = re.compile(r"^    ghost (\w+)(.*?);$", re.M | re.S)
 CONTENTS = {"Lib", "Laws", "Joints"}
 # in proofs/, what answers the goals of a function: no lemmas
 ANSWERS = {"Answers", "Invariants", "Lib"}
@@ -83,6 +89,24 @@ def public(crate):
         if path.stem in opened or any(file == path.stem and name[:1].isupper() for file, name in named):
             for name, contract in METHOD.findall(text):
                 yield name, contract, text
+        # and those of a trait
+        for trait, body in TRAIT.findall(text):
+            if path.stem in opened or (path.stem, trait) in named:
+                for name, contract in ASKED.findall(body):
+                    yield name, contract, text
+
+
+def said(crate):
+    """What promises go by in a trait and in who has it, ghost members and contracts: each with its place and the text of its file."""
+    for path in sorted((CRATES / crate / "src").glob("*.rt")):
+        text = path.read_text()
+        traits = [(f"trait {trait}", body, []) for trait, body in TRAIT.findall(text)]
+        impls = [(f"{trait} for {who}", body, ASKED.findall(body)) for trait, who, body in IMPL.findall(text)]
+        for place, body, functions in traits + impls:
+            for name, contract in functions:
+                yield f"{name} of {place}", contract, text
+            for name, told in SAID.findall(body):
+                yield f"{name} of {place}", f"ensures {told}", text
 
 
 def cited(contract, text):
@@ -109,6 +133,10 @@ def contracts(wrong):
             for where, module in sorted(set(cited(contract, text))):
                 if tier(module) == "Laws" or (tier(module) == "Joints" and not joint):
                     wrong.append(f"the promise of {name} in crate {crate} cites {module} of crate {where}")
+        for name, contract, text in said(crate):
+            for where, module in sorted(set(cited(contract, text))):
+                if tier(module) != "believed":
+                    wrong.append(f"{name} in crate {crate} cites {module} of crate {where}")
     wrong.extend(f"crate {crate} has no public function {name}, and JOINTS lists it" for crate, name in sorted(unseen))
     return count
 
